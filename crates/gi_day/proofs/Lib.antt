@@ -1,0 +1,2 @@
+mod DayLemmas
+pub mod DayLaws

@@ -1,0 +1,109 @@
+ghost use Rattle.std.specs.Prelude.{◌≡◌, Some, MatchOption};
+ghost use Rattle.gi_day.specs.Day.{IsDayText, IsNoDay};
+
+use jiff::civil::Date;
+use jiff::fmt::temporal::DateTimePrinter;
+use std::error::Error;
+use std::fmt;
+use std::marker::Model;
+
+/// Why a text is not a gas day.
+#[derive(Clone, Copy, Debug, PartialEq, Eq, Hash)]
+pub enum DayFault {
+    /// The text is not exactly `YYYY-MM-DD` of a date of the calendar.
+    DayText,
+    /// The date lies before 2000-01-01 or after 2199-12-31.
+    DayRange,
+}
+
+impl fmt::Display for DayFault {
+    fn fmt<W: fmt::Write>(&self, f: &mut fmt::Formatter<W>) -> fmt::Result {
+        f.write_str(match self {
+            DayFault::DayText => "DayText",
+            DayFault::DayRange => "DayRange",
+        })
+    }
+}
+
+impl Error for DayFault {}
+
+/// A gas day, named by the date on which it starts, from 2000-01-01 to 2199-12-31. Days are
+/// ordered as their dates, and printed as they are read.
+#[derive(Clone, Copy, Debug, PartialEq, Eq, PartialOrd, Ord, Hash)]
+pub struct GasDay {
+    date: Date,
+}
+
+impl Model for GasDay {
+    ghost use Rattle.jiff_core.specs.declared.civil.date.Date.{Date};
+    ghost use Rattle.gi_day.specs.Day.{IsGasYear};
+
+    ghost Value = { Date };
+
+    ghost view = { λ d. d.date };
+
+    ghost invariant = { λ d. IsGasYear d.date.year };
+
+    ghost inverse = { λ d. record { date = d } };
+}
+
+/// The date of the calendar whose text `YYYY-MM-DD` this is.
+fn date_of(text: &str) -> Option<Date>
+    ensures { MatchOption result (IsNoDay text.now) (λ date. IsDayText date text.now) }
+{
+    let Ok(date) = text.parse::<Date>() else {
+        return None;
+    };
+    if date.year() < 0 {
+        return None;
+    }
+    // The parser also takes other forms of a date, and a date with a time.
+    let written = DateTimePrinter::new().date_text(date.to_plain());
+    if written.as_str() != text {
+        return None;
+    }
+    Some(date)
+}
+
+impl GasDay {
+    ghost use Rattle.jiff_core.specs.declared.civil.date.Date.{Date};
+    ghost use Rattle.gi_day.specs.Day.{IsGasYear, day_text};
+    ghost use Rattle.gi_day.specs.Read.{IsDayRead};
+
+    /// The day that a text `YYYY-MM-DD` names: `DayText` where it is no such text of a date of the
+    /// calendar, else `DayRange` where the date is no gas day.
+    pub fn read(text: &str) -> Result<GasDay, DayFault>
+        ensures exact { IsDayRead text.now result }
+        // What a day prints reads as that day.
+        ensures again { (day : Date) → IsGasYear day.year → text.now ≡ day_text day → result ≡ Ok day }
+    {
+        let Some(date) = date_of(text) else {
+            return Err(DayFault::DayText);
+        };
+        if date.year() < 2000 {
+            return Err(DayFault::DayRange);
+        }
+        if date.year() > 2199 {
+            return Err(DayFault::DayRange);
+        }
+        Ok(GasDay { date })
+    }
+
+    /// Every gas day lies in the years 2000 to 2199.
+    pub fn in_range(self)
+        ensures { IsGasYear self.year }
+    {
+        let _ = &self.date;
+    }
+}
+
+impl fmt::Display for GasDay {
+    ghost use Rattle.gi_day.specs.Day.{day_text};
+
+    ghost output = { λ d. Some (day_text d) };
+
+    fn fmt<W: fmt::Write>(&self, f: &mut fmt::Formatter<W>) -> fmt::Result {
+        let date = self.date;
+        write!(f, "{date}")
+    }
+}
