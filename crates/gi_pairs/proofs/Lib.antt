@@ -1,0 +1,6 @@
+pub mod Building
+pub mod CodeLaws
+pub mod KeyOrder
+pub mod Reading
+pub mod Refusals
+pub mod TableLaws

@@ -1,0 +1,86 @@
+-- Tables: what they hold, how they read, and which rows make one.
+use Rattle.std.specs.Prelude.{◌≡◌, ℕ, ◌+◌, ◌-◌, ◌≤◌, ◌==◌, List, [], ◌∷◌, length, map, find, slice_index, Bool, false, not, ◌&&◌, ◌||◌, nat_lt, nat_le, if◌then◌else◌, Option, Some, None, Result, Ok, Err, All}
+use Rattle.std.specs.List.{list_all, list_any}
+use Rattle.std.specs.List.Sorted.{IsStrictlySortedBy}
+use Rattle.std.specs.Ordering.{is_eq, is_lt}
+use Rattle.gi_pairs.specs.Key.{key_cmp}
+use Rattle.gi_pairs.specs.Row.{key_of, IsRow}
+use Rattle.gi_pairs.specs.declared.direction.Direction.{Direction}
+use Rattle.gi_pairs.specs.declared.pair.Key.{Key}
+use Rattle.gi_pairs.specs.declared.pair.Pair.{Pair}
+use Rattle.gi_pairs.specs.declared.row.Row.{Row}
+use Rattle.gi_pairs.specs.declared.table.TheConstants.{LAST_HOUR, MOST_ROWS}
+use Rattle.gi_pairs.specs.declared.table.TableFault.{TableFault}
+use Rattle.gi_pairs.specs.declared.table.TableFault.TheVariants.{HourRange, TooManyRows, UnequalHours, Duplicate}
+
+-- the hours from first to last, and rows in table order
+pub record TableContents : Type 0 where
+  pub first : ℕ
+  pub last : ℕ
+  pub rows : List Row
+
+-- how many hours there are from first to last
+abbrev pub covered : ℕ → ℕ → ℕ
+covered first last = last + 1 - first
+
+abbrev pub keys_of : List Row → List Key
+keys_of = map key_of
+
+-- hours are numbered from 1, and a gas day has at most 25
+abbrev pub is_hour_range : ℕ → ℕ → Bool
+is_hour_range first last = nat_le 1 first && nat_le first last && nat_le last LAST_HOUR
+
+-- what holds of every table
+pub record IsTable (t : TableContents) : Type 0 where
+  pub begins : 1 ≤ t.first
+  pub ordered : t.first ≤ t.last
+  pub ends : t.last ≤ LAST_HOUR
+  pub few : length t.rows ≤ MOST_ROWS
+  pub all : All IsRow t.rows
+  pub whole : All (λ row. length row.hours ≡ covered t.first t.last) t.rows
+  pub sorted : IsStrictlySortedBy key_cmp (keys_of t.rows)
+
+-- whether a row is for the key
+abbrev pub is_at : Key → Row → Bool
+is_at key row = is_eq (key_cmp (key_of row) key)
+
+-- what a row, if there is one, has for an hour, where the hour is covered, and 0 elsewhere
+abbrev pub quantity_of : TableContents → ℕ → Option Row → ℕ
+quantity_of t hour None = 0
+quantity_of t hour (Some row) = if nat_le t.first hour && nat_le hour t.last then slice_index row.hours (hour - t.first) else 0
+
+-- The reading of a table: the quantity of the row of the pair and direction, where that covers the hour, and 0 elsewhere.
+unfoldable pub reading : TableContents → Pair → Direction → ℕ → ℕ
+reading t pair direction hour = quantity_of t hour (find (is_at (record { pair = pair; direction = direction })) t.rows)
+
+-- whether a key stands twice
+abbrev pub repeats : List Key → Bool
+repeats [] = false
+repeats (k ∷ ks) = list_any (λ other. is_eq (key_cmp k other)) ks || repeats ks
+
+-- the first fault of rows that are to cover the hours from first to last
+unfoldable pub refusal : ℕ → ℕ → List Row → Option TableFault
+refusal first last rows =
+    if not (is_hour_range first last) then Some HourRange
+    else (if nat_lt MOST_ROWS (length rows) then Some TooManyRows
+    else (if not (list_all (λ row. length row.hours == covered first last) rows) then Some UnequalHours
+    else (if repeats (keys_of rows) then Some Duplicate else None)))
+
+-- rows with one more, before the first of a greater key
+abbrev pub with_row : Row → List Row → List Row
+with_row row [] = row ∷ []
+with_row row (x ∷ xs) = if is_lt (key_cmp (key_of row) (key_of x)) then row ∷ x ∷ xs else x ∷ with_row row xs
+
+-- the rows in table order
+abbrev pub in_order : List Row → List Row
+in_order [] = []
+in_order (row ∷ rows) = with_row row (in_order rows)
+
+-- the value, unless there is a fault
+abbrev pub ok_unless : {T E : Type 0} → Option E → T → Result T E
+ok_unless None x = Ok x
+ok_unless (Some e) x = Err e
+
+-- the table that rows make, or their first fault
+unfoldable pub built : ℕ → ℕ → List Row → Result TableContents TableFault
+built first last rows = ok_unless (refusal first last rows) (record { first = first; last = last; rows = in_order rows })

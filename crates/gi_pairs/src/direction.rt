@@ -1,0 +1,102 @@
+ghost use Rattle.std.specs.Prelude.{Some};
+ghost use Rattle.std.proofs.Common.{rules};
+ghost use Rattle.std.specs.Cmp.{partial_order_from_own_ties};
+ghost use Rattle.std.specs.Cmp.Rules.{comparing};
+ghost use Rattle.std.specs.Ordering.{nat_cmp, on, as_partial_cmp};
+
+use std::cmp::Ordering;
+use std::fmt;
+
+/// One of the two operators at the interconnection point.
+#[derive(Clone, Copy, Debug, PartialEq, Eq, Hash)]
+pub enum Side {
+    /// The initiating operator.
+    I,
+    /// The matching operator.
+    M,
+}
+
+impl fmt::Display for Side {
+    ghost use Rattle.gi_pairs.specs.Direction.{side_text};
+
+    ghost output = { λ side. Some (side_text side) };
+
+    fn fmt<W: fmt::Write>(&self, f: &mut fmt::Formatter<W>) -> fmt::Result {
+        f.write_str(match self {
+            Side::I => "I",
+            Side::M => "M",
+        })
+    }
+}
+
+/// The way that gas goes; `IM` comes before `MI`.
+#[derive(Clone, Copy, Debug, PartialEq, Eq, Hash)]
+pub enum Direction {
+    /// Out of the initiating operator's system, into the matching one's.
+    IM,
+    /// Out of the matching operator's system, into the initiating one's.
+    MI,
+}
+
+impl Direction {
+    ghost use Rattle.std.specs.Prelude.{◌≡◌};
+    ghost use Rattle.gi_pairs.specs.Direction.{place_of, direction_text};
+
+    /// 0 for `IM`, 1 for `MI`.
+    fn place(self) -> u8
+        ensures { result ≡ place_of self }
+    {
+        match self {
+            Direction::IM => 0,
+            Direction::MI => 1,
+        }
+    }
+
+    /// `IM` or `MI`.
+    pub fn as_str(self) -> &'static str
+        ensures { result.now ≡ direction_text self }
+    {
+        match self {
+            Direction::IM => "IM",
+            Direction::MI => "MI",
+        }
+    }
+}
+
+impl fmt::Display for Direction {
+    ghost use Rattle.gi_pairs.specs.Direction.{direction_text};
+
+    ghost output = { λ direction. Some (direction_text direction) };
+
+    fn fmt<W: fmt::Write>(&self, f: &mut fmt::Formatter<W>) -> fmt::Result {
+        f.write_str(self.as_str())
+    }
+}
+
+impl PartialOrd for Direction {
+    ghost use Rattle.gi_pairs.specs.Direction.{place_of};
+
+    ghost partial_cmp = { as_partial_cmp (on place_of nat_cmp) };
+
+    ghost laws = { partial_order_from_own_ties (Prim.search (comparing, rules)) (Prim.search (comparing, rules)) };
+
+    fn partial_cmp(&self, other: &Direction) -> Option<Ordering> {
+        Some(self.cmp(other))
+    }
+}
+
+impl Ord for Direction {
+    ghost use Rattle.gi_pairs.specs.Direction.{place_of};
+
+    ghost cmp = { on place_of nat_cmp };
+
+    ghost total = { Prim.search (comparing, rules) };
+
+    ghost matches_partial_cmp = { Prim.search (comparing, rules) };
+
+    ghost matches_eq = { Prim.search (comparing, rules) };
+
+    fn cmp(&self, other: &Direction) -> Ordering {
+        self.place().cmp(&other.place())
+    }
+}

@@ -1,0 +1,61 @@
+ghost use Rattle.std.specs.Prelude.{◌≡◌, IfOk};
+
+use crate::quantity::Quantity;
+use std::alloc::AllocError;
+use std::marker::Model;
+
+/// The quantities of consecutive hours, in order, each in kWh/h.
+#[derive(Debug, Drop)]
+pub struct Hours {
+    quantities: Vec<Quantity>,
+}
+
+impl Model for Hours {
+    ghost use Rattle.std.specs.Prelude.{List, ℕ, All};
+    ghost use Rattle.gi_pairs.specs.Quantity.{IsQuantity};
+
+    ghost Value = { List ℕ };
+
+    ghost view = { λ h. h.quantities.items };
+
+    ghost invariant = { λ h. All IsQuantity h.quantities.items };
+}
+
+impl From<Vec<Quantity>> for Hours {
+    ghost from_gives = { λ quantities hours. hours ≡ quantities.items };
+
+    fn from(quantities: Vec<Quantity>) -> Hours {
+        for quantity in &quantities {
+            let _ = quantity.value();
+        }
+        Hours { quantities }
+    }
+}
+
+impl Hours {
+    ghost use Rattle.std.specs.Prelude.{All};
+    ghost use Rattle.gi_pairs.specs.Quantity.{IsQuantity};
+
+    /// The quantities, in order.
+    pub fn as_slice(&self) -> &[Quantity]
+        ensures value { result.now ≡ self.now }
+        ensures in_range { All IsQuantity self.now }
+    {
+        &self.quantities
+    }
+
+    /// The quantities, in order, with the memory that they were given in.
+    pub fn into_vec(self) -> Vec<Quantity>
+        ensures { result.items ≡ self }
+    {
+        self.quantities
+    }
+
+    /// An equal value.
+    pub fn copy(&self) -> Result<Hours, AllocError>
+        ensures { IfOk result (λ hours. hours ≡ self.now) }
+    {
+        let alloc = *self.quantities.allocator();
+        Ok(Hours::from(Vec::from_slice(alloc, &self.quantities)?))
+    }
+}
