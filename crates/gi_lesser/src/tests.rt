@@ -1,0 +1,60 @@
+use super::*;
+use gi_pairs::{Code, Direction, Hours, Pair, Quantity, Row, Table};
+use std::alloc::Global;
+use std::test::Fail;
+
+/// A table of hours 23 and 24 with one row: of A and the portfolio, in the direction.
+fn table(
+    alloc: Global,
+    matching: &str,
+    direction: Direction,
+    quantities: [u64; 2],
+) -> Result<Table, Fail> {
+    let mut hours = Vec::new(alloc);
+    for quantity in quantities {
+        hours.push(Quantity::new(quantity)?)?;
+    }
+    let row = Row {
+        pair: pair(matching)?,
+        direction,
+        hours: Hours::from(hours),
+    };
+    Ok(Table::build(23, 24, vec![in alloc; row]?)?)
+}
+
+fn pair(matching: &str) -> Result<Pair, Fail> {
+    Ok(Pair {
+        initiating: Code::read("A")?,
+        matching: Code::read(matching)?,
+    })
+}
+
+#[test]
+fn takes_the_lower_of_both(rt: HostRuntime) -> Result<(), Fail> {
+    let alloc = rt.alloc();
+    let own = table(alloc, "B", Direction::IM, [10, 20])?;
+    let peer = table(alloc, "B", Direction::IM, [12, 15])?;
+    let both = lesser(alloc, &own, &peer)?;
+    assert_eq!(rt; both.rows().len(), 1);
+    assert_eq!(rt; both.at(pair("B")?, Direction::IM, 23), 10);
+    assert_eq!(rt; both.at(pair("B")?, Direction::IM, 24), 15);
+    Ok(())
+}
+
+#[test]
+fn keeps_the_rows_of_each_side(rt: HostRuntime) -> Result<(), Fail> {
+    let alloc = rt.alloc();
+    let own = table(alloc, "C", Direction::IM, [5, 5])?;
+    let peer = table(alloc, "B", Direction::MI, [7, 7])?;
+    let both = lesser(alloc, &own, &peer)?;
+    let mut keys = both.rows().iter().map(|row| (row.pair, row.direction));
+    assert!(rt; keys.next() == Some((pair("B")?, Direction::MI)));
+    assert!(rt; keys.next() == Some((pair("C")?, Direction::IM)));
+    assert!(rt; keys.next().is_none());
+    for row in both.rows() {
+        for quantity in row.hours.as_slice() {
+            assert_eq!(rt; quantity.value(), 0);
+        }
+    }
+    Ok(())
+}
