@@ -1,10 +1,11 @@
 -- Rows with distinct keys have one order.
-use Rattle.std.proofs.Common.{◌≡◌, zero, suc, List, [], ◌∷◌, true, false, Bool, ◌||◌, ◌⊎◌, inl, inr, refl, sym, ap, ◌∙◌, arith, subst, if◌then◌else◌, Contains}
+use Rattle.std.proofs.Common.{◌≡◌, zero, suc, List, [], ◌∷◌, true, false, Bool, ◌⊎◌, inl, inr, refl, sym, ap, ◌∙◌, arith, subst, if◌then◌else◌, Contains}
 use Rattle.std.specs.declared.cmp.Ordering.{Ordering}
 use Rattle.std.specs.declared.cmp.Ordering.TheVariants.{Less, Equal, Greater}
 use Rattle.std.specs.List.{list_any, AllByRecursion, IsDistinct}
 use Rattle.std.specs.List.Sorted.{IsPermutation, IsStrictlySortedBy}
 use Rattle.std.specs.Ordering.{is_eq, is_lt, eq_by_cmp}
+use Rattle.std.proofs.lemmas.Bool.{or_parts}
 use Rattle.std.proofs.lemmas.List.Sorted.{Contains-permutation, IsPermutation-sym, IsPermutation-map}
 use Rattle.std.proofs.lemmas.Map.Keys.{sorted_head, sorted_tail, IsDistinct-IsPermutation, IsDistinct-from_sorted}
 use Rattle.gi_pairs.specs.Key.{key_cmp}
@@ -16,17 +17,9 @@ use Rattle.gi_pairs.proofs.KeyOrder.{key_total, key_flips, less_from_not, not_le
 
 -- ---- whether a key stands twice
 
-or_left : (a b : Bool) → (a || b) ≡ false → a ≡ false
-or_left true b e = e
-or_left false b e = refl
-
-or_right : (a b : Bool) → (a || b) ≡ false → b ≡ false
-or_right true b e = cc
-or_right false b e = e
-
 none_equal : (k : Key) (ks : List Key) → list_any (λ other. is_eq (key_cmp k other)) ks ≡ false → AllByRecursion (λ y. eq_by_cmp key_cmp k y ≡ false) ks
 none_equal k [] e = tt
-none_equal k (l ∷ ls) e = (or_left _ _ e, none_equal k ls (or_right _ _ e))
+none_equal k (l ∷ ls) e = ((or_parts _ _ e).0, none_equal k ls ((or_parts _ _ e).1))
 
 any_false : (k : Key) (ks : List Key) → AllByRecursion (λ y. eq_by_cmp key_cmp k y ≡ false) ks → list_any (λ other. is_eq (key_cmp k other)) ks ≡ false
 any_false k [] h = refl
@@ -35,7 +28,7 @@ any_false k (l ∷ ls) h = rw h.0 (any_false k ls h.1)
 pub distinct_from_repeats : (ks : List Key) → repeats ks ≡ false → IsDistinct (eq_by_cmp key_cmp) ks
 unfolding IsDistinct
 distinct_from_repeats [] e = tt
-distinct_from_repeats (k ∷ ks) e = (none_equal k ks (or_left _ _ e), distinct_from_repeats ks (or_right _ _ e))
+distinct_from_repeats (k ∷ ks) e = (none_equal k ks ((or_parts _ _ e).0), distinct_from_repeats ks ((or_parts _ _ e).1))
 
 pub repeats_from_distinct : (ks : List Key) → IsDistinct (eq_by_cmp key_cmp) ks → repeats ks ≡ false
 unfolding IsDistinct
@@ -193,16 +186,16 @@ sorted_with_row row (x ∷ xs) s apart =
 
 apart_in : (k : Key) (rows : List Row) → list_any (λ other. is_eq (key_cmp k other)) (keys_of rows) ≡ false → (r : Row) → In r rows → is_eq (key_cmp k (key_of r)) ≡ false
 apart_in k [] e r h = absurd h
-apart_in k (x ∷ xs) e r (inl is) = subst (λ (w : Row). is_eq (key_cmp k (key_of w)) ≡ false) is (or_left _ _ e)
-apart_in k (x ∷ xs) e r (inr h) = apart_in k xs (or_right _ _ e) r h
+apart_in k (x ∷ xs) e r (inl is) = subst (λ (w : Row). is_eq (key_cmp k (key_of w)) ≡ false) is ((or_parts _ _ e).0)
+apart_in k (x ∷ xs) e r (inr h) = apart_in k xs ((or_parts _ _ e).1) r h
 
 -- where no key stands twice, the rows in order ascend strictly
 pub in_order-sorted : (rows : List Row) → repeats (keys_of rows) ≡ false → IsStrictlySortedBy key_cmp (keys_of (in_order rows))
 unfolding IsStrictlySortedBy
 in_order-sorted [] e = tt
 in_order-sorted (row ∷ rows) e =
-    sorted_with_row row (in_order rows) (in_order-sorted rows (or_right _ _ e))
-    (λ r h. apart_in (key_of row) rows (or_left _ _ e) r (in_in_order r rows h))
+    sorted_with_row row (in_order rows) (in_order-sorted rows ((or_parts _ _ e).1))
+    (λ r h. apart_in (key_of row) rows ((or_parts _ _ e).0) r (in_in_order r rows h))
 
 -- rows in another order that ascends strictly are the rows in order
 pub in_order_is : (rows sorted : List Row) → IsPermutation rows sorted → IsStrictlySortedBy key_cmp (keys_of sorted) → sorted ≡ in_order rows

@@ -1,10 +1,11 @@
 -- The refusals of rows in their order, and the table that rows make.
-use Rattle.std.proofs.Common.{◌≡◌, ℕ, zero, suc, ◌+◌, ◌-◌, ◌<◌, ◌==◌, ◌&&◌, ◌||◌, List, [], ◌∷◌, length, get_or, nat_lt, true, false, Bool, Ok, Err, refl, sym, ap, ◌∙◌, arith, subst, All}
+use Rattle.std.proofs.Common.{◌≡◌, ℕ, zero, suc, ◌+◌, ◌-◌, ◌<◌, ◌==◌, ◌||◌, List, [], ◌∷◌, length, get_or, nat_lt, true, false, Bool, Ok, Err, refl, sym, ap, ◌∙◌, arith, subst, All}
 use Rattle.std.specs.declared.cmp.Ordering.TheVariants.{Less, Equal, Greater}
 use Rattle.std.specs.declared.cmp.Ordering.{Ordering}
 use Rattle.std.specs.List.{AllAdjacentBelow, list_all}
 use Rattle.std.specs.List.Sorted.{IsPermutation, IsStrictlySortedBy, IsSortedByKey}
 use Rattle.std.specs.Ordering.{is_eq, is_lt, ordering_index}
+use Rattle.std.proofs.lemmas.Bool.{and_parts}
 use Rattle.std.proofs.lemmas.Bool.Decides.{nat_tests, Decides-eqb}
 use Rattle.std.proofs.lemmas.List.Elements.{All-nil, All-cons}
 use Rattle.std.proofs.lemmas.List.{get_or_default, get_or-map, length-map}
@@ -107,20 +108,11 @@ strict_from_neighbours (x ∷ xs) sorted apart = sorted_from_all_adjacent key_to
         let moved : key_cmp (get_or (keys_of (x ∷ xs)) k (key_of x)) (get_or (keys_of (x ∷ xs)) (k + 1) (key_of x)) ≡ key_cmp a b = λ i. key_cmp (at i) (next i) in
         moved ∙ less_from_not b a (not_less b a (sorted k x (omega arith) here)) (key_flips b a ∙ apart k x here)
 
-and_left : (a b : Bool) → (a && b) ≡ true → a ≡ true
-and_left true b e = refl
-and_left false b e = e
-
-and_right : (a b : Bool) → (a && b) ≡ true → b ≡ true
-and_right true b e = e
-and_right false b e = cc
-
 each_whole : (n : ℕ) (rows : List Row) → list_all (λ (row : Row). length row.hours == n) rows ≡ true → All (λ (row : Row). length row.hours ≡ n) rows
 each_whole n [] e = All-nil (λ (row : Row). length row.hours ≡ n)
 each_whole n (x ∷ xs) e =
-    let here = and_left (length x.hours == n) (list_all (λ (row : Row). length row.hours == n) xs) e in
-    let rest = and_right (length x.hours == n) (list_all (λ (row : Row). length row.hours == n) xs) e in
-    All-cons (λ (row : Row). length row.hours ≡ n) x xs ((Decides-eqb (length x.hours) n).0 here) (each_whole n xs rest)
+    let both = and_parts (length x.hours == n) (list_all (λ (row : Row). length row.hours == n) xs) e in
+    All-cons (λ (row : Row). length row.hours ≡ n) x xs ((Decides-eqb (length x.hours) n).0 both.0) (each_whole n xs both.1)
 
 -- what is known of a table's rows
 pub is_table : (first last : ℕ) (rows sorted : List Row) → is_hour_range first last ≡ true → nat_lt MOST_ROWS (length rows) ≡ false

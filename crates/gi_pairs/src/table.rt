@@ -1,4 +1,4 @@
-ghost use Rattle.std.specs.Prelude.{◌≡◌, ◌==◌, IfOk, find, All, length};
+ghost use Rattle.std.specs.Prelude.{◌≡◌, ◌==◌, ◌≤◌, IfOk, find, All, length};
 ghost use Rattle.std.specs.Bool.{OnFalse, OnTrue};
 ghost use Rattle.std.specs.List.{list_all};
 ghost use Rattle.std.specs.List.Sorted.{IsPermutation, IsSortedByKey, IsStrictlySortedBy};
@@ -181,7 +181,8 @@ impl Table {
 
     /// The last hour that it covers, at most 25.
     pub fn last(&self) -> u8
-        ensures { result ≡ self.now.last }
+        ensures value { result ≡ self.now.last }
+        ensures in_range { result ≤ LAST_HOUR }
     {
         self.last
     }
