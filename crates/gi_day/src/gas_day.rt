@@ -1,5 +1,5 @@
-ghost use Rattle.std.specs.Prelude.{◌≡◌, Some, MatchOption};
-ghost use Rattle.gi_day.specs.Day.{IsDayText, IsNoDay};
+ghost use Rattle.std.specs.Prelude.{◌≡◌, ◌↔◌, IsTrue, Some, MatchOption};
+ghost use Rattle.gi_day.specs.Day.{IsDayText, IsGasYear, IsNoDay};
 
 use jiff::civil::Date;
 use jiff::fmt::temporal::DateTimePrinter;
@@ -8,7 +8,7 @@ use std::fmt;
 use std::marker::Model;
 
 /// Why a text is not a gas day.
-#[derive(Clone, Copy, Debug, PartialEq, Eq, Hash)]
+#[derive(Clone, Copy, Debug, PartialEq, Eq)]
 pub enum DayFault {
     /// The text is not exactly `YYYY-MM-DD` of a date of the calendar.
     DayText,
@@ -17,6 +17,10 @@ pub enum DayFault {
 }
 
 impl fmt::Display for DayFault {
+    ghost use Rattle.gi_day.specs.Read.{fault_text};
+
+    ghost output = { λ fault. Some (fault_text fault) };
+
     fn fmt<W: fmt::Write>(&self, f: &mut fmt::Formatter<W>) -> fmt::Result {
         f.write_str(match self {
             DayFault::DayText => "DayText",
@@ -29,7 +33,7 @@ impl Error for DayFault {}
 
 /// A gas day, named by the date on which it starts, from 2000-01-01 to 2199-12-31. Days are
 /// ordered as their dates, and printed as they are read.
-#[derive(Clone, Copy, Debug, PartialEq, Eq, PartialOrd, Ord, Hash)]
+#[derive(Clone, Copy, Debug, PartialEq, Eq, PartialOrd, Ord)]
 pub struct GasDay {
     date: Date,
 }
@@ -45,6 +49,13 @@ impl Model for GasDay {
     ghost invariant = { λ d. IsGasYear d.date.year };
 
     ghost inverse = { λ d. record { date = d } };
+}
+
+/// Whether gas days lie in the year.
+fn is_gas_year(year: i16) -> bool
+    ensures { IsTrue result ↔ IsGasYear year }
+{
+    2000 <= year && year <= 2199
 }
 
 /// The date of the calendar whose text `YYYY-MM-DD` this is.
@@ -80,20 +91,11 @@ impl GasDay {
         let Some(date) = date_of(text) else {
             return Err(DayFault::DayText);
         };
-        if date.year() < 2000 {
-            return Err(DayFault::DayRange);
+        if is_gas_year(date.year()) {
+            Ok(GasDay { date })
+        } else {
+            Err(DayFault::DayRange)
         }
-        if date.year() > 2199 {
-            return Err(DayFault::DayRange);
-        }
-        Ok(GasDay { date })
-    }
-
-    /// Every gas day lies in the years 2000 to 2199.
-    pub fn in_range(self)
-        ensures { IsGasYear self.year }
-    {
-        let _ = &self.date;
     }
 }
 

@@ -9,14 +9,14 @@ use Rattle.std.proofs.lemmas.List.Elements.{All-head, All-tail, All-cons, All-ni
 use Rattle.std.proofs.lemmas.List.FromFn.{length-map-range_with_len, get_or-map-range_with_len}
 use Rattle.std.proofs.lemmas.Map.Keys.{IsDistinct-from_sorted}
 use Rattle.gi_pairs.specs.Key.{IsKey, key_cmp}
-use Rattle.gi_pairs.specs.Quantity.{IsQuantity}
+use Rattle.gi_pairs.specs.Quantity.{IsQuantity, most_quantity}
 use Rattle.gi_pairs.specs.Row.{IsRow, key_of}
 use Rattle.gi_pairs.specs.Table.{TableContents, IsTable, built, covered, in_order, is_at, is_hour_range, keys_of, reading, repeats}
 use Rattle.gi_pairs.specs.declared.direction.Direction.{Direction}
-use Rattle.gi_pairs.specs.declared.pair.Key.{Key}
+use Rattle.gi_pairs.specs.declared.key.Key.{Key}
 use Rattle.gi_pairs.specs.declared.pair.Pair.{Pair}
 use Rattle.gi_pairs.specs.declared.row.Row.{Row}
-use Rattle.gi_pairs.specs.declared.table.TheConstants.{MOST_PROCESSED_ROWS, MOST_ROWS}
+use Rattle.gi_pairs.specs.Limits.{most_processed_rows, most_rows}
 use Rattle.gi_pairs.proofs.Building.{In, contains_from_in, in_from_contains, in_in_order, in_order-sorted, in_order_in, repeats_from_distinct}
 use Rattle.gi_pairs.proofs.KeyOrder.{key_same}
 use Rattle.gi_pairs.proofs.Reading.{find_all, reading-found, reading-missed, reading-outside}
@@ -111,7 +111,7 @@ reading-quantity t pair direction hour table = by_row (find (is_at (keyed pair d
     by_row (Some row) found false e = rw (reading-outside t pair direction hour e) (omega arith)
     by_row (Some row) found true e =
         let known = find_all IsRow (is_at (keyed pair direction)) t.rows row table.all found in
-        rw (reading-found t pair direction hour row found e) (slice_within 999_999_999_999 row.hours (hour - t.first) known.quantities)
+        rw (reading-found t pair direction hour row found e) (slice_within most_quantity row.hours (hour - t.first) known.quantities)
 
 all_map : (n : ℕ) (f : ℕ → ℕ) (hs : List ℕ) → ((h : ℕ) → f h ≤ n) → All (λ x. x ≤ n) (map f hs)
 all_map n f [] each = All-nil (λ x. x ≤ n)
@@ -121,7 +121,7 @@ row-known : (own peer : TableContents) (key : Key) → IsTable own → IsKey key
 unfolding lesser_row
 row-known own peer key table known = record {
   key = known;
-  quantities = all_map 999_999_999_999 (λ hour. min (reading own key.pair key.direction hour) (reading peer key.pair key.direction hour)) (range_with_len own.first (covered own.first own.last))
+  quantities = all_map most_quantity (λ hour. min (reading own key.pair key.direction hour) (reading peer key.pair key.direction hour)) (range_with_len own.first (covered own.first own.last))
       (λ hour. omega (arith, reading-quantity own key.pair key.direction hour table));
 }
 
@@ -150,14 +150,14 @@ filter_shorter p (k ∷ ks) = by_test (p k) (filter_shorter p ks)
     by_test true shorter = omega arith
     by_test false shorter = omega arith
 
-both-few : (own peer : TableContents) → length own.rows ≤ MOST_PROCESSED_ROWS → length peer.rows ≤ MOST_PROCESSED_ROWS → nat_lt MOST_ROWS (length (map (lesser_row own peer) (keys_of_both own peer))) ≡ false
+both-few : (own peer : TableContents) → length own.rows ≤ most_processed_rows → length peer.rows ≤ most_processed_rows → nat_lt most_rows (length (map (lesser_row own peer) (keys_of_both own peer))) ≡ false
 both-few own peer a b =
     let counted = length-map (keys_of_both own peer) (lesser_row own peer) in
     let both = length-append (keys_of own.rows) (filter (lacks own) (keys_of peer.rows)) in
     let of_own = length-map own.rows key_of in
     let of_peer = length-map peer.rows key_of in
     let kept = filter_shorter (lacks own) (keys_of peer.rows) in
-    let few : length (map (lesser_row own peer) (keys_of_both own peer)) ≤ MOST_ROWS = omega (arith, counted, both, of_own, of_peer, kept, a, b) in
+    let few : length (map (lesser_row own peer) (keys_of_both own peer)) ≤ most_rows = omega (arith, counted, both, of_own, of_peer, kept, a, b) in
     grind (arith, nat_tests, few)
 
 hours-fit : (t : TableContents) → IsTable t → is_hour_range t.first t.last ≡ true
@@ -168,8 +168,8 @@ pub record AreMatched (own peer : TableContents) : Type 0 where
   pub own_table : IsTable own
   pub peer_table : IsTable peer
   pub shape : HasShapeOf own peer
-  pub own_few : length own.rows ≤ MOST_PROCESSED_ROWS
-  pub peer_few : length peer.rows ≤ MOST_PROCESSED_ROWS
+  pub own_few : length own.rows ≤ most_processed_rows
+  pub peer_few : length peer.rows ≤ most_processed_rows
 
 -- the rows make the lesser
 pub built-lesser : (own peer : TableContents) → AreMatched own peer → built own.first own.last (map (lesser_row own peer) (keys_of_both own peer)) ≡ Ok (lesser_of own peer)

@@ -8,7 +8,7 @@ use Rattle.std.specs.Ordering.{is_eq}
 use Rattle.gi_pairs.specs.Key.{key_cmp}
 use Rattle.gi_pairs.specs.Row.{key_of}
 use Rattle.gi_pairs.specs.Table.{is_at, keys_of}
-use Rattle.gi_pairs.specs.declared.pair.Key.{Key}
+use Rattle.gi_pairs.specs.declared.key.Key.{Key}
 use Rattle.gi_pairs.specs.declared.row.Row.{Row}
 use Rattle.gi_pairs.proofs.Building.{In, contains_from_in}
 use Rattle.gi_pairs.proofs.KeyOrder.{key_refl, key_same}

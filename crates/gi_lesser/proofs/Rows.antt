@@ -7,7 +7,7 @@ use Rattle.std.proofs.lemmas.List.Elements.{filter-append}
 use Rattle.std.proofs.lemmas.List.FromFn.{map-range_with_len_more}
 use Rattle.gi_pairs.specs.Row.{key_of}
 use Rattle.gi_pairs.specs.Table.{TableContents, IsTable, covered, keys_of, reading}
-use Rattle.gi_pairs.specs.declared.pair.Key.{Key}
+use Rattle.gi_pairs.specs.declared.key.Key.{Key}
 use Rattle.gi_pairs.specs.declared.row.Row.{Row}
 use Rattle.gi_pairs.proofs.Building.{In, in_from_contains}
 use Rattle.gi_pairs.proofs.Reading.{reading-found}

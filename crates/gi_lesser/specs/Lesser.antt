@@ -3,7 +3,7 @@ use Rattle.std.specs.Prelude.{◌≡◌, ℕ, ◌-◌, List, ◌++◌, map, filt
 use Rattle.std.specs.List.{range_with_len}
 use Rattle.gi_pairs.specs.Table.{TableContents, IsTable, covered, in_order, is_at, keys_of, reading}
 use Rattle.gi_pairs.specs.declared.direction.Direction.{Direction}
-use Rattle.gi_pairs.specs.declared.pair.Key.{Key}
+use Rattle.gi_pairs.specs.declared.key.Key.{Key}
 use Rattle.gi_pairs.specs.declared.pair.Pair.{Pair}
 use Rattle.gi_pairs.specs.declared.row.Row.{Row}
 

@@ -2,7 +2,7 @@ ghost use Rattle.std.specs.Prelude.{◌≡◌, ◌-◌, ◌≤◌, [], ◌∷◌
 ghost use Rattle.gi_pairs.specs.Row.{key_of};
 ghost use Rattle.gi_pairs.specs.Table.{IsTable, covered, keys_of, reading};
 ghost use Rattle.gi_lesser.specs.Lesser.{HasShapeOf, IsLesser, has_row as has_row_of, lacks, lesser_of, lesser_row as lesser_row_of, row_below};
-ghost use Rattle.gi_pairs.specs.declared.table.TheConstants.{MOST_PROCESSED_ROWS};
+ghost use Rattle.gi_pairs.specs.Limits.{most_processed_rows};
 
 use gi_pairs::{Hours, Key, Quantity, Row, Table};
 use std::alloc::{AllocError, Global};
@@ -94,8 +94,8 @@ fn add_rows_of_peer(
 /// readings in every hour.
 pub fn lesser(alloc: Global, own: &Table, peer: &Table) -> Result<Table, AllocError>
     requires shape { HasShapeOf own.now peer.now }
-    requires own { length own.now.rows ≤ MOST_PROCESSED_ROWS }
-    requires peer { length peer.now.rows ≤ MOST_PROCESSED_ROWS }
+    requires own { length own.now.rows ≤ most_processed_rows }
+    requires peer { length peer.now.rows ≤ most_processed_rows }
     ensures value { IfOk result (λ table. table ≡ lesser_of own.now peer.now) }
     ensures law { IfOk result (IsLesser own.now peer.now) }
 {

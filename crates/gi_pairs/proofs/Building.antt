@@ -11,7 +11,7 @@ use Rattle.std.proofs.lemmas.Map.Keys.{sorted_head, sorted_tail, IsDistinct-IsPe
 use Rattle.gi_pairs.specs.Key.{key_cmp}
 use Rattle.gi_pairs.specs.Row.{key_of}
 use Rattle.gi_pairs.specs.Table.{keys_of, repeats, with_row, in_order}
-use Rattle.gi_pairs.specs.declared.pair.Key.{Key}
+use Rattle.gi_pairs.specs.declared.key.Key.{Key}
 use Rattle.gi_pairs.specs.declared.row.Row.{Row}
 use Rattle.gi_pairs.proofs.KeyOrder.{key_total, key_flips, less_from_not, not_less_self, not_both_less}
 

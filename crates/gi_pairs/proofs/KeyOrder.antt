@@ -11,7 +11,7 @@ use Rattle.gi_pairs.specs.Direction.{place_of}
 use Rattle.gi_pairs.specs.Key.{code_cmp, pair_cmp, key_cmp}
 use Rattle.gi_pairs.specs.declared.direction.Direction.{Direction}
 use Rattle.gi_pairs.specs.declared.direction.Direction.TheVariants.{IM, MI}
-use Rattle.gi_pairs.specs.declared.pair.Key.{Key}
+use Rattle.gi_pairs.specs.declared.key.Key.{Key}
 
 pub key_total : IsTotalOrder key_cmp
 key_total = search (comparing, rules)

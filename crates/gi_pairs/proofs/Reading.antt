@@ -13,7 +13,7 @@ use Rattle.gi_pairs.specs.Table.{TableContents, IsTable, covered, is_at, keys_of
 use Rattle.gi_pairs.specs.declared.direction.Direction.{Direction}
 use Rattle.gi_pairs.specs.declared.pair.Pair.{Pair}
 use Rattle.std.proofs.lemmas.List.Elements.{All-head, All-tail}
-use Rattle.gi_pairs.specs.declared.pair.Key.{Key}
+use Rattle.gi_pairs.specs.declared.key.Key.{Key}
 use Rattle.gi_pairs.specs.declared.row.Row.{Row}
 use Rattle.gi_pairs.proofs.KeyOrder.{key_total, key_same}
 

@@ -14,9 +14,9 @@ use Rattle.std.proofs.lemmas.Map.Keys.{sorted_from_all_adjacent}
 use Rattle.gi_pairs.specs.Key.{key_cmp}
 use Rattle.gi_pairs.specs.Row.{key_of, IsRow}
 use Rattle.gi_pairs.specs.Table.{IsTable, covered, keys_of, is_hour_range, repeats, refusal, built, in_order}
-use Rattle.gi_pairs.specs.declared.pair.Key.{Key}
+use Rattle.gi_pairs.specs.declared.key.Key.{Key}
 use Rattle.gi_pairs.specs.declared.row.Row.{Row}
-use Rattle.gi_pairs.specs.declared.table.TheConstants.{MOST_ROWS}
+use Rattle.gi_pairs.specs.Limits.{most_rows}
 use Rattle.gi_pairs.specs.declared.table.TableFault.TheVariants.{HourRange, TooManyRows, UnequalHours, Duplicate}
 use Rattle.gi_pairs.proofs.KeyOrder.{key_total, key_flips, less_from_not}
 
@@ -28,21 +28,21 @@ pub refused_hours : (first last : ℕ) (rows : List Row) → is_hour_range first
 unfolding built refusal
 refused_hours first last rows hours = rw hours refl
 
-pub refused_count : (first last : ℕ) (rows : List Row) → is_hour_range first last ≡ true → nat_lt MOST_ROWS (length rows) ≡ true → Err TooManyRows ≡ built first last rows
+pub refused_count : (first last : ℕ) (rows : List Row) → is_hour_range first last ≡ true → nat_lt most_rows (length rows) ≡ true → Err TooManyRows ≡ built first last rows
 unfolding built refusal
 refused_count first last rows hours count = rw (hours, count) refl
 
-pub refused_lengths : (first last : ℕ) (rows : List Row) → is_hour_range first last ≡ true → nat_lt MOST_ROWS (length rows) ≡ false
+pub refused_lengths : (first last : ℕ) (rows : List Row) → is_hour_range first last ≡ true → nat_lt most_rows (length rows) ≡ false
     → are_whole first last rows ≡ false → Err UnequalHours ≡ built first last rows
 unfolding built refusal
 refused_lengths first last rows hours count whole = rw (hours, count, whole) refl
 
-pub refused_twins : (first last : ℕ) (rows : List Row) → is_hour_range first last ≡ true → nat_lt MOST_ROWS (length rows) ≡ false
+pub refused_twins : (first last : ℕ) (rows : List Row) → is_hour_range first last ≡ true → nat_lt most_rows (length rows) ≡ false
     → are_whole first last rows ≡ true → repeats (keys_of rows) ≡ true → Err Duplicate ≡ built first last rows
 unfolding built refusal
 refused_twins first last rows hours count whole twins = rw (hours, count, whole, twins) refl
 
-pub accepted : (first last : ℕ) (rows : List Row) → is_hour_range first last ≡ true → nat_lt MOST_ROWS (length rows) ≡ false
+pub accepted : (first last : ℕ) (rows : List Row) → is_hour_range first last ≡ true → nat_lt most_rows (length rows) ≡ false
     → are_whole first last rows ≡ true → repeats (keys_of rows) ≡ false → Ok (record { first = first; last = last; rows = in_order rows }) ≡ built first last rows
 unfolding built refusal
 accepted first last rows hours count whole twins = rw (hours, count, whole, twins) refl
@@ -115,7 +115,7 @@ each_whole n (x ∷ xs) e =
     All-cons (λ (row : Row). length row.hours ≡ n) x xs ((Decides-eqb (length x.hours) n).0 both.0) (each_whole n xs both.1)
 
 -- what is known of a table's rows
-pub is_table : (first last : ℕ) (rows sorted : List Row) → is_hour_range first last ≡ true → nat_lt MOST_ROWS (length rows) ≡ false
+pub is_table : (first last : ℕ) (rows sorted : List Row) → is_hour_range first last ≡ true → nat_lt most_rows (length rows) ≡ false
     → are_whole first last rows ≡ true → All IsRow rows → IsPermutation rows sorted → IsStrictlySortedBy key_cmp (keys_of sorted)
     → IsTable (record { first = first; last = last; rows = sorted })
 is_table first last rows sorted hours count whole all moved strict = record {

@@ -11,7 +11,7 @@ use Rattle.gi_pairs.specs.Key.{key_cmp}
 use Rattle.gi_pairs.specs.Row.{key_of, IsRow}
 use Rattle.gi_pairs.specs.Table.{TableContents, IsTable, covered, is_hour_range, keys_of, repeats, refusal, built, ok_unless, in_order, with_row}
 use Rattle.gi_pairs.specs.declared.row.Row.{Row}
-use Rattle.gi_pairs.specs.declared.table.TheConstants.{MOST_ROWS}
+use Rattle.gi_pairs.specs.Limits.{most_rows}
 use Rattle.gi_pairs.proofs.Building.{in_order_is, in_order-sorted, repeats-permutation, repeats_from_distinct}
 use Rattle.gi_pairs.proofs.Refusals.{are_whole, accepted, is_table}
 
@@ -53,7 +53,7 @@ not_true false e = cc
 -- what rows without a fault meet
 pub record IsFaultless (first last : ℕ) (rows : List Row) : Type 0 where
   pub hours : is_hour_range first last ≡ true
-  pub count : nat_lt MOST_ROWS (length rows) ≡ false
+  pub count : nat_lt most_rows (length rows) ≡ false
   pub whole : are_whole first last rows ≡ true
   pub distinct : repeats (keys_of rows) ≡ false
 
@@ -61,7 +61,7 @@ faultless : (first last : ℕ) (rows : List Row) → refusal first last rows ≡
 unfolding refusal
 faultless first last rows e =
     let a = some_test (not (is_hour_range first last)) _ _ e in
-    let b = some_test (nat_lt MOST_ROWS (length rows)) _ _ a.1 in
+    let b = some_test (nat_lt most_rows (length rows)) _ _ a.1 in
     let c = some_test (not (are_whole first last rows)) _ _ b.1 in
     let d = some_test (repeats (keys_of rows)) _ None c.1 in
     record { hours = not_true _ a.0; count = b.0; whole = not_true _ c.0; distinct = d.0 }
@@ -84,13 +84,9 @@ pub built-again : (rows : List Row) (t : TableContents) → IsTable t → IsPerm
 built-again rows t table moved =
     let back = IsPermutation-sym rows t.rows moved in
     let hours : is_hour_range t.first t.last ≡ true = grind (arith, nat_tests, table.begins, table.ordered, table.ends) in
-    let count : nat_lt MOST_ROWS (length rows) ≡ false = rw (← length_permutation rows t.rows moved) (grind (arith, nat_tests, table.few)) in
+    let count : nat_lt most_rows (length rows) ≡ false = rw (← length_permutation rows t.rows moved) (grind (arith, nat_tests, table.few)) in
     let whole : are_whole t.first t.last rows ≡ true = whole_from_all (covered t.first t.last) rows (All-permutation (λ (row : Row). length row.hours ≡ covered t.first t.last) t.rows rows back table.whole) in
     let none : repeats (keys_of t.rows) ≡ false = repeats_from_distinct (keys_of t.rows) (IsDistinct-from_sorted key_cmp (keys_of t.rows) table.sorted) in
     let distinct : repeats (keys_of rows) ≡ false = sym (repeats-permutation rows t.rows moved) ∙ none in
     let order : t.rows ≡ in_order rows = in_order_is rows t.rows moved table.sorted in
     sym (accepted t.first t.last rows hours count whole distinct) ∙ (λ i. Ok (record { first = t.first; last = t.last; rows = sym order i }))
-
--- a table's own rows make it again
-pub built-own : (t : TableContents) → IsTable t → built t.first t.last t.rows ≡ Ok t
-built-own t table = built-again t.rows t table (IsPermutation-refl t.rows)

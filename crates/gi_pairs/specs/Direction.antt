@@ -1,13 +1,7 @@
--- Sides and directions, their texts and the order of directions.
+-- The texts of directions, and their order.
 use Rattle.std.specs.Prelude.{ℕ, List, codes}
-use Rattle.gi_pairs.specs.declared.direction.Side.{Side}
-use Rattle.gi_pairs.specs.declared.direction.Side.TheVariants.{I, M}
 use Rattle.gi_pairs.specs.declared.direction.Direction.{Direction}
 use Rattle.gi_pairs.specs.declared.direction.Direction.TheVariants.{IM, MI}
-
-abbrev pub side_text : Side → List ℕ
-side_text I = codes "I"
-side_text M = codes "M"
 
 abbrev pub direction_text : Direction → List ℕ
 direction_text IM = codes "IM"

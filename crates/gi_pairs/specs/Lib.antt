@@ -1,8 +1,11 @@
 pub mod Code
 pub mod CodeKept
 pub mod Direction
+pub mod FaultText
 pub mod Key
+pub mod Limits
 pub mod Quantity
 pub mod Row
+pub mod Side
 pub mod Table
 pub mod TableKept

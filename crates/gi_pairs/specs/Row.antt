@@ -2,7 +2,7 @@
 use Rattle.std.specs.Prelude.{All}
 use Rattle.gi_pairs.specs.Key.{IsKey}
 use Rattle.gi_pairs.specs.Quantity.{IsQuantity}
-use Rattle.gi_pairs.specs.declared.pair.Key.{Key}
+use Rattle.gi_pairs.specs.declared.key.Key.{Key}
 use Rattle.gi_pairs.specs.declared.row.Row.{Row}
 
 -- what a row is for

@@ -6,10 +6,10 @@ use Rattle.std.specs.Ordering.{is_eq, is_lt}
 use Rattle.gi_pairs.specs.Key.{key_cmp}
 use Rattle.gi_pairs.specs.Row.{key_of, IsRow}
 use Rattle.gi_pairs.specs.declared.direction.Direction.{Direction}
-use Rattle.gi_pairs.specs.declared.pair.Key.{Key}
+use Rattle.gi_pairs.specs.declared.key.Key.{Key}
 use Rattle.gi_pairs.specs.declared.pair.Pair.{Pair}
 use Rattle.gi_pairs.specs.declared.row.Row.{Row}
-use Rattle.gi_pairs.specs.declared.table.TheConstants.{LAST_HOUR, MOST_ROWS}
+use Rattle.gi_pairs.specs.Limits.{last_hour, most_rows}
 use Rattle.gi_pairs.specs.declared.table.TableFault.{TableFault}
 use Rattle.gi_pairs.specs.declared.table.TableFault.TheVariants.{HourRange, TooManyRows, UnequalHours, Duplicate}
 
@@ -28,14 +28,14 @@ keys_of = map key_of
 
 -- hours are numbered from 1, and a gas day has at most 25
 abbrev pub is_hour_range : ℕ → ℕ → Bool
-is_hour_range first last = nat_le 1 first && nat_le first last && nat_le last LAST_HOUR
+is_hour_range first last = nat_le 1 first && nat_le first last && nat_le last last_hour
 
 -- what holds of every table
 pub record IsTable (t : TableContents) : Type 0 where
   pub begins : 1 ≤ t.first
   pub ordered : t.first ≤ t.last
-  pub ends : t.last ≤ LAST_HOUR
-  pub few : length t.rows ≤ MOST_ROWS
+  pub ends : t.last ≤ last_hour
+  pub few : length t.rows ≤ most_rows
   pub all : All IsRow t.rows
   pub whole : All (λ row. length row.hours ≡ covered t.first t.last) t.rows
   pub sorted : IsStrictlySortedBy key_cmp (keys_of t.rows)
@@ -62,7 +62,7 @@ repeats (k ∷ ks) = list_any (λ other. is_eq (key_cmp k other)) ks || repeats 
 unfoldable pub refusal : ℕ → ℕ → List Row → Option TableFault
 refusal first last rows =
     if not (is_hour_range first last) then Some HourRange
-    else (if nat_lt MOST_ROWS (length rows) then Some TooManyRows
+    else (if nat_lt most_rows (length rows) then Some TooManyRows
     else (if not (list_all (λ row. length row.hours == covered first last) rows) then Some UnequalHours
     else (if repeats (keys_of rows) then Some Duplicate else None)))
 

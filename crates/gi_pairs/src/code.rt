@@ -1,4 +1,4 @@
-ghost use Rattle.std.specs.Prelude.{◌≡◌, ◌↔◌, Some, OkIff, IsTrue, nat_eq};
+ghost use Rattle.std.specs.Prelude.{◌≡◌, ◌↔◌, Some, OkIff, IsTrue, codes, nat_eq};
 ghost use Rattle.std.proofs.Common.{rules};
 ghost use Rattle.std.specs.Cmp.{partial_order_from_own_ties};
 ghost use Rattle.std.specs.Cmp.Rules.{comparing};
@@ -12,10 +12,12 @@ use std::fmt;
 use std::marker::Model;
 
 /// A text that is no code.
-#[derive(Clone, Copy, Debug, PartialEq, Eq, Hash)]
+#[derive(Clone, Copy, Debug, PartialEq, Eq)]
 pub struct CodeText;
 
 impl fmt::Display for CodeText {
+    ghost output = { λ _. Some (codes "CodeText") };
+
     fn fmt<W: fmt::Write>(&self, f: &mut fmt::Formatter<W>) -> fmt::Result {
         f.write_str("CodeText")
     }
@@ -25,7 +27,7 @@ impl Error for CodeText {}
 
 /// The code of a portfolio or of an interconnection point: 1 to 16 characters of `A` to `Z`, `0`
 /// to `9` and `-`, ordered by bytes.
-#[derive(Clone, Copy, Debug)]
+#[derive(Clone, Copy)]
 pub struct Code {
     bytes: [u8; 16],
     len: usize,
@@ -80,7 +82,7 @@ impl Code {
     }
 
     /// The bytes of the code.
-    fn as_bytes(&self) -> &[u8]
+    pub(crate) fn as_bytes(&self) -> &[u8]
         ensures value { result.now ≡ self.now }
         ensures code { IsCode result.now }
     {
@@ -101,6 +103,12 @@ impl fmt::Display for Code {
 
     fn fmt<W: fmt::Write>(&self, f: &mut fmt::Formatter<W>) -> fmt::Result {
         f.write_str(self.as_str())
+    }
+}
+
+impl fmt::Debug for Code {
+    fn fmt<W: fmt::Write>(&self, f: &mut fmt::Formatter<W>) -> fmt::Result {
+        fmt::Display::fmt(self, f)
     }
 }
 

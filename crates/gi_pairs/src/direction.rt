@@ -7,30 +7,8 @@ ghost use Rattle.std.specs.Ordering.{nat_cmp, on, as_partial_cmp};
 use std::cmp::Ordering;
 use std::fmt;
 
-/// One of the two operators at the interconnection point.
-#[derive(Clone, Copy, Debug, PartialEq, Eq, Hash)]
-pub enum Side {
-    /// The initiating operator.
-    I,
-    /// The matching operator.
-    M,
-}
-
-impl fmt::Display for Side {
-    ghost use Rattle.gi_pairs.specs.Direction.{side_text};
-
-    ghost output = { λ side. Some (side_text side) };
-
-    fn fmt<W: fmt::Write>(&self, f: &mut fmt::Formatter<W>) -> fmt::Result {
-        f.write_str(match self {
-            Side::I => "I",
-            Side::M => "M",
-        })
-    }
-}
-
 /// The way that gas goes; `IM` comes before `MI`.
-#[derive(Clone, Copy, Debug, PartialEq, Eq, Hash)]
+#[derive(Clone, Copy, Debug, PartialEq, Eq)]
 pub enum Direction {
     /// Out of the initiating operator's system, into the matching one's.
     IM,

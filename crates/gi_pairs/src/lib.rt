@@ -5,18 +5,22 @@ mod code;
 mod cycle_id;
 mod direction;
 mod hours;
+mod key;
 mod pair;
 mod quantity;
 mod row;
+mod side;
 mod table;
 
 pub use code::{Code, CodeText};
 pub use cycle_id::CycleId;
-pub use direction::{Direction, Side};
+pub use direction::Direction;
 pub use hours::Hours;
-pub use pair::{Key, Pair};
+pub use key::Key;
+pub use pair::Pair;
 pub use quantity::{Quantity, QuantityRange};
 pub use row::Row;
+pub use side::Side;
 pub use table::{LAST_HOUR, MOST_PROCESSED_ROWS, MOST_ROWS, Table, TableFault};
 
 #[cfg(test)]

@@ -1,4 +1,4 @@
-ghost use Rattle.std.specs.Prelude.{◌≡◌, OkIff};
+ghost use Rattle.std.specs.Prelude.{◌≡◌, OkIff, Some, codes};
 ghost use Rattle.gi_pairs.specs.Quantity.{IsQuantity};
 
 use std::error::Error;
@@ -6,10 +6,12 @@ use std::fmt;
 use std::marker::Model;
 
 /// A number of kWh/h that is no quantity: it is above 999,999,999,999.
-#[derive(Clone, Copy, Debug, PartialEq, Eq, Hash)]
+#[derive(Clone, Copy, Debug, PartialEq, Eq)]
 pub struct QuantityRange;
 
 impl fmt::Display for QuantityRange {
+    ghost output = { λ _. Some (codes "QuantityRange") };
+
     fn fmt<W: fmt::Write>(&self, f: &mut fmt::Formatter<W>) -> fmt::Result {
         f.write_str("QuantityRange")
     }
@@ -18,7 +20,7 @@ impl fmt::Display for QuantityRange {
 impl Error for QuantityRange {}
 
 /// A quantity in whole kWh/h, from 0 to 999,999,999,999.
-#[derive(Clone, Copy, Debug, PartialEq, Eq, PartialOrd, Ord, Hash)]
+#[derive(Clone, Copy, Debug, PartialEq, Eq, PartialOrd, Ord)]
 pub struct Quantity {
     value: u64,
 }

@@ -3,7 +3,8 @@ ghost use Rattle.gi_pairs.specs.Row.{key_of, IsRow};
 
 use crate::direction::Direction;
 use crate::hours::Hours;
-use crate::pair::{Key, Pair};
+use crate::key::Key;
+use crate::pair::Pair;
 use std::alloc::AllocError;
 
 /// A row of a table: the quantities of a pair in a direction, one for each covered hour.
@@ -29,8 +30,8 @@ impl Row {
     pub fn in_range(&self)
         ensures { IsRow self.now }
     {
-        let _ = self.pair.initiating.as_str();
-        let _ = self.pair.matching.as_str();
+        let _ = self.pair.initiating.as_bytes();
+        let _ = self.pair.matching.as_bytes();
         let _ = self.hours.as_slice();
     }
 

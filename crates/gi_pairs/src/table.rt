@@ -3,13 +3,15 @@ ghost use Rattle.std.specs.Bool.{OnFalse, OnTrue};
 ghost use Rattle.std.specs.List.{list_all};
 ghost use Rattle.std.specs.List.Sorted.{IsPermutation, IsSortedByKey, IsStrictlySortedBy};
 ghost use Rattle.std.specs.Option.{option_copied};
+ghost use Rattle.gi_pairs.specs.Limits.{last_hour};
 ghost use Rattle.gi_pairs.specs.Quantity.{IsQuantity};
 ghost use Rattle.gi_pairs.specs.Row.{key_of, IsRow};
 ghost use Rattle.gi_pairs.specs.Key.{key_cmp};
 ghost use Rattle.gi_pairs.specs.Table.{IsTable, is_at, is_hour_range as is_hour_range_of, keys_of, reading, built, repeats};
 
 use crate::direction::Direction;
-use crate::pair::{Key, Pair};
+use crate::key::Key;
+use crate::pair::Pair;
 use crate::row::Row;
 use std::alloc::AllocError;
 use std::cmp::Ordering;
@@ -27,7 +29,7 @@ pub const MOST_ROWS: usize = 2 * MOST_PROCESSED_ROWS;
 pub const MOST_PROCESSED_ROWS: usize = 4096;
 
 /// Why rows make no table.
-#[derive(Clone, Copy, Debug, PartialEq, Eq, Hash)]
+#[derive(Clone, Copy, Debug, PartialEq, Eq)]
 pub enum TableFault {
     /// Not 1 <= first <= last <= 25.
     HourRange,
@@ -42,6 +44,11 @@ pub enum TableFault {
 }
 
 impl fmt::Display for TableFault {
+    ghost use Rattle.std.specs.Prelude.{Some};
+    ghost use Rattle.gi_pairs.specs.FaultText.{fault_text};
+
+    ghost output = { λ fault. Some (fault_text fault) };
+
     fn fmt<W: fmt::Write>(&self, f: &mut fmt::Formatter<W>) -> fmt::Result {
         f.write_str(match self {
             TableFault::HourRange => "HourRange",
@@ -182,7 +189,7 @@ impl Table {
     /// The last hour that it covers, at most 25.
     pub fn last(&self) -> u8
         ensures value { result ≡ self.now.last }
-        ensures in_range { result ≤ LAST_HOUR }
+        ensures in_range { result ≤ last_hour }
     {
         self.last
     }

@@ -1,4 +1,5 @@
 use super::*;
+use gi_day::GasDay;
 use std::alloc::Global;
 use std::test::Fail;
 
@@ -82,6 +83,44 @@ fn reads_codes_and_quantities(rt: HostRuntime) -> Result<(), Fail> {
     }
     assert_eq!(rt; Quantity::new(1_000_000_000_000), Err(QuantityRange));
     assert_eq!(rt; Quantity::new(999_999_999_999)?.value(), 999_999_999_999);
+    let hours = row(rt.alloc(), &[1, 2])?.hours.copy()?.into_vec();
+    assert_eq!(rt; hours.len(), 2);
+    Ok(())
+}
+
+#[test]
+fn keeps_its_limits(rt: HostRuntime) -> Result<(), Fail> {
+    let alloc = rt.alloc();
+    for (count, want) in [(8192, None), (8193, Some(TableFault::TooManyRows))] {
+        let mut rows = Vec::new(alloc);
+        for number in 0..count {
+            let mut other = row(alloc, &[7])?;
+            let matching = format!(in alloc; "B{number}")?;
+            other.pair = pair("A", matching.as_str())?;
+            rows.push(other)?;
+        }
+        assert_eq!(rt; Table::build(25, 25, rows).err(), want, "{count} rows");
+    }
+    let table = Table::build(25, 25, vec![in alloc; row(alloc, &[7])?]?)?;
+    assert_eq!(rt; table.at(pair("A", "B")?, Direction::IM, 25), 7);
+    assert_eq!(rt;
+        (LAST_HOUR, MOST_PROCESSED_ROWS, MOST_ROWS),
+        (25, 4096, 8192)
+    );
+    Ok(())
+}
+
+#[test]
+fn orders_cycles_by_day(rt: HostRuntime) -> Result<(), Fail> {
+    let early = CycleId {
+        day: GasDay::read("2026-01-15")?,
+        cycle: 36,
+    };
+    let late = CycleId {
+        day: GasDay::read("2026-01-16")?,
+        cycle: 0,
+    };
+    assert!(rt; early < late);
     Ok(())
 }
 

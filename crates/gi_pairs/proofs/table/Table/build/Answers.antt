@@ -6,7 +6,7 @@ use Rattle.gi_pairs.specs.TableKept.{contents}
 use Rattle.gi_pairs.specs.Key.{key_cmp}
 use Rattle.gi_pairs.specs.Row.{IsRow}
 use Rattle.gi_pairs.specs.declared.row.Row.{Row}
-use Rattle.gi_pairs.specs.declared.table.TheConstants.{MOST_ROWS}
+use Rattle.gi_pairs.specs.Limits.{most_rows}
 use Rattle.gi_pairs.proofs.Building.{in_order_is, repeats-permutation}
 use Rattle.gi_pairs.proofs.Refusals.{is_table, whole_from, accepted, refused_hours, refused_count, refused_lengths, refused_twins}
 use Rattle.gi_pairs.proofs.table.Table.build.Goals as goal
@@ -16,19 +16,19 @@ returns-then-not-is_hour_range-clause-exact c = refused_hours c.args.first c.arg
 
 pub returns-then-len-gt-MOST_ROWS-clause-exact : goal.returns-then-len-gt-MOST_ROWS-clause-exact
 returns-then-len-gt-MOST_ROWS-clause-exact c =
-    let many : nat_lt MOST_ROWS (length c.args.rows.items) ≡ true = grind (arith, nat_tests, c.len.ensures, c.if-len-gt-MOST_ROWS.true) in
+    let many : nat_lt most_rows (length c.args.rows.items) ≡ true = grind (arith, nat_tests, c.len.ensures, c.if-len-gt-MOST_ROWS.true) in
     refused_count c.args.first c.args.last c.args.rows.items (sym c.if-not-is_hour_range.ensures) many
 
 pub returns-then-not-have_hours-clause-exact : goal.returns-then-not-have_hours-clause-exact
 returns-then-not-have_hours-clause-exact c =
-    let few : nat_lt MOST_ROWS (length c.args.rows.items) ≡ false = grind (arith, nat_tests, c.len.ensures, c.if-len-gt-MOST_ROWS.false) in
+    let few : nat_lt most_rows (length c.args.rows.items) ≡ false = grind (arith, nat_tests, c.len.ensures, c.if-len-gt-MOST_ROWS.false) in
     let hours = sym c.if-not-is_hour_range.ensures in
     let not_whole = whole_from c.args.first c.args.last c.from.result c.deref.result.now c.args.rows.items false hours c.from.ensures c.deref.ensures.value c.if-not-have_hours.ensures.lengths in
     refused_lengths c.args.first c.args.last c.args.rows.items hours few not_whole
 
 pub returns-then-has_twins-clause-exact : goal.returns-then-has_twins-clause-exact
 returns-then-has_twins-clause-exact c =
-    let few : nat_lt MOST_ROWS (length c.args.rows.items) ≡ false = grind (arith, nat_tests, c.len.ensures, c.if-len-gt-MOST_ROWS.false) in
+    let few : nat_lt most_rows (length c.args.rows.items) ≡ false = grind (arith, nat_tests, c.len.ensures, c.if-len-gt-MOST_ROWS.false) in
     let hours = sym c.if-not-is_hour_range.ensures in
     let whole = whole_from c.args.first c.args.last c.from.result c.deref.result.now c.args.rows.items true hours c.from.ensures c.deref.ensures.value c.if-not-have_hours.ensures.lengths in
     let twins = sym (repeats-permutation c.args.rows.items c.sort_rows.new.rows.items c.sort_rows.ensures.permutation)
@@ -37,7 +37,7 @@ returns-then-has_twins-clause-exact c =
 
 pub invariant_of-result : goal.invariant_of-result
 invariant_of-result c =
-    let few : nat_lt MOST_ROWS (length c.args.rows.items) ≡ false = grind (arith, nat_tests, c.len.ensures, c.if-len-gt-MOST_ROWS.false) in
+    let few : nat_lt most_rows (length c.args.rows.items) ≡ false = grind (arith, nat_tests, c.len.ensures, c.if-len-gt-MOST_ROWS.false) in
     let hours = sym c.if-not-is_hour_range.ensures in
     let whole = whole_from c.args.first c.args.last c.from.result c.deref.result.now c.args.rows.items true hours c.from.ensures c.deref.ensures.value c.if-not-have_hours.ensures.lengths in
     is_table c.args.first c.args.last c.args.rows.items c.sort_rows.new.rows.items hours few whole
@@ -46,7 +46,7 @@ invariant_of-result c =
 
 pub returns-clause-exact : goal.returns-clause-exact
 returns-clause-exact c =
-    let few : nat_lt MOST_ROWS (length c.args.rows.items) ≡ false = grind (arith, nat_tests, c.len.ensures, c.if-len-gt-MOST_ROWS.false) in
+    let few : nat_lt most_rows (length c.args.rows.items) ≡ false = grind (arith, nat_tests, c.len.ensures, c.if-len-gt-MOST_ROWS.false) in
     let hours = sym c.if-not-is_hour_range.ensures in
     let whole = whole_from c.args.first c.args.last c.from.result c.deref.result.now c.args.rows.items true hours c.from.ensures c.deref.ensures.value c.if-not-have_hours.ensures.lengths in
     let twins = sym (repeats-permutation c.args.rows.items c.sort_rows.new.rows.items c.sort_rows.ensures.permutation)
