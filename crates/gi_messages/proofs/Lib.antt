@@ -1,0 +1,10 @@
+pub mod JsonLemmas
+pub mod Plain
+pub mod FieldLemmas
+pub mod DateLemmas
+pub mod NameLemmas
+pub mod Elements
+pub mod RowLemmas
+pub mod TableLemmas
+pub mod MessageLemmas
+pub mod WritingLemmas

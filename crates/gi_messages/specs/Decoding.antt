@@ -1,0 +1,79 @@
+-- Which message bytes are, or what is wrong with them first.
+use Rattle.std.specs.Prelude.{◌≡◌, ℕ, List, length, nat_lt, Option, Some, None, option_and_then, Result, Ok, Err, if◌then◌else◌}
+use Rattle.serde_json.specs.Data.{Data}
+use Rattle.serde_json.specs.Find.{get, as_str}
+use Rattle.gi_pairs.specs.Limits.{last_hour, most_processed_rows, most_rows}
+use Rattle.gi_messages.specs.declared.key.Key.TheVariants.{Point, Day, Cycle, First, Last, Processed, Confirmed}
+use Rattle.gi_messages.specs.declared.key.Key.TheVariants as keys
+use Rattle.gi_messages.specs.declared.kind.Kind.{Kind}
+use Rattle.gi_messages.specs.declared.kind.Kind.TheVariants as kinds
+use Rattle.gi_messages.specs.Limits.{most_bytes, last_cycle}
+use Rattle.gi_messages.specs.declared.message.Delord.{Delord}
+use Rattle.gi_messages.specs.declared.message.Delres.{Delres}
+use Rattle.gi_messages.specs.declared.message.Message.{Message}
+use Rattle.gi_messages.specs.declared.message.Message.TheVariants as messages
+use Rattle.gi_messages.specs.declared.message_fault.MessageFault.{MessageFault}
+use Rattle.gi_messages.specs.declared.message_fault.MessageFault.TheVariants as faults
+use Rattle.gi_messages.specs.Json.{json_of}
+use Rattle.gi_messages.specs.Key.{key_text}
+use Rattle.gi_messages.specs.Kind.{kind_named}
+use Rattle.gi_messages.specs.Reading.{Read, ◌>>=◌, code, day, number, table}
+
+-- the fields of each kind, in their order
+unfoldable pub delord : Data → Read Delord
+delord d = do
+  point ← code Point d
+  date ← day Day d
+  cycle ← number 0 last_cycle Cycle d
+  first ← number 1 last_hour First d
+  last ← number first last_hour Last d
+  processed ← table Processed most_processed_rows first last d
+  Ok (record { point = point; day = date; cycle = cycle; processed = processed })
+
+unfoldable pub delres : Data → Read Delres
+delres d = do
+  point ← code Point d
+  date ← day Day d
+  cycle ← number 0 last_cycle Cycle d
+  first ← number 1 last_hour First d
+  last ← number first last_hour Last d
+  processed ← table Processed most_processed_rows first last d
+  confirmed ← table Confirmed most_rows first last d
+  Ok (record { point = point; day = date; cycle = cycle; processed = processed; confirmed = confirmed })
+
+-- the kind that an object names
+unfoldable pub kind_of : Data → Option Kind
+kind_of d = option_and_then kind_named (option_and_then as_str (get (key_text keys.Kind) d))
+
+-- a message of the kind
+abbrev pub of_kind : Kind → Data → Read Message
+of_kind kinds.Delord d = delord d >>= λ m. Ok (messages.Delord m)
+of_kind kinds.Delres d = delres d >>= λ m. Ok (messages.Delres m)
+
+-- the same, where a field is wrong
+abbrev pub named : {X : Type 0} → Read X → Result X MessageFault
+named (Ok x) = Ok x
+named (Err key) = Err (faults.Field key)
+
+abbrev pub if_kind : Data → Option Kind → Result Message MessageFault
+if_kind d None = Err faults.UnknownKind
+if_kind d (Some kind) = named (of_kind kind d)
+
+abbrev pub if_json : Option Data → Result Message MessageFault
+if_json None = Err faults.NotJson
+if_json (Some d) = if_kind d (kind_of d)
+
+unfoldable pub decoded : List ℕ → Result Message MessageFault
+decoded bytes = if nat_lt most_bytes (length bytes) then Err faults.TooLarge else if_json (json_of bytes)
+
+-- What a function returned is what decoding gives, unless memory ran out.
+abbrev pub Fails : {Y : Type 0} → MessageFault → Result Y MessageFault → Type 0
+Fails faults.TooLarge read = read ≡ Err faults.TooLarge
+Fails faults.NotJson read = read ≡ Err faults.NotJson
+Fails faults.UnknownKind read = read ≡ Err faults.UnknownKind
+Fails (faults.Field key) read = read ≡ Err (faults.Field key)
+Fails faults.OutOfMemory read = Unit {0}
+
+abbrev pub Gives : {Y : Type 0} → Result Y MessageFault → Result Y MessageFault → Type 0
+Gives (Ok x) read = read ≡ Ok x
+Gives (Err e) read = Fails e read

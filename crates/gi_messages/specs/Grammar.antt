@@ -1,0 +1,150 @@
+-- Which JSON values stand for which messages, field by field and apart from how they are read.
+use Rattle.std.specs.Prelude.{◌≡◌, ℕ, ◌≤◌, List, [], ◌∷◌, length, Some}
+use Rattle.std.specs.List.Sorted.{IsPermutation}
+use Rattle.serde_json.specs.Data.{Data, number, unsigned, string, array, Items, no_items, item}
+use Rattle.serde_json.specs.Find.{get}
+use Rattle.jiff_core.specs.declared.civil.date.Date.{Date}
+use Rattle.gi_day.specs.Day.{IsGasYear, IsDayText}
+use Rattle.gi_pairs.specs.Code.{IsCode}
+use Rattle.gi_pairs.specs.Direction.{direction_text}
+use Rattle.gi_pairs.specs.Table.{TableContents, IsTable, covered}
+use Rattle.gi_pairs.specs.declared.direction.Direction.{Direction}
+use Rattle.gi_pairs.specs.Quantity.{most_quantity}
+use Rattle.gi_messages.specs.Limits.{most_bytes, last_cycle}
+use Rattle.gi_pairs.specs.declared.row.Row.{Row}
+use Rattle.gi_pairs.specs.Limits.{last_hour, most_processed_rows, most_rows}
+use Rattle.gi_messages.specs.declared.key.Key.{Key}
+use Rattle.gi_messages.specs.declared.key.Key.TheVariants as keys
+use Rattle.gi_messages.specs.declared.kind.Kind.{Kind}
+use Rattle.gi_messages.specs.declared.kind.Kind.TheVariants as kinds
+use Rattle.gi_messages.specs.declared.message.Delord.{Delord}
+use Rattle.gi_messages.specs.declared.message.Delres.{Delres}
+use Rattle.gi_messages.specs.declared.message.Message.{Message}
+use Rattle.gi_messages.specs.declared.message.Message.TheVariants as messages
+use Rattle.gi_messages.specs.Json.{json_of}
+use Rattle.gi_messages.specs.Key.{key_text}
+use Rattle.gi_messages.specs.Kind.{kind_text}
+
+-- the object has a value in the relation with x at the key
+pub record Has {X : Type 0} (Stands : Data → X → Type 0) (key : Key) (d : Data) (x : X) : Type 0 where
+  pub value : Data
+  pub found : get (key_text key) d ≡ Some value
+  pub stands : Stands value x
+
+-- a text that names x
+pub record IsText {X : Type 0} (Names : List ℕ → X → Type 0) (d : Data) (x : X) : Type 0 where
+  pub text : List ℕ
+  pub written : d ≡ string text
+  pub names : Names text x
+
+-- a code is its own text
+abbrev pub NamesCode : List ℕ → List ℕ → Type 0
+NamesCode text code = IsCode text × (text ≡ code)
+
+-- a gas day is written `YYYY-MM-DD`, and a direction `IM` or `MI`
+abbrev pub NamesDay : List ℕ → Date → Type 0
+NamesDay text day = IsGasYear day.year × IsDayText day text
+
+abbrev pub NamesDirection : List ℕ → Direction → Type 0
+NamesDirection text direction = text ≡ direction_text direction
+
+-- a whole number from low to high, written without sign, fraction and exponent
+pub record IsWhole (low high : ℕ) (d : Data) (n : ℕ) : Type 0 where
+  pub written : d ≡ number (unsigned n)
+  pub from : low ≤ n
+  pub to : n ≤ high
+
+-- the elements stand for these, one after the other
+abbrev pub Each : {X : Type 0} → (Data → X → Type 0) → Items → List X → Type 0
+Each Stands no_items [] = Unit {0}
+Each Stands no_items (x ∷ xs) = ⊥
+Each Stands (item d ds) [] = ⊥
+Each Stands (item d ds) (x ∷ xs) = Stands d x × Each Stands ds xs
+
+-- an array whose elements stand for these
+pub record AreElements {X : Type 0} (Stands : Data → X → Type 0) (d : Data) (xs : List X) : Type 0 where
+  pub elements : Items
+  pub written : d ≡ array elements
+  pub each : Each Stands elements xs
+
+-- a row for so many hours: an object with a pair, a direction and one quantity for each hour
+pub record IsRowFor (hours : ℕ) (d : Data) (row : Row) : Type 0 where
+  pub initiating : Has (IsText NamesCode) keys.Initiating d row.pair.initiating
+  pub matching : Has (IsText NamesCode) keys.Matching d row.pair.matching
+  pub direction : Has (IsText NamesDirection) keys.Direction d row.direction
+  pub quantities : Has (AreElements (IsWhole 0 most_quantity)) keys.Hours d row.hours
+  pub whole : length row.hours ≡ hours
+
+-- the table for the hours from first to last that has these rows, whichever order they come in
+pub record HasRows (first last : ℕ) (rows : List Row) (t : TableContents) : Type 0 where
+  pub begins : t.first ≡ first
+  pub ends : t.last ≡ last
+  pub same : IsPermutation rows t.rows
+  pub table : IsTable t
+
+-- an array of at most so many rows, at a key, that make the table
+pub record HasTable (most first last : ℕ) (key : Key) (d : Data) (t : TableContents) : Type 0 where
+  pub rows : List Row
+  pub array : Has (AreElements (IsRowFor (covered first last))) key d rows
+  pub few : length rows ≤ most
+  pub makes : HasRows first last rows t
+
+pub record IsDelord (d : Data) (m : Delord) : Type 0 where
+  pub point : Has (IsText NamesCode) keys.Point d m.point
+  pub day : Has (IsText NamesDay) keys.Day d m.day
+  pub cycle : Has (IsWhole 0 last_cycle) keys.Cycle d m.cycle
+  pub first : Has (IsWhole 1 last_hour) keys.First d m.processed.first
+  pub last : Has (IsWhole m.processed.first last_hour) keys.Last d m.processed.last
+  pub processed : HasTable most_processed_rows m.processed.first m.processed.last keys.Processed d m.processed
+
+-- both tables are for the hours of the message
+pub record IsDelres (d : Data) (m : Delres) : Type 0 where
+  pub point : Has (IsText NamesCode) keys.Point d m.point
+  pub day : Has (IsText NamesDay) keys.Day d m.day
+  pub cycle : Has (IsWhole 0 last_cycle) keys.Cycle d m.cycle
+  pub first : Has (IsWhole 1 last_hour) keys.First d m.processed.first
+  pub last : Has (IsWhole m.processed.first last_hour) keys.Last d m.processed.last
+  pub processed : HasTable most_processed_rows m.processed.first m.processed.last keys.Processed d m.processed
+  pub confirmed : HasTable most_rows m.processed.first m.processed.last keys.Confirmed d m.confirmed
+
+-- an object whose `kind` is the kind's name
+abbrev pub IsOfKind : Kind → Data → Type 0
+IsOfKind kind d = get (key_text keys.Kind) d ≡ Some (string (kind_text kind))
+
+-- the value stands for the message; keys that no field has mean nothing
+abbrev pub IsMessage : Data → Message → Type 0
+IsMessage d (messages.Delord m) = IsOfKind kinds.Delord d × IsDelord d m
+IsMessage d (messages.Delres m) = IsOfKind kinds.Delres d × IsDelres d m
+
+-- the bytes are JSON text of the message, in at most 16 MiB
+pub record Spells (bytes : List ℕ) (m : Message) : Type 0 where
+  pub short : length bytes ≤ most_bytes
+  pub value : Data
+  pub json : json_of bytes ≡ Some value
+  pub stands : IsMessage value m
+
+-- some value stands for the message
+abbrev pub IsWritable : Message → Type 0
+IsWritable m = (d : Data) × IsMessage d m
+
+-- A message that can be written: a code, a gas day, a cycle of it, and tables of not too many rows, for the same hours.
+pub record FitsDelord (m : Delord) : Type 0 where
+  pub point : IsCode m.point
+  pub day : IsGasYear m.day.year
+  pub cycle : m.cycle ≤ last_cycle
+  pub processed : IsTable m.processed
+  pub few : length m.processed.rows ≤ most_processed_rows
+
+pub record FitsDelres (m : Delres) : Type 0 where
+  pub point : IsCode m.point
+  pub day : IsGasYear m.day.year
+  pub cycle : m.cycle ≤ last_cycle
+  pub processed : IsTable m.processed
+  pub few : length m.processed.rows ≤ most_processed_rows
+  pub confirmed : IsTable m.confirmed
+  pub begins : m.confirmed.first ≡ m.processed.first
+  pub ends : m.confirmed.last ≡ m.processed.last
+
+abbrev pub Fits : Message → Type 0
+Fits (messages.Delord m) = FitsDelord m
+Fits (messages.Delres m) = FitsDelres m

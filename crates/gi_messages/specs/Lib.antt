@@ -1,0 +1,12 @@
+pub mod Key
+pub mod Kind
+pub mod Limits
+pub mod Json
+pub mod Dates
+pub mod Names
+pub mod Reading
+pub mod Fault
+pub mod Decoding
+pub mod Grammar
+pub mod Writing
+pub mod Laws

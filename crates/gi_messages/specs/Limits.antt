@@ -1,0 +1,10 @@
+-- The limits of messages (this project's choice).
+use Rattle.std.specs.Prelude.{ℕ}
+
+-- how many bytes a message has at most
+abbrev pub most_bytes : ℕ
+most_bytes = 16_777_216
+
+-- the highest number of a cycle
+abbrev pub last_cycle : ℕ
+last_cycle = 36

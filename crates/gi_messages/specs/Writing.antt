@@ -1,0 +1,50 @@
+-- The one JSON text that is written for a message: its keys in byte order, and its rows in table order.
+use Rattle.std.specs.Prelude.{ℕ, List, map}
+use Rattle.serde_json.specs.Data.{Data, number, unsigned, string, array, object, no_members, member}
+use Rattle.serde_json.specs.View.{items_of}
+use Rattle.serde_json.specs.Written.{compact_text}
+use Rattle.gi_day.specs.Day.{day_text}
+use Rattle.gi_pairs.specs.Direction.{direction_text}
+use Rattle.gi_pairs.specs.declared.row.Row.{Row}
+use Rattle.gi_messages.specs.declared.key.Key.TheVariants as keys
+use Rattle.gi_messages.specs.declared.kind.Kind.TheVariants as kinds
+use Rattle.gi_messages.specs.declared.message.Delord.{Delord}
+use Rattle.gi_messages.specs.declared.message.Delres.{Delres}
+use Rattle.gi_messages.specs.declared.message.Message.{Message}
+use Rattle.gi_messages.specs.declared.message.Message.TheVariants as messages
+use Rattle.gi_messages.specs.Key.{key_text}
+use Rattle.gi_messages.specs.Kind.{kind_text}
+
+abbrev pub whole : ℕ → Data
+whole n = number (unsigned n)
+
+abbrev pub whole_numbers : List ℕ → Data
+whole_numbers ns = array (items_of (map whole ns))
+
+unfoldable pub row_data : Row → Data
+row_data r =
+    object (member (key_text keys.Direction) (string (direction_text r.direction)) (member (key_text keys.Hours) (whole_numbers r.hours)
+    (member (key_text keys.Initiating) (string r.pair.initiating) (member (key_text keys.Matching) (string r.pair.matching) no_members))))
+
+abbrev pub rows_data : List Row → Data
+rows_data rs = array (items_of (map row_data rs))
+
+unfoldable pub delord_data : Delord → Data
+delord_data m =
+    object (member (key_text keys.Cycle) (whole m.cycle) (member (key_text keys.Day) (string (day_text m.day)) (member (key_text keys.First) (whole m.processed.first)
+    (member (key_text keys.Kind) (string (kind_text kinds.Delord)) (member (key_text keys.Last) (whole m.processed.last) (member (key_text keys.Point) (string m.point)
+    (member (key_text keys.Processed) (rows_data m.processed.rows) no_members)))))))
+
+unfoldable pub delres_data : Delres → Data
+delres_data m =
+    object (member (key_text keys.Confirmed) (rows_data m.confirmed.rows) (member (key_text keys.Cycle) (whole m.cycle) (member (key_text keys.Day) (string (day_text m.day)) (member (key_text keys.First) (whole m.processed.first)
+    (member (key_text keys.Kind) (string (kind_text kinds.Delres)) (member (key_text keys.Last) (whole m.processed.last) (member (key_text keys.Point) (string m.point)
+    (member (key_text keys.Processed) (rows_data m.processed.rows) no_members))))))))
+
+abbrev pub data_of : Message → Data
+data_of (messages.Delord m) = delord_data m
+data_of (messages.Delres m) = delres_data m
+
+-- with no spaces
+unfoldable pub text_of : Message → List ℕ
+text_of m = compact_text (data_of m)

@@ -1,0 +1,130 @@
+//! Reading messages.
+
+ghost use Rattle.std.specs.Prelude.{◌≡◌, ◌<◌, length, IfOk, Ok, Err};
+ghost use Rattle.serde_json.specs.View.{view};
+ghost use Rattle.gi_messages.specs.Reading as reading;
+ghost use Rattle.gi_messages.specs.declared.message.Message.{Message};
+ghost use Rattle.gi_messages.specs.Grammar.{Spells};
+ghost use Rattle.gi_messages.specs.Limits.{most_bytes};
+ghost use Rattle.gi_messages.specs.Decoding.{Gives, delord, delres, kind_of, of_kind, decoded};
+
+use crate::fault::FieldFault;
+use crate::fields::{code, day, number};
+use crate::json_text::json;
+use crate::key::Key;
+use crate::kind::{Kind, kind_named};
+use crate::message::{Delord, Delres, LAST_CYCLE, MOST_BYTES, Message};
+use crate::message_fault::MessageFault;
+use crate::rows::table;
+use gi_pairs::{LAST_HOUR, MOST_PROCESSED_ROWS, MOST_ROWS};
+use serde_json::Value;
+use std::alloc::Global;
+
+/// The DELORD that an object is.
+#[tactic(auto, unfolding(crate::specs::Decoding::delord))]
+fn delord(alloc: Global, object: &Value) -> Result<Delord, FieldFault>
+    ensures { reading.Gives (λ found. found) result (delord (view object.now)) }
+{
+    let point = code(object, Key::Point)?;
+    let day = day(object, Key::Day)?;
+    let cycle = number(object, Key::Cycle, 0, u64::from(LAST_CYCLE))? as u8;
+    let first = number(object, Key::First, 1, u64::from(LAST_HOUR))?;
+    let last = number(object, Key::Last, first, u64::from(LAST_HOUR))? as u8;
+    let first = first as u8;
+    let processed = table(
+        alloc,
+        object,
+        Key::Processed,
+        MOST_PROCESSED_ROWS,
+        first,
+        last,
+    )?;
+    Ok(Delord {
+        point,
+        day,
+        cycle,
+        processed,
+    })
+}
+
+/// The DELRES that an object is.
+#[tactic(auto, unfolding(crate::specs::Decoding::delres))]
+fn delres(alloc: Global, object: &Value) -> Result<Delres, FieldFault>
+    ensures { reading.Gives (λ found. found) result (delres (view object.now)) }
+{
+    let point = code(object, Key::Point)?;
+    let day = day(object, Key::Day)?;
+    let cycle = number(object, Key::Cycle, 0, u64::from(LAST_CYCLE))? as u8;
+    let first = number(object, Key::First, 1, u64::from(LAST_HOUR))?;
+    let last = number(object, Key::Last, first, u64::from(LAST_HOUR))? as u8;
+    let first = first as u8;
+    let processed = table(
+        alloc,
+        object,
+        Key::Processed,
+        MOST_PROCESSED_ROWS,
+        first,
+        last,
+    )?;
+    let confirmed = table(alloc, object, Key::Confirmed, MOST_ROWS, first, last)?;
+    Ok(Delres {
+        point,
+        day,
+        cycle,
+        processed,
+        confirmed,
+    })
+}
+
+/// The message of a kind that an object is.
+fn of_kind(alloc: Global, kind: Kind, object: &Value) -> Result<Message, FieldFault>
+    ensures { reading.Gives (λ found. found) result (of_kind kind (view object.now)) }
+{
+    match kind {
+        Kind::Delord => Ok(Message::Delord(delord(alloc, object)?)),
+        Kind::Delres => Ok(Message::Delres(delres(alloc, object)?)),
+    }
+}
+
+/// The kind that an object names.
+#[tactic(auto, unfolding(crate::specs::Decoding::kind_of))]
+fn kind_of(object: &Value) -> Option<Kind>
+    ensures { result ≡ kind_of (view object.now) }
+{
+    kind_named(object.get(Key::Kind.text())?.as_str()?)
+}
+
+/// The message that the bytes are, or the first fault.
+#[tactic(auto, unfolding(crate::specs::Decoding::decoded))]
+fn read(alloc: Global, bytes: &[u8]) -> Result<Message, MessageFault>
+    ensures exact { Gives result (decoded bytes.now) }
+    ensures too_large { most_bytes < length bytes.now → result ≡ Err MessageFault.TooLarge }
+{
+    if bytes.len() > MOST_BYTES {
+        return Err(MessageFault::TooLarge);
+    }
+    let Some(value) = json(alloc, bytes)? else {
+        return Err(MessageFault::NotJson);
+    };
+    let Some(kind) = kind_of(&value) else {
+        return Err(MessageFault::UnknownKind);
+    };
+    Ok(of_kind(alloc, kind, &value)?)
+}
+
+/// The message that the bytes are, or the first fault: `TooLarge` (over 16,777,216 bytes),
+/// `NotJson`, `UnknownKind`, `Field` (in the order of the kind's fields), `OutOfMemory`. Bytes that
+/// are too large take no memory.
+pub fn decode(alloc: Global, bytes: &[u8]) -> Result<Message, MessageFault>
+    // What is read is spelled so.
+    ensures found { IfOk result (λ m. Spells bytes.now m) }
+
+    // What is spelled so is read, unless memory runs out.
+    ensures only { (m : Message) → Spells bytes.now m → Gives result (Ok m) }
+
+    // Which fault it is.
+    ensures exact { Gives result (decoded bytes.now) }
+    ensures too_large { most_bytes < length bytes.now → result ≡ Err MessageFault.TooLarge }
+{
+    read(alloc, bytes)
+}

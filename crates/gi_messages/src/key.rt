@@ -1,0 +1,51 @@
+ghost use Rattle.std.specs.Prelude.{◌≡◌, Some};
+ghost use Rattle.gi_messages.specs.Key.{key_text};
+
+use std::fmt;
+
+/// A key of a message's JSON object, or of an object inside it.
+#[derive(Clone, Copy, Debug, PartialEq, Eq)]
+pub enum Key {
+    Kind,
+    Point,
+    Day,
+    Cycle,
+    First,
+    Last,
+    Processed,
+    Confirmed,
+    Initiating,
+    Matching,
+    Direction,
+    Hours,
+}
+
+impl Key {
+    /// The key as it stands in the text.
+    pub fn text(self) -> &'static str
+        ensures { result.now ≡ key_text self }
+    {
+        match self {
+            Key::Kind => "kind",
+            Key::Point => "point",
+            Key::Day => "day",
+            Key::Cycle => "cycle",
+            Key::First => "first",
+            Key::Last => "last",
+            Key::Processed => "processed",
+            Key::Confirmed => "confirmed",
+            Key::Initiating => "initiating",
+            Key::Matching => "matching",
+            Key::Direction => "direction",
+            Key::Hours => "hours",
+        }
+    }
+}
+
+impl fmt::Display for Key {
+    ghost output = { λ key. Some (key_text key) };
+
+    fn fmt<W: fmt::Write>(&self, f: &mut fmt::Formatter<W>) -> fmt::Result {
+        f.write_str(self.text())
+    }
+}

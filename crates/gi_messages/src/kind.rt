@@ -1,0 +1,33 @@
+ghost use Rattle.std.specs.Prelude.{◌≡◌};
+ghost use Rattle.gi_messages.specs.Kind.{kind_text, kind_named};
+
+/// The kinds of messages.
+#[derive(Clone, Copy, Debug, PartialEq, Eq)]
+pub enum Kind {
+    Delord,
+    Delres,
+}
+
+impl Kind {
+    /// The kind's name, as the key `kind` has it.
+    pub fn text(self) -> &'static str
+        ensures { result.now ≡ kind_text self }
+    {
+        match self {
+            Kind::Delord => "DELORD",
+            Kind::Delres => "DELRES",
+        }
+    }
+}
+
+/// The kind of that name.
+#[tactic(auto, unfolding(crate::specs::Kind::kind_named))]
+pub fn kind_named(text: &str) -> Option<Kind>
+    ensures { result ≡ kind_named text.now }
+{
+    match text {
+        "DELORD" => Some(Kind::Delord),
+        "DELRES" => Some(Kind::Delres),
+        _ => None,
+    }
+}

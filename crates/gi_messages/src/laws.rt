@@ -1,0 +1,29 @@
+//! What holds of all messages. These functions do nothing; their clauses are the laws.
+
+ghost use Rattle.gi_messages.specs.Laws.{IsOneMessage, ReadsSpelling, IsWritableExactly, WritesMessage, RoundTrips};
+
+/// A JSON value stands for one message at most.
+pub fn one_message()
+    ensures { IsOneMessage }
+{}
+
+/// Bytes are read as the message that they spell, and as no other.
+pub fn reads_spelling()
+    ensures { ReadsSpelling }
+{}
+
+/// A message is writable exactly where it has a code, a gas day, a cycle from 0 to 36, a processed
+/// table of at most 4,096 rows, and a confirmed table for the same hours.
+pub fn writable_exactly()
+    ensures { IsWritableExactly }
+{}
+
+/// What is written for a message stands for it.
+pub fn writes_message()
+    ensures { WritesMessage }
+{}
+
+/// A message that is written is read back, where its text is not too large.
+pub fn round_trip()
+    ensures { RoundTrips }
+{}

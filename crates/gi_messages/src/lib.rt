@@ -1,0 +1,25 @@
+//! The messages of the dispatch offices, read from JSON text and written as it.
+#![tactic(auto)]
+
+mod decoding;
+mod encoding;
+mod fault;
+mod fields;
+mod json_text;
+mod key;
+mod kind;
+mod laws;
+mod message;
+mod message_fault;
+mod names;
+mod rows;
+
+pub use decoding::decode;
+pub use encoding::encode;
+pub use key::Key;
+pub use laws::{one_message, reads_spelling, round_trip, writable_exactly, writes_message};
+pub use message::{Delord, Delres, LAST_CYCLE, MOST_BYTES, Message};
+pub use message_fault::MessageFault;
+
+#[cfg(test)]
+mod tests;
