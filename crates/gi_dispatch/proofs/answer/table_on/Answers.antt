@@ -1,0 +1,17 @@
+use Rattle.std.proofs.Common.{refl}
+use Rattle.gi_dispatch.proofs.MatchLemmas.{few_rows}
+use Rattle.gi_dispatch.proofs.answer.table_on.Goals as goal
+
+pub returns-in-Ok-Delord-clause-few_rows : goal.returns-in-Ok-Delord-clause-few_rows
+returns-in-Ok-Delord-clause-few_rows c =
+    few_rows c.args.bytes.now c.in-Ok-Delord.table (rw c.in-Ok-Delord.field-0-is at c.in-Ok-Delord.ensures.found)
+
+pub returns-in-Ok-Delres-clause-refused : goal.returns-in-Ok-Delres-clause-refused
+returns-in-Ok-Delres-clause-refused c = (
+  refl,
+  record {
+    found = c.in-Ok-Delres.field-0;
+    spelled = c.in-Ok-Delres.ensures.found;
+    other = λ table same. let delres = c.in-Ok-Delres.field-0-is in cc;
+  },
+)

@@ -1,0 +1,11 @@
+use Rattle.std.proofs.Common.{◌≤◌, vec_len}
+use Rattle.std.specs.Io.KnownBytes.{Consumes}
+use Rattle.gi_dispatch.specs.Input.{most_input}
+use Rattle.gi_dispatch.proofs.input.read_input.Given as goal
+
+-- what is read so far is what the reader has lost, and within the limit
+abbrev pub invariant-loop : goal.invariant-loop
+invariant-loop g l = record {
+  read : Consumes (g.R.Read.remaining l.fn.input) (g.R.Read.remaining l.input) l.bytes.items;
+  within : vec_len l.bytes ≤ most_input;
+}

@@ -1,0 +1,99 @@
+ghost use Rattle.std.specs.Prelude.{◌≡◌, ◌≢◌, ◌⊎◌, IfErr, IfSome, IsErrAnd, OnOk, Err, map};
+ghost use Rattle.std.specs.Io.KnownBytes.{Keeps};
+ghost use Rattle.clap.specs.Words.{kind_of};
+ghost use Rattle.gi_dispatch.specs.CommandLine.{IsMistaken, MeansMatch};
+ghost use Rattle.gi_dispatch.specs.Match.{Answers, IsFirstFault};
+
+use crate::answer::answer;
+use crate::command_line::{Request, requested};
+use crate::fault::Fault;
+use crate::input::read_input;
+use clap::Error;
+use clap::error::ErrorKind;
+use std::alloc::Global;
+use std::convert::AsStr;
+use std::io::{Read, Write};
+
+/// Reads the order and the own table, and writes the response to them.
+fn match_tables<R: Read, W: Write>(
+    alloc: Global,
+    input: &mut R,
+    output: &mut W,
+) -> Result<(), Fault>
+    ensures done { OnOk result (IfSome (R.remaining input.old) (λ bytes.
+        Answers bytes (W.contents output.old) (W.contents output.new))) }
+    ensures nothing { IfErr result (λ fault. fault ≢ Fault.Write →
+        Keeps (W.contents output.old) (W.contents output.new)) }
+    ensures first { IfErr result (λ fault. IfSome (R.remaining input.old) (λ bytes.
+        IsFirstFault bytes fault)) }
+{
+    let bytes = read_input(alloc, input)?;
+    let text = answer(alloc, bytes.as_slice())?;
+    match output.write_all(text.as_slice()) {
+        Ok(()) => Ok(()),
+        Err(_) => Err(Fault::Write),
+    }
+}
+
+/// Writes the one line that names the fault, where there is one. A writer that fails leaves it at
+/// that.
+pub fn reported<E: Write>(done: Result<(), Fault>, errors: &mut E) -> Result<(), Fault>
+    ensures same { result ≡ done }
+    ensures silent { OnOk result (Keeps (E.contents errors.old) (E.contents errors.new)) }
+{
+    if let Err(fault) = &done {
+        let _ = writeln!(errors, "gi_dispatch: {fault}");
+    }
+    done
+}
+
+/// Writes what `clap` says in place of a command: help and the version to the output, and what is
+/// wrong with the words to the errors.
+fn explain<W: Write, E: Write>(said: &Error, output: &mut W, errors: &mut E) -> Result<(), Fault>
+    ensures memory { kind_of said.now ≡ ErrorKind.OutOfMemory → result ≡ Err Fault.OutOfMemory }
+    ensures shown { (kind_of said.now ≡ ErrorKind.DisplayHelp)
+        ⊎ (kind_of said.now ≡ ErrorKind.DisplayVersion) → IfErr result (λ fault. fault ≡ Fault.Write) }
+    ensures mistake { kind_of said.now ≢ ErrorKind.OutOfMemory → kind_of said.now ≢ ErrorKind.DisplayHelp
+        → kind_of said.now ≢ ErrorKind.DisplayVersion → result ≡ Err Fault.CommandLine }
+    ensures silent { OnOk result (Keeps (E.contents errors.old) (E.contents errors.new)) }
+    ensures nothing { IfErr result (λ fault. fault ≢ Fault.Write →
+        Keeps (W.contents output.old) (W.contents output.new)) }
+{
+    if said.kind() == ErrorKind::OutOfMemory {
+        return reported(Err(Fault::OutOfMemory), errors);
+    }
+    if said.use_stderr() {
+        let _ = write!(errors, "{said}");
+        return Err(Fault::CommandLine);
+    }
+    match write!(output, "{said}") {
+        Ok(()) => Ok(()),
+        Err(_) => reported(Err(Fault::Write), errors),
+    }
+}
+
+/// Does what the words ask for, the first being the program's own name, and answers the fault, if
+/// any. A fault is one line on `errors`, and nothing on `output`, unless a writer fails: that is
+/// `Write`, after all other faults.
+pub fn dispatch<S: AsStr, R: Read, W: Write, E: Write>(
+    alloc: Global,
+    words: &[S],
+    input: &mut R,
+    output: &mut W,
+    errors: &mut E,
+) -> Result<(), Fault>
+    ensures done { MeansMatch (map S.text words.now) → OnOk result (IfSome (R.remaining input.old)
+        (λ bytes. Answers bytes (W.contents output.old) (W.contents output.new))) }
+    ensures silent { OnOk result (Keeps (E.contents errors.old) (E.contents errors.new)) }
+    ensures nothing { IfErr result (λ fault. fault ≢ Fault.Write →
+        Keeps (W.contents output.old) (W.contents output.new)) }
+    ensures first { MeansMatch (map S.text words.now) → IfErr result (λ fault.
+        IfSome (R.remaining input.old) (λ bytes. IsFirstFault bytes fault)) }
+    ensures mistaken { IsMistaken (map S.text words.now) →
+        IsErrAnd result (λ fault. (fault ≡ Fault.CommandLine) ⊎ (fault ≡ Fault.OutOfMemory)) }
+{
+    match requested(alloc, words) {
+        Ok(Request::Match) => reported(match_tables(alloc, input, output), errors),
+        Err(said) => explain(&said, output, errors),
+    }
+}

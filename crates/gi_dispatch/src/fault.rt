@@ -1,0 +1,70 @@
+ghost use Rattle.std.specs.Prelude.{◌≡◌};
+
+use gi_messages::MessageFault;
+use std::fmt;
+use thiserror::Error;
+
+/// A line of the input of `match`.
+#[derive(Clone, Copy, Debug, PartialEq, Eq)]
+pub enum Line {
+    /// The first, the initiating operator's order.
+    Order,
+    /// The second, the matching operator's own table.
+    Own,
+}
+
+impl fmt::Display for Line {
+    fn fmt<W: fmt::Write>(&self, f: &mut fmt::Formatter<W>) -> fmt::Result {
+        f.write_str(match self {
+            Line::Order => "order",
+            Line::Own => "own",
+        })
+    }
+}
+
+/// Why the program gave up.
+#[derive(Debug, Drop, PartialEq, Eq, Error)]
+pub enum Fault {
+    /// The words are no command of the program.
+    #[error("CommandLine")]
+    CommandLine,
+    /// The reader failed, or was called as often as a command calls it.
+    #[error("Read")]
+    Read,
+    /// The input has more than 67,108,864 bytes.
+    #[error("TooLarge")]
+    TooLarge,
+    /// The input has not exactly two lines.
+    #[error("Lines")]
+    Lines,
+    /// The line is no message.
+    #[error("{0}: {1}")]
+    Message(Line, MessageFault),
+    /// The line is a message of another kind than DELORD.
+    #[error("{0}: WrongKind")]
+    WrongKind(Line),
+    /// The tables are for another point, day or cycle, or for other hours.
+    #[error("ShapeDiffers")]
+    ShapeDiffers,
+    /// A writer failed. It comes after all other faults.
+    #[error("Write")]
+    Write,
+    /// An allocation was refused.
+    #[error("OutOfMemory")]
+    OutOfMemory,
+}
+
+impl Fault {
+    ghost use Rattle.gi_dispatch.specs.Fault.{status_of};
+
+    /// The exit status of the program: 2 for a wrong command line, 4 for want of memory, else 1.
+    pub fn status(&self) -> u8
+        ensures { result ≡ status_of self.now }
+    {
+        match self {
+            Fault::CommandLine => 2,
+            Fault::OutOfMemory => 4,
+            _ => 1,
+        }
+    }
+}
