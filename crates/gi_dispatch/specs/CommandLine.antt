@@ -18,6 +18,10 @@ objections words = fault_of the_program words
 abbrev pub MeansMatch : List (List ℕ) → Type 0
 MeansMatch words = (program : List ℕ) × ((words ≡ program ∷ []) ⊎ (words ≡ program ∷ codes "match" ∷ []))
 
+-- the words ask for help or for the version alone
+abbrev pub AsksForHelp : List (List ℕ) → Type 0
+AsksForHelp words = (objections words ≡ DisplayHelp ∷ []) ⊎ (objections words ≡ DisplayVersion ∷ [])
+
 -- the words ask for no command, nor for help or the version
 pub record IsMistaken (words : List (List ℕ)) : Type 0 where
   pub some : objections words ≢ []

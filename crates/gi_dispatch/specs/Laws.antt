@@ -1,5 +1,6 @@
 -- What holds of all inputs of `match`.
-use Rattle.std.specs.Prelude.{◌≡◌, ◌≢◌, ℕ, List}
+use Rattle.std.specs.Prelude.{◌≡◌, ◌≢◌, ℕ, List, []}
+use Rattle.gi_dispatch.specs.CommandLine.{MeansMatch, objections}
 use Rattle.gi_dispatch.specs.Match.{IsAnswer, IsRefused}
 use Rattle.gi_dispatch.specs.declared.fault.Fault.{Fault}
 use Rattle.gi_dispatch.specs.declared.fault.Fault.TheVariants.{OutOfMemory}
@@ -16,3 +17,7 @@ HasNoAnswer = (input text : List ℕ) (why : Fault) → why ≢ OutOfMemory → 
 abbrev pub HasOneFault : Type 0
 HasOneFault = (input : List ℕ) (why other : Fault) → why ≢ OutOfMemory → other ≢ OutOfMemory
     → IsRefused input why → IsRefused input other → why ≡ other
+
+-- to the program's name, alone or with the word `match`, nothing is objected
+abbrev pub MatchIsTaken : Type 0
+MatchIsTaken = (words : List (List ℕ)) → MeansMatch words → objections words ≡ []

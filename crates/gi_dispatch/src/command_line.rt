@@ -9,9 +9,10 @@ use std::convert::AsStr;
 
 const PROGRAM_HELP: &str = "\
 With no command `match` is meant. A fault is one line on standard error, `gi_dispatch: ` and its
-name, and nothing on standard output.
+name (a wrong command line is told in more words), and nothing on standard output.
 
-Exit status: 0 done, 1 refused input, 2 wrong command line, 4 want of memory.
+Exit status: 0 done, 1 refused input or a reader or writer that failed, 2 wrong command line, 4 want
+of memory.
 
 Example: gi_dispatch match < examples/match.txt";
 

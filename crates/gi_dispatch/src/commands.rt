@@ -1,7 +1,7 @@
-ghost use Rattle.std.specs.Prelude.{◌≡◌, ◌≢◌, ◌⊎◌, IfErr, IfSome, IsErrAnd, OnOk, Err, map};
+ghost use Rattle.std.specs.Prelude.{◌≡◌, ◌≢◌, ◌⊎◌, [], IfErr, IfSome, IsErrAnd, OnOk, Err, map};
 ghost use Rattle.std.specs.Io.KnownBytes.{Keeps};
 ghost use Rattle.clap.specs.Words.{kind_of};
-ghost use Rattle.gi_dispatch.specs.CommandLine.{IsMistaken, MeansMatch};
+ghost use Rattle.gi_dispatch.specs.CommandLine.{AsksForHelp, IsMistaken, objections};
 ghost use Rattle.gi_dispatch.specs.Match.{Answers, IsFirstFault};
 
 use crate::answer::answer;
@@ -73,8 +73,9 @@ fn explain<W: Write, E: Write>(said: &Error, output: &mut W, errors: &mut E) -> 
 }
 
 /// Does what the words ask for, the first being the program's own name, and answers the fault, if
-/// any. A fault is one line on `errors`, and nothing on `output`, unless a writer fails: that is
-/// `Write`, after all other faults.
+/// any. Words that `clap` objects to nothing in ask for `match`. A fault is one line on `errors`
+/// (a wrong command line has `clap`'s text there) and nothing on `output`, unless a writer fails:
+/// that is `Write`, after all other faults.
 pub fn dispatch<S: AsStr, R: Read, W: Write, E: Write>(
     alloc: Global,
     words: &[S],
@@ -82,13 +83,15 @@ pub fn dispatch<S: AsStr, R: Read, W: Write, E: Write>(
     output: &mut W,
     errors: &mut E,
 ) -> Result<(), Fault>
-    ensures done { MeansMatch (map S.text words.now) → OnOk result (IfSome (R.remaining input.old)
+    ensures done { objections (map S.text words.now) ≡ [] → OnOk result (IfSome (R.remaining input.old)
         (λ bytes. Answers bytes (W.contents output.old) (W.contents output.new))) }
     ensures silent { OnOk result (Keeps (E.contents errors.old) (E.contents errors.new)) }
     ensures nothing { IfErr result (λ fault. fault ≢ Fault.Write →
         Keeps (W.contents output.old) (W.contents output.new)) }
-    ensures first { MeansMatch (map S.text words.now) → IfErr result (λ fault.
+    ensures first { objections (map S.text words.now) ≡ [] → IfErr result (λ fault.
         IfSome (R.remaining input.old) (λ bytes. IsFirstFault bytes fault)) }
+    ensures taught { AsksForHelp (map S.text words.now) →
+        IfErr result (λ fault. (fault ≡ Fault.Write) ⊎ (fault ≡ Fault.OutOfMemory)) }
     ensures mistaken { IsMistaken (map S.text words.now) →
         IsErrAnd result (λ fault. (fault ≡ Fault.CommandLine) ⊎ (fault ≡ Fault.OutOfMemory)) }
 {

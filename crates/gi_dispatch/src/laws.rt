@@ -1,9 +1,10 @@
-//! What holds of all inputs of `match`. This function does nothing; its clauses are the laws.
-ghost use Rattle.gi_dispatch.specs.Laws.{HasNoAnswer, HasOneAnswer, HasOneFault};
+//! What holds of all inputs and words. These functions do nothing; their clauses are the laws.
+ghost use Rattle.gi_dispatch.specs.Laws.{HasNoAnswer, HasOneAnswer, HasOneFault, MatchIsTaken};
 
 use gi_messages::reads_spelling;
 
-/// Want of memory aside, an input has exactly one of one answer and one fault at most.
+/// Want of memory aside, an input has one answer at most, none where it is refused, and one fault
+/// at most.
 pub fn one_outcome()
     ensures answer { HasOneAnswer }
     ensures refused { HasNoAnswer }
@@ -11,3 +12,8 @@ pub fn one_outcome()
 {
     reads_spelling();
 }
+
+/// The program's name, alone or with the word `match`, is a right command line.
+pub fn match_is_taken()
+    ensures { MatchIsTaken }
+{}

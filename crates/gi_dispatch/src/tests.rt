@@ -77,7 +77,7 @@ fn refused(input: &'static [&'static str], fault: Fault, errors: &'static [&'sta
     }
 }
 
-/// Runs the cases.
+/// Whether a run goes as the case says.
 fn holds(alloc: Global, case: &Case) -> Result<bool, AllocError> {
     let input = text_of(alloc, case.input)?;
     let mut bytes = input.as_bytes();

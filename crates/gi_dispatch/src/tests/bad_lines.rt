@@ -5,7 +5,7 @@ use std::alloc::{AllocError, Global};
 use std::test::Fail;
 
 /// A part of the order's line, what stands in its place, and the name of the fault.
-const CHANGES: [(&str, &str, &str); 38] = [
+const CHANGES: [(&str, &str, &str); 47] = [
     (r#"{"kind""#, r#"{kind"#, "NotJson"),
     (r#"]}]}"#, r#"]}"#, "NotJson"),
     (r#"{"kind":"DELORD","#, "{", "UnknownKind"),
@@ -48,6 +48,27 @@ const CHANGES: [(&str, &str, &str); 38] = [
     ("10", "10.0", "Field hours"),
     ("10", "-1", "Field hours"),
     ("10", "1000000000000", "Field hours"),
+    (
+        r#""processed":["#,
+        r#""processed":7,"rows":["#,
+        "Field processed",
+    ),
+    (
+        r#""initiating":"A""#,
+        r#""initiating":7"#,
+        "Field initiating",
+    ),
+    (
+        r#""initiating":"A""#,
+        r#""initiating":"a""#,
+        "Field initiating",
+    ),
+    (r#""matching":"B","#, "", "Field matching"),
+    (r#""matching":"B""#, r#""matching":null"#, "Field matching"),
+    (r#""direction":"IM","#, "", "Field direction"),
+    (r#""direction":"IM""#, r#""direction":1"#, "Field direction"),
+    ("[10,20]", "7", "Field hours"),
+    ("[10,20]", r#"["10",20]"#, "Field hours"),
 ];
 
 /// Whether `match` refuses these two lines with this line on the errors, and no output.

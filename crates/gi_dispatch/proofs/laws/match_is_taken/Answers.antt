@@ -1,0 +1,12 @@
+use Rattle.std.proofs.Common.{◌≡◌, ap, List, [], ℕ, inl, inr}
+use Rattle.clap.proofs.OnLiterals.{clap_on_literals}
+use Rattle.gi_dispatch.specs.CommandLine.{MeansMatch, objections}
+use Rattle.gi_dispatch.proofs.laws.match_is_taken.Goals as goal
+
+no_objection : (words : List (List ℕ)) → MeansMatch words → objections words ≡ []
+unfolding clap_on_literals
+no_objection words (program, inl alone) = ap objections alone
+no_objection words (program, inr named) = ap objections named
+
+pub returns : goal.returns
+returns c = no_objection
