@@ -7,7 +7,7 @@ ghost use Rattle.gi_dispatch.specs.Match.{Answers, IsFirstFault};
 use crate::answer::answer;
 use crate::command_line::{Request, requested};
 use crate::fault::Fault;
-use crate::input::read_input;
+use crate::input::{Calls, read_input};
 use clap::Error;
 use clap::error::ErrorKind;
 use std::alloc::Global;
@@ -27,7 +27,7 @@ fn match_tables<R: Read, W: Write>(
     ensures first { IfErr result (λ fault. IfSome (R.remaining input.old) (λ bytes.
         IsFirstFault bytes fault)) }
 {
-    let bytes = read_input(alloc, input)?;
+    let bytes = read_input(alloc, input, &mut Calls::none())?;
     let text = answer(alloc, bytes.as_slice())?;
     match output.write_all(text.as_slice()) {
         Ok(()) => Ok(()),
