@@ -1,2 +1,6 @@
+mod CycleLemmas
 mod DayLemmas
+mod DayRange
+mod ZoneLemmas
+pub mod DayFacts
 pub mod DayLaws

@@ -1,2 +1,6 @@
+pub mod CalendarText
+pub mod Cycles
 pub mod Day
+pub mod FrameKept
 pub mod Read
+pub mod Zone

@@ -97,6 +97,14 @@ impl GasDay {
             Err(DayFault::DayRange)
         }
     }
+
+    /// The date.
+    pub(crate) fn date(self) -> Date
+        ensures date { result ≡ self }
+        ensures year { IsGasYear result.year }
+    {
+        self.date
+    }
 }
 
 impl fmt::Display for GasDay {

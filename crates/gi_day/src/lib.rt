@@ -1,8 +1,12 @@
-//! Gas days: the calendar dates on which gas days are named, read and printed.
+//! Gas days: their dates, read and printed, their hours and their nomination cycles.
 #![tactic(auto)]
 
+mod calendar;
+mod day_frame;
 mod gas_day;
 
+pub use calendar::{Calendar, CalendarFault};
+pub use day_frame::{DayFrame, NoSuchCycle};
 pub use gas_day::{DayFault, GasDay};
 
 #[cfg(test)]

@@ -1,3 +1,5 @@
+mod frames;
+
 use super::*;
 use std::test::Fail;
 
