@@ -34,3 +34,5 @@ own_refused input first second order fault.TooLarge lines spelled refused = absu
 own_refused input first second order fault.Lines lines spelled refused = absurd refused
 own_refused input first second order fault.ShapeDiffers lines spelled refused = absurd refused
 own_refused input first second order fault.Write lines spelled refused = absurd refused
+own_refused input first second order (fault.Day why) lines spelled refused = absurd refused
+own_refused input first second order (fault.Calendar why) lines spelled refused = absurd refused

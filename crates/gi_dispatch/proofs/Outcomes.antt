@@ -73,6 +73,8 @@ module _ (reads : ReadsSpelling) where
   fault_is input fault.Read memory refused = absurd refused
   fault_is input fault.TooLarge memory refused = absurd refused
   fault_is input fault.Write memory refused = absurd refused
+  fault_is input (fault.Day why) memory refused = absurd refused
+  fault_is input (fault.Calendar why) memory refused = absurd refused
 
   -- two readings of one input are one
   same_tables : (input : List ℕ) (order own order' own' : Delord) → SpellsTables input order own

@@ -1,6 +1,7 @@
--- What holds of all inputs of `match`.
-use Rattle.std.specs.Prelude.{◌≡◌, ◌≢◌, ℕ, List, []}
-use Rattle.gi_dispatch.specs.CommandLine.{MeansMatch, objections}
+-- What holds of all inputs of `match`, and of words.
+use Rattle.std.specs.Prelude.{◌≡◌, ◌≢◌, ℕ, List, [], ◌∷◌, codes}
+use Rattle.clap.specs.declared.error.kind.ErrorKind.TheVariants.{MissingRequiredArgument}
+use Rattle.gi_dispatch.specs.CommandLine.{AsksForHours, AsksForMatch, MeansHours, MeansMatch, objections}
 use Rattle.gi_dispatch.specs.Match.{IsAnswer, IsRefused}
 use Rattle.gi_dispatch.specs.declared.fault.Fault.{Fault}
 use Rattle.gi_dispatch.specs.declared.fault.Fault.TheVariants.{OutOfMemory}
@@ -18,6 +19,14 @@ abbrev pub HasOneFault : Type 0
 HasOneFault = (input : List ℕ) (why other : Fault) → why ≢ OutOfMemory → other ≢ OutOfMemory
     → IsRefused input why → IsRefused input other → why ≡ other
 
--- to the program's name, alone or with the word `match`, nothing is objected
+-- to the program's name, alone or with the word `match`, nothing is objected, and it asks for `match`
 abbrev pub MatchIsTaken : Type 0
-MatchIsTaken = (words : List (List ℕ)) → MeansMatch words → objections words ≡ []
+MatchIsTaken = (words : List (List ℕ)) → MeansMatch words → (objections words ≡ []) × AsksForMatch words
+
+-- to the program's name with the word `hours` and a day, nothing is objected, and it asks for the hours of that day;
+-- without a day, it is the day that is missing
+abbrev pub HoursIsTaken : Type 0
+HoursIsTaken = (words : List (List ℕ)) (day : List ℕ) → MeansHours words day → (objections words ≡ []) × AsksForHours words day
+
+abbrev pub HoursNeedADay : Type 0
+HoursNeedADay = (program : List ℕ) → objections (program ∷ codes "hours" ∷ []) ≡ MissingRequiredArgument ∷ []

@@ -1,6 +1,9 @@
 pub mod CommandLine
 pub mod Fault
+pub mod Hours
 pub mod Input
+pub mod LineText
 pub mod Lines
 pub mod Match
+pub mod Request
 pub mod Laws

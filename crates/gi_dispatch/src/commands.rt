@@ -1,12 +1,14 @@
-ghost use Rattle.std.specs.Prelude.{◌≡◌, ◌≢◌, ◌⊎◌, [], IfErr, IfSome, IsErrAnd, OnOk, Err, map};
+ghost use Rattle.std.specs.Prelude.{◌≡◌, ◌≢◌, ◌⊎◌, ℕ, List, [], IfErr, IfSome, IsErrAnd, OnOk, Err, map};
 ghost use Rattle.std.specs.Io.KnownBytes.{Keeps};
 ghost use Rattle.clap.specs.Words.{kind_of};
-ghost use Rattle.gi_dispatch.specs.CommandLine.{AsksForHelp, IsMistaken, objections};
+ghost use Rattle.gi_dispatch.specs.CommandLine.{AsksForHelp, AsksForHours, AsksForMatch, IsMistaken, objections};
+ghost use Rattle.gi_dispatch.specs.Hours.{IsFirstHoursFault, TellsHours};
 ghost use Rattle.gi_dispatch.specs.Match.{Answers, IsFirstFault};
 
 use crate::answer::answer;
 use crate::command_line::{Request, requested};
 use crate::fault::Fault;
+use crate::hours::hours_text;
 use crate::input::{Calls, read_input};
 use clap::Error;
 use clap::error::ErrorKind;
@@ -35,6 +37,20 @@ fn match_tables<R: Read, W: Write>(
     }
 }
 
+/// Writes the hours and cycles of a day.
+fn tell_hours<W: Write>(alloc: Global, day: &str, output: &mut W) -> Result<(), Fault>
+    ensures done { OnOk result (TellsHours day.now (W.contents output.old) (W.contents output.new)) }
+    ensures nothing { IfErr result (λ fault. fault ≢ Fault.Write →
+        Keeps (W.contents output.old) (W.contents output.new)) }
+    ensures first { IfErr result (IsFirstHoursFault day.now) }
+{
+    let text = hours_text(alloc, day)?;
+    match output.write_all(text.as_bytes()) {
+        Ok(()) => Ok(()),
+        Err(_) => Err(Fault::Write),
+    }
+}
+
 /// Writes the one line that names the fault, where there is one. A writer that fails leaves it at
 /// that.
 pub fn reported<E: Write>(done: Result<(), Fault>, errors: &mut E) -> Result<(), Fault>
@@ -51,10 +67,12 @@ pub fn reported<E: Write>(done: Result<(), Fault>, errors: &mut E) -> Result<(),
 /// wrong with the words to the errors.
 fn explain<W: Write, E: Write>(said: &Error, output: &mut W, errors: &mut E) -> Result<(), Fault>
     ensures memory { kind_of said.now ≡ ErrorKind.OutOfMemory → result ≡ Err Fault.OutOfMemory }
-    ensures shown { (kind_of said.now ≡ ErrorKind.DisplayHelp)
-        ⊎ (kind_of said.now ≡ ErrorKind.DisplayVersion) → IfErr result (λ fault. fault ≡ Fault.Write) }
+    ensures gives_up { kind_of said.now ≢ ErrorKind.DisplayHelp → kind_of said.now ≢ ErrorKind.DisplayVersion
+        → IsErrAnd result (λ fault. (fault ≡ Fault.CommandLine) ⊎ (fault ≡ Fault.OutOfMemory)) }
     ensures mistake { kind_of said.now ≢ ErrorKind.OutOfMemory → kind_of said.now ≢ ErrorKind.DisplayHelp
         → kind_of said.now ≢ ErrorKind.DisplayVersion → result ≡ Err Fault.CommandLine }
+    ensures shown { (kind_of said.now ≡ ErrorKind.DisplayHelp)
+        ⊎ (kind_of said.now ≡ ErrorKind.DisplayVersion) → IfErr result (λ fault. fault ≡ Fault.Write) }
     ensures silent { OnOk result (Keeps (E.contents errors.old) (E.contents errors.new)) }
     ensures nothing { IfErr result (λ fault. fault ≢ Fault.Write →
         Keeps (W.contents output.old) (W.contents output.new)) }
@@ -73,9 +91,9 @@ fn explain<W: Write, E: Write>(said: &Error, output: &mut W, errors: &mut E) -> 
 }
 
 /// Does what the words ask for, the first being the program's own name, and answers the fault, if
-/// any. Words that `clap` objects to nothing in ask for `match`. A fault is one line on `errors`
-/// (a wrong command line has `clap`'s text there) and nothing on `output`, unless a writer fails:
-/// that is `Write`, after all other faults.
+/// any. Words in which `clap` objects to nothing ask for `hours` with a day, or else for `match`. A
+/// fault is one line on `errors` (a wrong command line has `clap`'s text there) and nothing on
+/// `output`, unless a writer fails: that is `Write`, after all other faults.
 pub fn dispatch<S: AsStr, R: Read, W: Write, E: Write>(
     alloc: Global,
     words: &[S],
@@ -83,13 +101,24 @@ pub fn dispatch<S: AsStr, R: Read, W: Write, E: Write>(
     output: &mut W,
     errors: &mut E,
 ) -> Result<(), Fault>
-    ensures done { objections (map S.text words.now) ≡ [] → OnOk result (IfSome (R.remaining input.old)
-        (λ bytes. Answers bytes (W.contents output.old) (W.contents output.new))) }
+    ensures matched { objections (map S.text words.now) ≡ [] → AsksForMatch (map S.text words.now) →
+        OnOk result (IfSome (R.remaining input.old) (λ bytes.
+        Answers bytes (W.contents output.old) (W.contents output.new))) }
+    ensures told { objections (map S.text words.now) ≡ [] → (day : List ℕ) → AsksForHours (map S.text words.now) day →
+        OnOk result (TellsHours day (W.contents output.old) (W.contents output.new)) }
     ensures silent { OnOk result (Keeps (E.contents errors.old) (E.contents errors.new)) }
     ensures nothing { IfErr result (λ fault. fault ≢ Fault.Write →
         Keeps (W.contents output.old) (W.contents output.new)) }
-    ensures first { objections (map S.text words.now) ≡ [] → IfErr result (λ fault.
-        IfSome (R.remaining input.old) (λ bytes. IsFirstFault bytes fault)) }
+    ensures first_of_match { objections (map S.text words.now) ≡ [] → AsksForMatch (map S.text words.now) →
+        IfErr result (λ fault. IfSome (R.remaining input.old) (λ bytes. IsFirstFault bytes fault)) }
+    ensures first_of_hours { objections (map S.text words.now) ≡ [] → (day : List ℕ) → AsksForHours (map S.text words.now) day →
+        IfErr result (IsFirstHoursFault day) }
+    // Only `match` reads.
+    ensures unread_by_hours { objections (map S.text words.now) ≡ [] → (day : List ℕ)
+        → AsksForHours (map S.text words.now) day
+        → Keeps (R.remaining input.old) (R.remaining input.new) }
+    ensures unread_where_refused { objections (map S.text words.now) ≢ []
+        → Keeps (R.remaining input.old) (R.remaining input.new) }
     ensures taught { AsksForHelp (map S.text words.now) →
         IfErr result (λ fault. (fault ≡ Fault.Write) ⊎ (fault ≡ Fault.OutOfMemory)) }
     ensures mistaken { IsMistaken (map S.text words.now) →
@@ -97,6 +126,7 @@ pub fn dispatch<S: AsStr, R: Read, W: Write, E: Write>(
 {
     match requested(alloc, words) {
         Ok(Request::Match) => reported(match_tables(alloc, input, output), errors),
+        Ok(Request::Hours(day)) => reported(tell_hours(alloc, day, output), errors),
         Err(said) => explain(&said, output, errors),
     }
 }

@@ -1,5 +1,6 @@
-ghost use Rattle.std.specs.Prelude.{◌≡◌};
+ghost use Rattle.std.specs.Prelude.{◌≡◌, ◌≢◌};
 
+use gi_day::{CalendarFault, DayFault};
 use gi_messages::MessageFault;
 use std::fmt;
 use thiserror::Error;
@@ -14,6 +15,11 @@ pub enum Line {
 }
 
 impl fmt::Display for Line {
+    ghost use Rattle.std.specs.Prelude.{Some};
+    ghost use Rattle.gi_dispatch.specs.LineText.{line_text};
+
+    ghost output = { λ line. Some (line_text line) };
+
     fn fmt<W: fmt::Write>(&self, f: &mut fmt::Formatter<W>) -> fmt::Result {
         f.write_str(match self {
             Line::Order => "order",
@@ -46,12 +52,30 @@ pub enum Fault {
     /// The tables are for another point, day or cycle, or for other hours.
     #[error("ShapeDiffers")]
     ShapeDiffers,
+    /// The word is no gas day.
+    #[error("{0}")]
+    Day(DayFault),
+    /// There is no calendar or no frame of the day: no run answers it.
+    #[error("Calendar {0}")]
+    Calendar(CalendarFault),
     /// A writer failed. It comes after all other faults.
     #[error("Write")]
     Write,
     /// An allocation was refused.
     #[error("OutOfMemory")]
     OutOfMemory,
+}
+
+impl From<CalendarFault> for Fault {
+    fn from(fault: CalendarFault) -> Fault
+        ensures memory { fault ≡ CalendarFault.OutOfMemory → result ≡ Fault.OutOfMemory }
+        ensures other { fault ≢ CalendarFault.OutOfMemory → result ≡ Fault.Calendar fault }
+    {
+        match fault {
+            CalendarFault::OutOfMemory => Fault::OutOfMemory,
+            _ => Fault::Calendar(fault),
+        }
+    }
 }
 
 impl Fault {

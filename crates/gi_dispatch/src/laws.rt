@@ -1,5 +1,5 @@
 //! What holds of all inputs and words. These functions do nothing; their clauses are the laws.
-ghost use Rattle.gi_dispatch.specs.Laws.{HasNoAnswer, HasOneAnswer, HasOneFault, MatchIsTaken};
+ghost use Rattle.gi_dispatch.specs.Laws.{HasNoAnswer, HasOneAnswer, HasOneFault, HoursIsTaken, HoursNeedADay, MatchIsTaken};
 
 use gi_messages::reads_spelling;
 
@@ -13,7 +13,14 @@ pub fn one_outcome()
     reads_spelling();
 }
 
-/// The program's name, alone or with the word `match`, is a right command line.
+/// The program's name, alone or with the word `match`, is a right command line, and asks for `match`.
 pub fn match_is_taken()
     ensures { MatchIsTaken }
+{}
+
+/// So is the program's name with the word `hours` and a word that starts as a day around the range
+/// does, and it asks for that day; without one, the day is missing.
+pub fn hours_is_taken()
+    ensures taken { HoursIsTaken }
+    ensures needs_a_day { HoursNeedADay }
 {}

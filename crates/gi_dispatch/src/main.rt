@@ -5,9 +5,11 @@ mod answer;
 mod command_line;
 mod commands;
 mod fault;
+mod hours;
 mod input;
 mod laws;
 mod lines;
+mod two_places;
 
 use commands::{dispatch, reported};
 use fault::Fault;

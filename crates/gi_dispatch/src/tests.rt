@@ -1,5 +1,6 @@
 //! The program from words and bytes to bytes: what it prints, and its faults in their order.
 mod bad_lines;
+mod days;
 mod streams;
 
 use crate::commands::dispatch;

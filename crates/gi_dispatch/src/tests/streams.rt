@@ -183,6 +183,7 @@ fn teaches(rt: HostRuntime) {
         ["gi_dispatch", "--help"].as_slice(),
         &["gi_dispatch", "help"],
         &["gi_dispatch", "match", "-h"],
+        &["gi_dispatch", "hours", "--help"],
     ] {
         let (result, output, errors) = said(rt.alloc(), words);
         assert!(rt; result == Ok(()));

@@ -1,16 +1,28 @@
-use Rattle.std.proofs.Common.{◌≡◌, ◌∙◌, ap, sym, refl, map, List, ℕ, true}
-use Rattle.clap.specs.Words.{App, app_of, fault_of, is_simple_and_free}
+use Rattle.std.proofs.Common.{◌≡◌, ◌∙◌, ap, sym, refl, map, List, ℕ, true, subst}
+use Rattle.clap.specs.Words.{App, app_of, fault_of, is_simple as is_simple_app, is_simple_and_free, subcommand_of}
 use Rattle.clap.proofs.OnLiterals.{clap_on_literals}
-use Rattle.gi_dispatch.specs.CommandLine.{the_program}
+use Rattle.gi_dispatch.specs.CommandLine.{Entered, the_program}
+use Rattle.gi_dispatch.specs.Request.{IsRequested}
 use Rattle.gi_dispatch.proofs.command_line.requested.Goals as goal
 
 is_simple : is_simple_and_free the_program ≡ true
 unfolding clap_on_literals
 is_simple = refl
 
-pub returns : goal.returns
-returns g c =
+is_plain : is_simple_app the_program ≡ true
+unfolding clap_on_literals
+is_plain = refl
+
+pub returns-clause-refused : goal.returns-clause-refused
+returns-clause-refused g c =
     let words : List (List ℕ) = map g.S.AsStr.text c.args.words.now in
     let program_is : app_of c.in_ok-program.program ≡ the_program = c.in_ok-program.ensures in
     ap (λ (a : App). fault_of a words) (sym program_is)
-    ∙ c.in_ok-try_get_matches_from.ensures.kinds (ap is_simple_and_free program_is ∙ is_simple)
+    ∙ c.in_ok-matches.ensures.kinds (ap is_simple_and_free program_is ∙ is_simple)
+
+pub returns-clause-asked : goal.returns-clause-asked
+returns-clause-asked g c =
+    let words : List (List ℕ) = map g.S.AsStr.text c.args.words.now in
+    let program_is : app_of c.in_ok-program.program ≡ the_program = c.in_ok-program.ensures in
+    let entered = (c.in_ok-matches.ensures.matches (ap is_simple_app program_is ∙ is_plain)).1 in
+    subst (λ (e : Entered). IsRequested e c.request_of.result) (entered ∙ ap (λ (a : App). subcommand_of a words) program_is) c.request_of.ensures
