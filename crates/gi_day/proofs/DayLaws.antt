@@ -17,6 +17,11 @@ use Rattle.gi_day.specs.declared.gas_day.DayFault.{DayFault}
 use Rattle.gi_day.specs.declared.gas_day.DayFault.TheVariants.{DayText, DayRange}
 use Rattle.gi_day.specs.Day.{IsGasYear, IsDayText, day_text}
 use Rattle.gi_day.specs.Read.{IsDayRead}
+use Rattle.gi_day.specs.SameDay.{same_day}
+use Rattle.jiff_core.specs.Date.{epoch_day}
+use Rattle.jiff_core.proofs.DateLemmas.{epoch_day_injective}
+use Rattle.std.specs.Bool.{Decides}
+use Rattle.std.proofs.lemmas.Bool.Decides.{Decides-int_eq}
 
 -- two dates of the same parts are one date
 same_date : (a b : Date) → date_parts a ≡ date_parts b → a ≡ b
@@ -40,6 +45,15 @@ one_day a b text here there =
     let read = sym (parse_date-date_text a) ∙ ap parse_date same ∙ parse_date-date_text b in
     let parts : date_parts a ≡ date_parts b = cc in
     same_date a b parts
+
+-- one day number is one day, and each day has its own
+pub same_day-Decides : (a b : Date) → Decides (same_day a b) (a ≡ b)
+same_day-Decides a b = (
+  λ is.
+      let parts = epoch_day_injective a b ((Decides-int_eq (epoch_day a) (epoch_day b)).0 is) in
+      one_day a b (date_text a) refl (rw (parts.0, parts.1, parts.2) refl),
+  λ same. (Decides-int_eq (epoch_day a) (epoch_day b)).1 (ap epoch_day same),
+)
 
 -- a gas day's text is a day's text
 pub is_text : (d : Date) → IsGasYear d.year → IsDayText d (day_text d)

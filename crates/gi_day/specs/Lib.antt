@@ -3,4 +3,5 @@ pub mod Cycles
 pub mod Day
 pub mod FrameKept
 pub mod Read
+pub mod SameDay
 pub mod Zone

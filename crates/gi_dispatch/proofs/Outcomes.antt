@@ -20,6 +20,9 @@ use Rattle.gi_dispatch.specs.declared.fault.Line.TheVariants.{Order, Own}
 -- the table of a line
 abbrev table_of : Line → Result Message MessageFault → Result Delord Fault
 table_of line (Ok (message.Delord table)) = Ok table
+table_of line (Ok (message.Nomint other)) = Err (fault.WrongKind line)
+table_of line (Ok (message.Acknow other)) = Err (fault.WrongKind line)
+table_of line (Ok (message.Nomres other)) = Err (fault.WrongKind line)
 table_of line (Ok (message.Delres other)) = Err (fault.WrongKind line)
 table_of line (Err why) = Err (fault.Message line why)
 
@@ -44,6 +47,9 @@ not_two (a ∷ b ∷ c ∷ more) none = refl
 other_kind : (line : Line) (m : Message) → ((table : Delord) → m ≡ message.Delord table → ⊥)
     → table_of line (Ok m) ≡ Err (fault.WrongKind line)
 other_kind line (message.Delord table) other = absurd (other table refl)
+other_kind line (message.Nomint found) other = refl
+other_kind line (message.Acknow found) other = refl
+other_kind line (message.Nomres found) other = refl
 other_kind line (message.Delres found) other = refl
 
 same_pair : (order own order' own' : Delord) → ◌≡◌ {A = Result (Delord × Delord) Fault} (Ok (order, own)) (Ok (order', own')) → (order ≡ order') × (own ≡ own')

@@ -24,6 +24,9 @@ fn table_on(alloc: Global, line: Line, bytes: &[u8]) -> Result<Delord, Fault>
 {
     match decode(alloc, bytes) {
         Ok(Message::Delord(table)) => Ok(table),
+        Ok(Message::Nomint(_)) => Err(Fault::WrongKind(line)),
+        Ok(Message::Acknow(_)) => Err(Fault::WrongKind(line)),
+        Ok(Message::Nomres(_)) => Err(Fault::WrongKind(line)),
         Ok(Message::Delres(_)) => Err(Fault::WrongKind(line)),
         Err(MessageFault::OutOfMemory) => Err(Fault::OutOfMemory),
         Err(fault) => Err(Fault::Message(line, fault)),

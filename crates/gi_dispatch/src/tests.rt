@@ -18,6 +18,15 @@ pub(crate) const OWN: &str =
 pub(crate) const RESPONSE: &str =
     r#"{"confirmed":[{"direction":"IM","hours":[10,15],"initiating":"A","matching":"B"},{"direction":"MI","hours":[0,0],"initiating":"A","matching":"C"}],"cycle":34,"day":"2026-01-15","first":23,"kind":"DELRES","last":24,"point":"BORDER-1","processed":[{"direction":"IM","hours":[12,15],"initiating":"A","matching":"B"},{"direction":"MI","hours":[5,5],"initiating":"A","matching":"C"}]}"#;
 
+const ACKNOW: &str =
+    r#"{"day":"2026-01-15","kind":"ACKNOW","point":"BORDER-1","portfolio":"A","version":1}"#;
+
+const NOMINT: &str =
+    r#"{"day":"2026-01-15","kind":"NOMINT","lines":[{"counterparty":"B","direction":"IM","hours":[10]}],"point":"BORDER-1","portfolio":"A","version":1}"#;
+
+const NOMRES: &str =
+    r#"{"cycle":35,"day":"2026-01-15","first":24,"kind":"NOMRES","last":24,"lines":[{"counterparty":"B","direction":"IM","hours":[7]}],"point":"BORDER-1","portfolio":"A"}"#;
+
 const OTHER_CYCLE: &str =
     r#"{"kind":"DELORD","point":"BORDER-1","day":"2026-01-15","cycle":33,"first":23,"last":24,"processed":[]}"#;
 
@@ -103,6 +112,21 @@ fn answers_and_refuses(rt: HostRuntime) -> Result<(), Fail> {
         refused(&["{", "{", "{"], Fault::Lines, &["gi_dispatch: Lines"]),
         refused(
             &[RESPONSE, "{"],
+            Fault::WrongKind(Line::Order),
+            &["gi_dispatch: order: WrongKind"],
+        ),
+        refused(
+            &[ACKNOW, "{"],
+            Fault::WrongKind(Line::Order),
+            &["gi_dispatch: order: WrongKind"],
+        ),
+        refused(
+            &[NOMINT, "{"],
+            Fault::WrongKind(Line::Order),
+            &["gi_dispatch: order: WrongKind"],
+        ),
+        refused(
+            &[NOMRES, "{"],
             Fault::WrongKind(Line::Order),
             &["gi_dispatch: order: WrongKind"],
         ),

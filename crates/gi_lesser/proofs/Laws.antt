@@ -1,8 +1,7 @@
 -- The lesser of two tables is one, and has their rows and the lower of their readings.
-use Rattle.std.proofs.Common.{◌≡◌, ℕ, zero, suc, ◌-◌, ◌≤◌, ◌&&◌, ◌==◌, ◌⊎◌, inl, inr, List, [], ◌∷◌, ◌++◌, length, map, filter, find, slice_index, min, not, nat_lt, nat_le, true, false, Bool, Ok, Option, Some, None, is_some, All, refl, sym, ap, ◌∙◌, arith, subst, if◌then◌else◌}
-use Rattle.std.specs.List.{list_any, range_with_len}
+use Rattle.std.proofs.Common.{◌≡◌, ℕ, zero, suc, ◌-◌, ◌≤◌, ◌&&◌, ◌==◌, ◌⊎◌, inl, inr, List, [], ◌∷◌, length, map, filter, find, slice_index, min, not, nat_lt, nat_le, true, false, Bool, Ok, Option, Some, None, is_some, All, refl, sym, ap, ◌∙◌, arith, subst, if◌then◌else◌}
+use Rattle.std.specs.List.{range_with_len}
 use Rattle.std.specs.Ordering.{is_eq}
-use Rattle.std.proofs.lemmas.Bool.{or_parts}
 use Rattle.std.proofs.lemmas.Bool.Decides.{nat_tests, Decides-eqb}
 use Rattle.std.proofs.lemmas.List.{length-append, length-map}
 use Rattle.std.proofs.lemmas.List.Elements.{All-head, All-tail, All-cons, All-nil}
@@ -23,39 +22,13 @@ use Rattle.gi_pairs.proofs.Reading.{find_all, reading-found, reading-missed, rea
 use Rattle.gi_pairs.proofs.Refusals.{accepted, are_whole, is_table}
 use Rattle.gi_pairs.proofs.TableLaws.{in_order-permutation}
 use Rattle.gi_lesser.specs.Lesser.{HasShapeOf, IsLesser, has_row, keys_of_both, lacks, lesser_of, lesser_row}
-use Rattle.gi_lesser.proofs.Members.{find_absent, find_member, find_present, found_is, from_append, from_filter, from_map, in_append_left, in_append_right, in_filter, in_map}
+use Rattle.gi_pairs.proofs.Members.{repeats_append, repeats_filter, find_absent, find_member, find_present, found_is, from_append, from_filter, from_map, in_append_left, in_append_right, in_filter, in_map}
 
 -- the key of a pair and a direction
 abbrev keyed : Pair → Direction → Key
 keyed pair direction = record { pair = pair; direction = direction }
 
 -- ---- no key stands twice
-
-none_in : (k : Key) (ks : List Key) → ((l : Key) → In l ks → is_eq (key_cmp k l) ≡ false) → list_any (λ other. is_eq (key_cmp k other)) ks ≡ false
-none_in k [] apart = refl
-none_in k (l ∷ ls) apart =
-    let here : is_eq (key_cmp k l) ≡ false = apart l (inl refl) in
-    rw here (none_in k ls (λ m h. apart m (inr h)))
-
-apart_in : (k : Key) (ks : List Key) → list_any (λ other. is_eq (key_cmp k other)) ks ≡ false → (l : Key) → In l ks → is_eq (key_cmp k l) ≡ false
-apart_in k [] e l h = absurd h
-apart_in k (m ∷ ms) e l (inl is) = ap (λ n. is_eq (key_cmp k n)) (sym is) ∙ (or_parts _ _ e).0
-apart_in k (m ∷ ms) e l (inr h) = apart_in k ms ((or_parts _ _ e).1) l h
-
-repeats_append : (xs ys : List Key) → repeats xs ≡ false → repeats ys ≡ false → ((k l : Key) → In k xs → In l ys → is_eq (key_cmp k l) ≡ false) → repeats (xs ++ ys) ≡ false
-repeats_append [] ys a b apart = b
-repeats_append (x ∷ xs) ys a b apart =
-    let here : list_any (λ other. is_eq (key_cmp x other)) (xs ++ ys) ≡ false =
-    none_in x (xs ++ ys) (λ l h. elim (from_append l xs ys h) [ inl k ↦ apart_in x xs ((or_parts _ _ a).0) l k | inr k ↦ apart x l (inl refl) k ]) in
-    rw here (repeats_append xs ys ((or_parts _ _ a).1) b (λ k l h. apart k l (inr h)))
-
-repeats_filter : (p : Key → Bool) (ks : List Key) → repeats ks ≡ false → repeats (filter p ks) ≡ false
-repeats_filter p [] e = refl
-repeats_filter p (k ∷ ks) e = kept (p k) (none_in k (filter p ks) (λ l h. apart_in k ks ((or_parts _ _ e).0) l (from_filter p l ks h).0)) (repeats_filter p ks ((or_parts _ _ e).1))
-  where
-    kept : (b : Bool) → list_any (λ other. is_eq (key_cmp k other)) (filter p ks) ≡ false → repeats (filter p ks) ≡ false → repeats (if b then k ∷ filter p ks else filter p ks) ≡ false
-    kept true none rest = rw none rest
-    kept false none rest = rest
 
 table-distinct : (t : TableContents) → IsTable t → repeats (keys_of t.rows) ≡ false
 table-distinct t table = repeats_from_distinct (keys_of t.rows) (IsDistinct-from_sorted key_cmp (keys_of t.rows) table.sorted)

@@ -4,15 +4,14 @@ use Rattle.std.specs.List.{range_with_len}
 use Rattle.std.proofs.lemmas.Bool.Decides.{nat_tests}
 use Rattle.std.proofs.lemmas.List.{map-append, take_more}
 use Rattle.std.proofs.lemmas.List.Elements.{filter-append}
-use Rattle.std.proofs.lemmas.List.FromFn.{map-range_with_len_more}
 use Rattle.gi_pairs.specs.Row.{key_of}
 use Rattle.gi_pairs.specs.Table.{TableContents, IsTable, covered, keys_of, reading}
 use Rattle.gi_pairs.specs.declared.key.Key.{Key}
 use Rattle.gi_pairs.specs.declared.row.Row.{Row}
-use Rattle.gi_pairs.proofs.Building.{In, in_from_contains}
+use Rattle.gi_pairs.proofs.Building.{In}
 use Rattle.gi_pairs.proofs.Reading.{reading-found}
 use Rattle.gi_lesser.specs.Lesser.{HasShapeOf, lesser_row, row_below}
-use Rattle.gi_lesser.proofs.Members.{find_member}
+use Rattle.gi_pairs.proofs.Members.{find_member}
 
 map_same : (f g : ℕ → ℕ) (a n : ℕ) → ((h : ℕ) → a ≤ h → h < a + n → f h ≡ g h) → map f (range_with_len a n) ≡ map g (range_with_len a n)
 map_same f g a zero same = refl
@@ -55,10 +54,6 @@ row_of_peer own peer row shape table h =
     (λ hour low high. min_flip (slice_index row.hours (hour - own.first)) (reading own row.pair row.direction hour) ∙ ap (min (reading own row.pair row.direction hour)) (sym (reads hour low high))) in
     λ i. record { pair = row.pair; direction = row.direction; hours = lowered i }
 
--- a row that was read stands among the rows
-pub in_read : (rows : List Row) (i : ℕ) (row : Row) → i < length rows → row ≡ get_or rows i row → In row rows
-in_read rows i row below is = in_from_contains row rows (i, below, sym is)
-
 taken_more : (xs : List Row) (i : ℕ) (x : Row) → i < length xs → x ≡ get_or xs i x → keys_of (take (i + 1) xs) ≡ keys_of (take i xs) ++ key_of x ∷ []
 taken_more xs i x below is =
     let more : take (i + 1) xs ≡ take i xs ++ x ∷ [] = take_more xs i x below ∙ ap (λ (y : Row). take i xs ++ y ∷ []) (sym is) in
@@ -86,12 +81,3 @@ peer_step f p xs i x r front items more below is made so_far pushed =
     ap (filter p) (taken_more xs i x below is) ∙ filter-append p (keys_of (take i xs)) (key_of x ∷ []) in
     pushed ∙ here ∙ append_assoc front (map f (filter p (keys_of (take i xs)))) (map f (if p (key_of x) then key_of x ∷ [] else []))
     ∙ ap (λ l. front ++ l) (sym (map-append f (filter p (keys_of (take i xs))) (if p (key_of x) then key_of x ∷ [] else [])) ∙ ap (map f) (sym keys))
-
--- one more hour
-pub hour_step : (f : ℕ → ℕ) (first hour quantity : ℕ) (items more : List ℕ) → first ≤ hour → items ≡ map f (range_with_len first (hour - first)) → quantity ≡ f hour
-    → more ≡ items ++ quantity ∷ [] → more ≡ map f (range_with_len first (hour + 1 - first))
-hour_step f first hour quantity items more low so_far lowered pushed =
-    let here : items ++ quantity ∷ [] ≡ map f (range_with_len first (hour - first)) ++ f hour ∷ [] = λ i. so_far i ++ lowered i ∷ [] in
-    let next = map-range_with_len_more f first (hour - first) hour (omega arith) in
-    let count : hour - first + 1 ≡ hour + 1 - first = omega arith in
-    pushed ∙ here ∙ sym next ∙ ap (λ n. map f (range_with_len first n)) count

@@ -1,5 +1,6 @@
 -- A reader answers exactly what stands in the relation.
 use Rattle.std.proofs.Common.{◌≡◌, ℕ, ◌≤◌, Bool, true, false, cond, ◌&&◌, nat_le, List, [], ◌∷◌, length, Option, Some, None, option_and_then, Ok, Err, refl, ap, ◌∙◌, subst, leb-true, le-leb, suc}
+use Rattle.std.specs.List.{AllByRecursion}
 use Rattle.std.proofs.lemmas.Bool.{and_parts}
 use Rattle.std.proofs.lemmas.Option.{option_and_then_some}
 use Rattle.serde_json.specs.Data.{Data, null, boolean, number, string, array, object, unsigned, negative, float, Items, no_items, item}
@@ -152,3 +153,17 @@ items_takes key d ds e =
 pub items_again : {X : Type 0} (Stands : Data → X → Type 0) (key : Key) (d : Data) (xs : List X) (h : Has (AreElements Stands) key d xs) → reading.items key d ≡ Ok h.stands.elements
 unfolding reading.items
 items_again Stands key d xs h = ap (λ o. wanted key o >>= λ v. wanted key (as_array v)) (h.found ∙ ap Some h.stands.written)
+
+pub Reads-array : {X : Type 0} (key : Key) (read : Data → Read X) (Stands : Data → X → Type 0) → Reads read Stands → Reads (λ d. reading.items key d >>= each read) (Has (AreElements Stands) key)
+Reads-array key read Stands r = record {
+  takes = λ d xs e.
+      let b = bind_ok (reading.items key d) (each read) xs e in
+      record { value = array b.0; found = items_takes key d b.0 b.1; stands = record { elements = b.0; written = refl; each = each_takes read Stands r b.0 xs b.2 } };
+  again = λ d xs h. ap (λ (s : Read Items). s >>= each read) (items_again Stands key d xs h) ∙ each_again read Stands r h.stands.elements xs h.stands.each;
+}
+
+-- what follows for each element holds of all
+pub all_of_each : {X : Type 0} (Stands : Data → X → Type 0) (P : X → Type 0) → ((d : Data) (x : X) → Stands d x → P x) → (ds : Items) (xs : List X) → Each Stands ds xs → AllByRecursion P xs
+all_of_each Stands P f ds [] h = tt
+all_of_each Stands P f no_items (x ∷ xs) h = absurd h
+all_of_each Stands P f (item d ds) (x ∷ xs) h = (f d x h.0, all_of_each Stands P f ds xs h.1)

@@ -4,7 +4,13 @@ pub mod FieldLemmas
 pub mod DateLemmas
 pub mod NameLemmas
 pub mod Elements
+pub mod HoursLemmas
 pub mod RowLemmas
+pub mod LineLemmas
 pub mod TableLemmas
+pub mod NominationLemmas
+pub mod OrderLemmas
 pub mod MessageLemmas
+pub mod WrittenParts
+pub mod WrittenKinds
 pub mod WritingLemmas

@@ -1,10 +1,9 @@
 -- A table is read exactly where it stands in the relation.
-use Rattle.std.proofs.Common.{◌≡◌, ℕ, ◌≤◌, Bool, true, false, cond, List, [], ◌∷◌, Some, Result, Ok, Err, refl, sym, ap, ◌∙◌, subst, le-ltb, ltb-false, All, nat_lt}
-use Rattle.std.specs.List.{AllByRecursion}
+use Rattle.std.proofs.Common.{◌≡◌, ℕ, ◌≤◌, Bool, true, false, cond, List, Some, Result, Ok, Err, refl, sym, ap, ◌∙◌, subst, le-ltb, ltb-false, All, nat_lt}
 use Rattle.std.specs.Result.{result_ok}
 use Rattle.std.specs.List.Sorted.{IsPermutation}
 use Rattle.std.proofs.lemmas.List.Elements.{All-from_recursion}
-use Rattle.serde_json.specs.Data.{Data, array, Items, no_items, item}
+use Rattle.serde_json.specs.Data.{Data, array, Items}
 use Rattle.serde_json.specs.Events.{items_len}
 use Rattle.gi_pairs.specs.Code.{IsCode}
 use Rattle.gi_pairs.specs.Quantity.{IsQuantity}
@@ -15,31 +14,25 @@ use Rattle.gi_pairs.specs.declared.row.Row.{Row}
 use Rattle.gi_pairs.specs.declared.table.TableFault.{TableFault}
 use Rattle.gi_pairs.proofs.TableLaws.{in_order-permutation, built-contents, built-is_table, built-again}
 use Rattle.gi_messages.specs.declared.key.Key.{Key}
-use Rattle.gi_messages.specs.Grammar.{Has, IsText, NamesCode, IsWhole, Each, IsRowFor, HasRows, HasTable}
+use Rattle.gi_messages.specs.declared.key.Key.TheVariants as keys
+use Rattle.gi_messages.specs.Grammar.{Has, IsText, NamesCode, IsWhole, AreElements, IsRowFor, HasRows, HasTable}
 use Rattle.gi_messages.specs.Reading.{Read, ◌>>=◌, wanted, each, items, row, rows_of, table}
-use Rattle.gi_messages.proofs.FieldLemmas.{bind_ok, wanted_ok, each_takes, each_again, items_len-Each, items_takes, items_again}
+use Rattle.gi_messages.proofs.FieldLemmas.{bind_ok, wanted_ok, each_takes, each_again, items_len-Each, items_takes, items_again, all_of_each}
 use Rattle.gi_messages.proofs.RowLemmas.{Reads-row}
 
 -- ---- rows that stand in the relation are rows of codes and quantities
 
-is_code : (key : Key) (d : Data) (code : List ℕ) → Has (IsText NamesCode) key d code → IsCode code
+pub is_code : (key : Key) (d : Data) (code : List ℕ) → Has (IsText NamesCode) key d code → IsCode code
 is_code key d code h = subst IsCode h.stands.names.1 h.stands.names.0
 
-are_quantities : (ds : Items) (hs : List ℕ) → Each (IsWhole 0 most_quantity) ds hs → AllByRecursion IsQuantity hs
-are_quantities ds [] h = tt
-are_quantities no_items (n ∷ hs) h = absurd h
-are_quantities (item d ds) (n ∷ hs) h = (h.0.to, are_quantities ds hs h.1)
+pub are_quantities : (d : Data) (hs : List ℕ) → Has (AreElements (IsWhole 0 most_quantity)) keys.Hours d hs → All IsQuantity hs
+are_quantities d hs h = All-from_recursion IsQuantity hs (all_of_each (IsWhole 0 most_quantity) IsQuantity (λ e n is. is.to) h.stands.elements hs h.stands.each)
 
 pub IsRow-IsRowFor : (count : ℕ) (d : Data) (r : Row) → IsRowFor count d r → IsRow r
 IsRow-IsRowFor count d r h = record {
   key = record { initiating = is_code _ d r.pair.initiating h.initiating; matching = is_code _ d r.pair.matching h.matching };
-  quantities = All-from_recursion IsQuantity r.hours (are_quantities h.quantities.stands.elements r.hours h.quantities.stands.each);
+  quantities = are_quantities d r.hours h.quantities;
 }
-
-are_rows : (count : ℕ) (ds : Items) (rs : List Row) → Each (IsRowFor count) ds rs → AllByRecursion IsRow rs
-are_rows count ds [] h = tt
-are_rows count no_items (r ∷ rs) h = absurd h
-are_rows count (item d ds) (r ∷ rs) h = (IsRow-IsRowFor count d r h.0, are_rows count ds rs h.1)
 
 -- ---- the table that they make
 
@@ -80,7 +73,7 @@ module _ (key : Key) (most first last : ℕ) (d : Data) (t : TableContents) wher
         rows = b.0;
         array = record { value = array a.0; found = items_takes key d a.0 a.1; stands = record { elements = a.0; written = refl; each = all } };
         few = subst (λ n. n ≤ most) as_many (ltb-false most (items_len a.0) g.0);
-        makes = makes first last b.0 t (All-from_recursion IsRow b.0 (are_rows count a.0 b.0 all)) is_built;
+        makes = makes first last b.0 t (All-from_recursion IsRow b.0 (all_of_each (IsRowFor count) IsRow (IsRow-IsRowFor count) a.0 b.0 all)) is_built;
       }
 
   pub table_again : HasTable most first last key d t → table key most first last d ≡ Ok t

@@ -3,11 +3,15 @@ use Rattle.std.specs.Prelude.{◌≡◌, ℕ, List, length, nat_lt, Option, Some
 use Rattle.serde_json.specs.Data.{Data}
 use Rattle.serde_json.specs.Find.{get, as_str}
 use Rattle.gi_pairs.specs.Limits.{last_hour, most_processed_rows, most_rows}
-use Rattle.gi_messages.specs.declared.key.Key.TheVariants.{Point, Day, Cycle, First, Last, Processed, Confirmed}
+use Rattle.gi_pairs.specs.Table.{covered}
+use Rattle.gi_messages.specs.declared.key.Key.TheVariants.{Point, Portfolio, Day, Version, Cycle, First, Last, Processed, Confirmed}
 use Rattle.gi_messages.specs.declared.key.Key.TheVariants as keys
 use Rattle.gi_messages.specs.declared.kind.Kind.{Kind}
 use Rattle.gi_messages.specs.declared.kind.Kind.TheVariants as kinds
-use Rattle.gi_messages.specs.Limits.{most_bytes, last_cycle}
+use Rattle.gi_messages.specs.Limits.{most_bytes, last_cycle, last_version}
+use Rattle.gi_messages.specs.declared.message.Nomint.{Nomint}
+use Rattle.gi_messages.specs.declared.message.Acknow.{Acknow}
+use Rattle.gi_messages.specs.declared.message.Nomres.{Nomres}
 use Rattle.gi_messages.specs.declared.message.Delord.{Delord}
 use Rattle.gi_messages.specs.declared.message.Delres.{Delres}
 use Rattle.gi_messages.specs.declared.message.Message.{Message}
@@ -17,9 +21,37 @@ use Rattle.gi_messages.specs.declared.message_fault.MessageFault.TheVariants as 
 use Rattle.gi_messages.specs.Json.{json_of}
 use Rattle.gi_messages.specs.Key.{key_text}
 use Rattle.gi_messages.specs.Kind.{kind_named}
-use Rattle.gi_messages.specs.Reading.{Read, ◌>>=◌, code, day, number, table}
+use Rattle.gi_messages.specs.Reading.{Read, ◌>>=◌, code, day, number, lines, table}
 
 -- the fields of each kind, in their order
+unfoldable pub nomint : Data → Read Nomint
+nomint d = do
+  point ← code Point d
+  portfolio ← code Portfolio d
+  date ← day Day d
+  version ← number 1 last_version Version d
+  lines ← lines None d
+  Ok (record { point = point; portfolio = portfolio; day = date; version = version; lines = lines })
+
+unfoldable pub acknow : Data → Read Acknow
+acknow d = do
+  point ← code Point d
+  portfolio ← code Portfolio d
+  date ← day Day d
+  version ← number 1 last_version Version d
+  Ok (record { point = point; portfolio = portfolio; day = date; version = version })
+
+unfoldable pub nomres : Data → Read Nomres
+nomres d = do
+  point ← code Point d
+  portfolio ← code Portfolio d
+  date ← day Day d
+  cycle ← number 0 last_cycle Cycle d
+  first ← number 1 last_hour First d
+  last ← number first last_hour Last d
+  lines ← lines (Some (covered first last)) d
+  Ok (record { point = point; portfolio = portfolio; day = date; cycle = cycle; first = first; last = last; lines = lines })
+
 unfoldable pub delord : Data → Read Delord
 delord d = do
   point ← code Point d
@@ -47,6 +79,9 @@ kind_of d = option_and_then kind_named (option_and_then as_str (get (key_text ke
 
 -- a message of the kind
 abbrev pub of_kind : Kind → Data → Read Message
+of_kind kinds.Nomint d = nomint d >>= λ m. Ok (messages.Nomint m)
+of_kind kinds.Acknow d = acknow d >>= λ m. Ok (messages.Acknow m)
+of_kind kinds.Nomres d = nomres d >>= λ m. Ok (messages.Nomres m)
 of_kind kinds.Delord d = delord d >>= λ m. Ok (messages.Delord m)
 of_kind kinds.Delres d = delres d >>= λ m. Ok (messages.Delres m)
 

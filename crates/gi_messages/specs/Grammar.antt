@@ -1,5 +1,5 @@
 -- Which JSON values stand for which messages, field by field and apart from how they are read.
-use Rattle.std.specs.Prelude.{◌≡◌, ℕ, ◌≤◌, List, [], ◌∷◌, length, Some}
+use Rattle.std.specs.Prelude.{◌≡◌, ℕ, ◌≤◌, List, [], ◌∷◌, length, All, Some}
 use Rattle.std.specs.List.Sorted.{IsPermutation}
 use Rattle.serde_json.specs.Data.{Data, number, unsigned, string, array, Items, no_items, item}
 use Rattle.serde_json.specs.Find.{get}
@@ -9,14 +9,18 @@ use Rattle.gi_pairs.specs.Code.{IsCode}
 use Rattle.gi_pairs.specs.Direction.{direction_text}
 use Rattle.gi_pairs.specs.Table.{TableContents, IsTable, covered}
 use Rattle.gi_pairs.specs.declared.direction.Direction.{Direction}
-use Rattle.gi_pairs.specs.Quantity.{most_quantity}
-use Rattle.gi_messages.specs.Limits.{most_bytes, last_cycle}
+use Rattle.gi_pairs.specs.Quantity.{IsQuantity, most_quantity}
+use Rattle.gi_messages.specs.Limits.{most_bytes, last_cycle, last_version}
 use Rattle.gi_pairs.specs.declared.row.Row.{Row}
 use Rattle.gi_pairs.specs.Limits.{last_hour, most_processed_rows, most_rows}
 use Rattle.gi_messages.specs.declared.key.Key.{Key}
 use Rattle.gi_messages.specs.declared.key.Key.TheVariants as keys
 use Rattle.gi_messages.specs.declared.kind.Kind.{Kind}
 use Rattle.gi_messages.specs.declared.kind.Kind.TheVariants as kinds
+use Rattle.gi_messages.specs.declared.line.Line.{Line}
+use Rattle.gi_messages.specs.declared.message.Nomint.{Nomint}
+use Rattle.gi_messages.specs.declared.message.Acknow.{Acknow}
+use Rattle.gi_messages.specs.declared.message.Nomres.{Nomres}
 use Rattle.gi_messages.specs.declared.message.Delord.{Delord}
 use Rattle.gi_messages.specs.declared.message.Delres.{Delres}
 use Rattle.gi_messages.specs.declared.message.Message.{Message}
@@ -89,6 +93,41 @@ pub record HasTable (most first last : ℕ) (key : Key) (d : Data) (t : TableCon
   pub few : length rows ≤ most
   pub makes : HasRows first last rows t
 
+-- a line: an object with a counterparty, a direction and quantities
+pub record IsLine (d : Data) (line : Line) : Type 0 where
+  pub counterparty : Has (IsText NamesCode) keys.Counterparty d line.counterparty
+  pub direction : Has (IsText NamesDirection) keys.Direction d line.direction
+  pub quantities : Has (AreElements (IsWhole 0 most_quantity)) keys.Hours d line.hours
+
+-- a line for so many hours: one quantity for each of them
+pub record IsLineFor (hours : ℕ) (d : Data) (line : Line) : Type 0 where
+  pub stands : IsLine d line
+  pub whole : length line.hours ≡ hours
+
+-- lines of any length, in the order in which they came
+pub record IsNomint (d : Data) (m : Nomint) : Type 0 where
+  pub point : Has (IsText NamesCode) keys.Point d m.point
+  pub portfolio : Has (IsText NamesCode) keys.Portfolio d m.portfolio
+  pub day : Has (IsText NamesDay) keys.Day d m.day
+  pub version : Has (IsWhole 1 last_version) keys.Version d m.version
+  pub lines : Has (AreElements IsLine) keys.Lines d m.lines
+
+pub record IsAcknow (d : Data) (m : Acknow) : Type 0 where
+  pub point : Has (IsText NamesCode) keys.Point d m.point
+  pub portfolio : Has (IsText NamesCode) keys.Portfolio d m.portfolio
+  pub day : Has (IsText NamesDay) keys.Day d m.day
+  pub version : Has (IsWhole 1 last_version) keys.Version d m.version
+
+-- each line is for the hours of the message
+pub record IsNomres (d : Data) (m : Nomres) : Type 0 where
+  pub point : Has (IsText NamesCode) keys.Point d m.point
+  pub portfolio : Has (IsText NamesCode) keys.Portfolio d m.portfolio
+  pub day : Has (IsText NamesDay) keys.Day d m.day
+  pub cycle : Has (IsWhole 0 last_cycle) keys.Cycle d m.cycle
+  pub first : Has (IsWhole 1 last_hour) keys.First d m.first
+  pub last : Has (IsWhole m.first last_hour) keys.Last d m.last
+  pub lines : Has (AreElements (IsLineFor (covered m.first m.last))) keys.Lines d m.lines
+
 pub record IsDelord (d : Data) (m : Delord) : Type 0 where
   pub point : Has (IsText NamesCode) keys.Point d m.point
   pub day : Has (IsText NamesDay) keys.Day d m.day
@@ -113,6 +152,9 @@ IsOfKind kind d = get (key_text keys.Kind) d ≡ Some (string (kind_text kind))
 
 -- the value stands for the message; keys that no field has mean nothing
 abbrev pub IsMessage : Data → Message → Type 0
+IsMessage d (messages.Nomint m) = IsOfKind kinds.Nomint d × IsNomint d m
+IsMessage d (messages.Acknow m) = IsOfKind kinds.Acknow d × IsAcknow d m
+IsMessage d (messages.Nomres m) = IsOfKind kinds.Nomres d × IsNomres d m
 IsMessage d (messages.Delord m) = IsOfKind kinds.Delord d × IsDelord d m
 IsMessage d (messages.Delres m) = IsOfKind kinds.Delres d × IsDelres d m
 
@@ -127,7 +169,39 @@ pub record Spells (bytes : List ℕ) (m : Message) : Type 0 where
 abbrev pub IsWritable : Message → Type 0
 IsWritable m = (d : Data) × IsMessage d m
 
--- A message that can be written: a code, a gas day, a cycle of it, and tables of not too many rows, for the same hours.
+-- a line that can be written: its counterparty is a code, and its hours are quantities
+pub record FitsLine (line : Line) : Type 0 where
+  pub counterparty : IsCode line.counterparty
+  pub quantities : All IsQuantity line.hours
+
+-- A message that can be written: codes, a gas day, a version or a cycle of it, lines, each for the hours of the message where it names hours, and tables
+-- of not too many rows, for the same hours.
+pub record FitsNomint (m : Nomint) : Type 0 where
+  pub point : IsCode m.point
+  pub portfolio : IsCode m.portfolio
+  pub day : IsGasYear m.day.year
+  pub from : 1 ≤ m.version
+  pub to : m.version ≤ last_version
+  pub lines : All FitsLine m.lines
+
+pub record FitsAcknow (m : Acknow) : Type 0 where
+  pub point : IsCode m.point
+  pub portfolio : IsCode m.portfolio
+  pub day : IsGasYear m.day.year
+  pub from : 1 ≤ m.version
+  pub to : m.version ≤ last_version
+
+pub record FitsNomres (m : Nomres) : Type 0 where
+  pub point : IsCode m.point
+  pub portfolio : IsCode m.portfolio
+  pub day : IsGasYear m.day.year
+  pub cycle : m.cycle ≤ last_cycle
+  pub begins : 1 ≤ m.first
+  pub ordered : m.first ≤ m.last
+  pub ends : m.last ≤ last_hour
+  pub lines : All FitsLine m.lines
+  pub whole : All (λ l. length l.hours ≡ covered m.first m.last) m.lines
+
 pub record FitsDelord (m : Delord) : Type 0 where
   pub point : IsCode m.point
   pub day : IsGasYear m.day.year
@@ -146,5 +220,8 @@ pub record FitsDelres (m : Delres) : Type 0 where
   pub ends : m.confirmed.last ≡ m.processed.last
 
 abbrev pub Fits : Message → Type 0
+Fits (messages.Nomint m) = FitsNomint m
+Fits (messages.Acknow m) = FitsAcknow m
+Fits (messages.Nomres m) = FitsNomres m
 Fits (messages.Delord m) = FitsDelord m
 Fits (messages.Delres m) = FitsDelres m

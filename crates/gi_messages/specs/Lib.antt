@@ -4,6 +4,7 @@ pub mod Limits
 pub mod Json
 pub mod Dates
 pub mod Names
+pub mod Lines
 pub mod Reading
 pub mod Fault
 pub mod Decoding

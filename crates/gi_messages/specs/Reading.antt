@@ -10,7 +10,8 @@ use Rattle.gi_pairs.specs.declared.row.Row.{Row}
 use Rattle.gi_pairs.specs.Table.{TableContents, covered, built}
 use Rattle.gi_pairs.specs.Quantity.{most_quantity}
 use Rattle.gi_messages.specs.declared.key.Key.{Key}
-use Rattle.gi_messages.specs.declared.key.Key.TheVariants.{Initiating, Matching, Direction as DirectionKey, Hours}
+use Rattle.gi_messages.specs.declared.key.Key.TheVariants.{Lines, Counterparty, Initiating, Matching, Direction as DirectionKey, Hours}
+use Rattle.gi_messages.specs.declared.line.Line.{Line}
 use Rattle.gi_messages.specs.declared.fault.FieldFault.{FieldFault}
 use Rattle.gi_messages.specs.declared.fault.FieldFault.TheVariants as fault
 use Rattle.gi_messages.specs.Key.{key_text}
@@ -97,11 +98,12 @@ each f (item d ds) = do
   xs ← each f ds
   Ok (x ∷ xs)
 
--- one quantity for each of so many hours
-unfoldable pub quantities : ℕ → Items → Read (List ℕ)
-quantities count ds = if items_len ds == count then each (whole 0 most_quantity Hours) ds else Err Hours
+-- one quantity for each of so many hours, or any number of quantities where none is asked for
+abbrev pub quantities : Option ℕ → Items → Read (List ℕ)
+quantities None ds = each (whole 0 most_quantity Hours) ds
+quantities (Some count) ds = if items_len ds == count then each (whole 0 most_quantity Hours) ds else Err Hours
 
-unfoldable pub hours : ℕ → Data → Read (List ℕ)
+unfoldable pub hours : Option ℕ → Data → Read (List ℕ)
 hours count d = do
   ds ← items Hours d
   quantities count ds
@@ -113,7 +115,7 @@ row array_key count d =
       initiating ← code Initiating d
       matching ← code Matching d
       direction ← direction DirectionKey d
-      hours ← hours count d
+      hours ← hours (Some count) d
       Ok (record { pair = record { initiating = initiating; matching = matching }; direction = direction; hours = hours }))
     else Err array_key
 
@@ -127,3 +129,19 @@ table key limit first last d = do
   ds ← items key d
   rows ← rows_of key limit (covered first last) ds
   wanted key (result_ok (built first last rows))
+
+-- a line; an element that is no object is wrong under `lines`
+unfoldable pub line : Option ℕ → Data → Read Line
+line count d =
+    if is_some (as_object d) then (do
+      counterparty ← code Counterparty d
+      direction ← direction DirectionKey d
+      hours ← hours count d
+      Ok (record { counterparty = counterparty; direction = direction; hours = hours }))
+    else Err Lines
+
+-- the lines, in the order in which they came
+unfoldable pub lines : Option ℕ → Data → Read (List Line)
+lines count d = do
+  ds ← items Lines d
+  each (line count) ds

@@ -1,4 +1,4 @@
--- The one JSON text that is written for a message: its keys in byte order, and its rows in table order.
+-- The one JSON text that is written for a message: its keys in byte order, its lines in their order and its rows in table order.
 use Rattle.std.specs.Prelude.{ℕ, List, map}
 use Rattle.serde_json.specs.Data.{Data, number, unsigned, string, array, object, no_members, member}
 use Rattle.serde_json.specs.View.{items_of}
@@ -8,6 +8,10 @@ use Rattle.gi_pairs.specs.Direction.{direction_text}
 use Rattle.gi_pairs.specs.declared.row.Row.{Row}
 use Rattle.gi_messages.specs.declared.key.Key.TheVariants as keys
 use Rattle.gi_messages.specs.declared.kind.Kind.TheVariants as kinds
+use Rattle.gi_messages.specs.declared.line.Line.{Line}
+use Rattle.gi_messages.specs.declared.message.Nomint.{Nomint}
+use Rattle.gi_messages.specs.declared.message.Acknow.{Acknow}
+use Rattle.gi_messages.specs.declared.message.Nomres.{Nomres}
 use Rattle.gi_messages.specs.declared.message.Delord.{Delord}
 use Rattle.gi_messages.specs.declared.message.Delres.{Delres}
 use Rattle.gi_messages.specs.declared.message.Message.{Message}
@@ -29,6 +33,30 @@ row_data r =
 abbrev pub rows_data : List Row → Data
 rows_data rs = array (items_of (map row_data rs))
 
+unfoldable pub line_data : Line → Data
+line_data l =
+    object (member (key_text keys.Counterparty) (string l.counterparty) (member (key_text keys.Direction) (string (direction_text l.direction))
+    (member (key_text keys.Hours) (whole_numbers l.hours) no_members)))
+
+abbrev pub lines_data : List Line → Data
+lines_data ls = array (items_of (map line_data ls))
+
+unfoldable pub nomint_data : Nomint → Data
+nomint_data m =
+    object (member (key_text keys.Day) (string (day_text m.day)) (member (key_text keys.Kind) (string (kind_text kinds.Nomint)) (member (key_text keys.Lines) (lines_data m.lines)
+    (member (key_text keys.Point) (string m.point) (member (key_text keys.Portfolio) (string m.portfolio) (member (key_text keys.Version) (whole m.version) no_members))))))
+
+unfoldable pub acknow_data : Acknow → Data
+acknow_data m =
+    object (member (key_text keys.Day) (string (day_text m.day)) (member (key_text keys.Kind) (string (kind_text kinds.Acknow)) (member (key_text keys.Point) (string m.point)
+    (member (key_text keys.Portfolio) (string m.portfolio) (member (key_text keys.Version) (whole m.version) no_members)))))
+
+unfoldable pub nomres_data : Nomres → Data
+nomres_data m =
+    object (member (key_text keys.Cycle) (whole m.cycle) (member (key_text keys.Day) (string (day_text m.day)) (member (key_text keys.First) (whole m.first)
+    (member (key_text keys.Kind) (string (kind_text kinds.Nomres)) (member (key_text keys.Last) (whole m.last) (member (key_text keys.Lines) (lines_data m.lines)
+    (member (key_text keys.Point) (string m.point) (member (key_text keys.Portfolio) (string m.portfolio) no_members))))))))
+
 unfoldable pub delord_data : Delord → Data
 delord_data m =
     object (member (key_text keys.Cycle) (whole m.cycle) (member (key_text keys.Day) (string (day_text m.day)) (member (key_text keys.First) (whole m.processed.first)
@@ -42,6 +70,9 @@ delres_data m =
     (member (key_text keys.Processed) (rows_data m.processed.rows) no_members))))))))
 
 abbrev pub data_of : Message → Data
+data_of (messages.Nomint m) = nomint_data m
+data_of (messages.Acknow m) = acknow_data m
+data_of (messages.Nomres m) = nomres_data m
 data_of (messages.Delord m) = delord_data m
 data_of (messages.Delres m) = delres_data m
 

@@ -5,20 +5,93 @@ ghost use Rattle.serde_json.specs.View.{view};
 ghost use Rattle.gi_messages.specs.Reading as reading;
 ghost use Rattle.gi_messages.specs.declared.message.Message.{Message};
 ghost use Rattle.gi_messages.specs.Grammar.{Spells};
-ghost use Rattle.gi_messages.specs.Limits.{most_bytes};
-ghost use Rattle.gi_messages.specs.Decoding.{Gives, delord, delres, kind_of, of_kind, decoded};
+ghost use Rattle.gi_messages.specs.declared.key.Key.TheVariants.{Version};
+ghost use Rattle.gi_messages.specs.Limits.{most_bytes, last_version};
+ghost use Rattle.gi_messages.specs.Decoding.{Gives, nomint, acknow, nomres, delord, delres, kind_of, of_kind, decoded};
 
 use crate::fault::FieldFault;
 use crate::fields::{code, day, number};
 use crate::json_text::json;
 use crate::key::Key;
 use crate::kind::{Kind, kind_named};
-use crate::message::{Delord, Delres, LAST_CYCLE, MOST_BYTES, Message};
+use crate::line_reading::lines;
+use crate::message::{
+    Acknow, Delord, Delres, LAST_CYCLE, LAST_VERSION, MOST_BYTES, Message, Nomint, Nomres,
+};
 use crate::message_fault::MessageFault;
 use crate::rows::table;
 use gi_pairs::{LAST_HOUR, MOST_PROCESSED_ROWS, MOST_ROWS};
 use serde_json::Value;
 use std::alloc::Global;
+
+/// The version of a nomination.
+fn version(object: &Value) -> Result<u32, Key>
+    ensures { result ≡ reading.number 1 last_version Version (view object.now) }
+{
+    let version = number(object, Key::Version, 1, u64::from(LAST_VERSION))?;
+    Ok(version as u32)
+}
+
+/// The NOMINT that an object is.
+#[tactic(auto, unfolding(crate::specs::Decoding::nomint))]
+fn nomint(alloc: Global, object: &Value) -> Result<Nomint, FieldFault>
+    ensures { reading.Gives (λ found. found) result (nomint (view object.now)) }
+{
+    let point = code(object, Key::Point)?;
+    let portfolio = code(object, Key::Portfolio)?;
+    let day = day(object, Key::Day)?;
+    let version = version(object)?;
+    let lines = lines(alloc, object, None)?;
+    Ok(Nomint {
+        point,
+        portfolio,
+        day,
+        version,
+        lines,
+    })
+}
+
+/// The ACKNOW that an object is.
+#[tactic(auto, unfolding(crate::specs::Decoding::acknow))]
+fn acknow(object: &Value) -> Result<Acknow, FieldFault>
+    ensures { reading.Gives (λ found. found) result (acknow (view object.now)) }
+{
+    let point = code(object, Key::Point)?;
+    let portfolio = code(object, Key::Portfolio)?;
+    let day = day(object, Key::Day)?;
+    let version = version(object)?;
+    Ok(Acknow {
+        point,
+        portfolio,
+        day,
+        version,
+    })
+}
+
+/// The NOMRES that an object is.
+#[tactic(auto, unfolding(crate::specs::Decoding::nomres))]
+fn nomres(alloc: Global, object: &Value) -> Result<Nomres, FieldFault>
+    ensures { reading.Gives (λ found. found) result (nomres (view object.now)) }
+{
+    let point = code(object, Key::Point)?;
+    let portfolio = code(object, Key::Portfolio)?;
+    let day = day(object, Key::Day)?;
+    let cycle = number(object, Key::Cycle, 0, u64::from(LAST_CYCLE))? as u8;
+    let first = number(object, Key::First, 1, u64::from(LAST_HOUR))?;
+    let last = number(object, Key::Last, first, u64::from(LAST_HOUR))? as u8;
+    let first = first as u8;
+    let count = usize::from(last) + 1 - usize::from(first);
+    let lines = lines(alloc, object, Some(count))?;
+    Ok(Nomres {
+        point,
+        portfolio,
+        day,
+        cycle,
+        first,
+        last,
+        lines,
+    })
+}
 
 /// The DELORD that an object is.
 #[tactic(auto, unfolding(crate::specs::Decoding::delord))]
@@ -81,6 +154,9 @@ fn of_kind(alloc: Global, kind: Kind, object: &Value) -> Result<Message, FieldFa
     ensures { reading.Gives (λ found. found) result (of_kind kind (view object.now)) }
 {
     match kind {
+        Kind::Nomint => Ok(Message::Nomint(nomint(alloc, object)?)),
+        Kind::Acknow => Ok(Message::Acknow(acknow(object)?)),
+        Kind::Nomres => Ok(Message::Nomres(nomres(alloc, object)?)),
         Kind::Delord => Ok(Message::Delord(delord(alloc, object)?)),
         Kind::Delres => Ok(Message::Delres(delres(alloc, object)?)),
     }

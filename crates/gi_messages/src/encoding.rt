@@ -5,10 +5,11 @@ ghost use Rattle.serde_json.specs.View.{view};
 ghost use Rattle.gi_messages.specs.Decoding.{decoded};
 ghost use Rattle.gi_messages.specs.Grammar.{IsWritable};
 ghost use Rattle.gi_messages.specs.Limits.{most_bytes};
-ghost use Rattle.gi_messages.specs.Writing.{whole_numbers, row_data, rows_data, delord_data, delres_data, data_of, text_of};
+ghost use Rattle.gi_messages.specs.Writing.{whole_numbers, line_data, lines_data, row_data, rows_data, nomint_data, acknow_data, nomres_data, delord_data, delres_data, data_of, text_of};
 
 use crate::kind::Kind;
-use crate::message::{Delord, Delres, Message};
+use crate::line::Line;
+use crate::message::{Acknow, Delord, Delres, Message, Nomint, Nomres};
 use gi_pairs::{Quantity, Row};
 use serde_json::{Value, json};
 use std::alloc::{AllocError, Global};
@@ -47,6 +48,81 @@ fn rows_value(alloc: Global, rows: &[Row]) -> Result<Value, AllocError>
         values.push(row_value(alloc, row)?)?;
     }
     Ok(Value::Array(values))
+}
+
+/// The object of a line.
+#[tactic(auto, unfolding(crate::specs::Writing::line_data))]
+fn line_value(alloc: Global, line: &Line) -> Result<Value, AllocError>
+    ensures { IfOk result (λ value. view value ≡ line_data line.now) }
+{
+    let hours = quantities_value(alloc, line.hours.as_slice())?;
+    json!(in alloc; {
+        "counterparty": line.counterparty.as_str(),
+        "direction": line.direction.as_str(),
+        "hours": hours
+    })
+}
+
+/// The JSON array of the lines, in their order.
+fn lines_value(alloc: Global, lines: &[Line]) -> Result<Value, AllocError>
+    ensures { IfOk result (λ value. view value ≡ lines_data lines.now) }
+{
+    let mut values = Vec::with_capacity(alloc, lines.len())?;
+    for line in lines {
+        values.push(line_value(alloc, line)?)?;
+    }
+    Ok(Value::Array(values))
+}
+
+/// The object of a NOMINT.
+#[tactic(auto, unfolding(crate::specs::Writing::nomint_data))]
+fn nomint_value(alloc: Global, message: &Nomint) -> Result<Value, AllocError>
+    ensures { IfOk result (λ value. view value ≡ nomint_data message.now) }
+{
+    let day = message.day.to_string(alloc)?;
+    let lines = lines_value(alloc, message.lines.as_slice())?;
+    json!(in alloc; {
+        "day": day.as_str(),
+        "kind": Kind::Nomint.text(),
+        "lines": lines,
+        "point": message.point.as_str(),
+        "portfolio": message.portfolio.as_str(),
+        "version": message.version
+    })
+}
+
+/// The object of an ACKNOW.
+#[tactic(auto, unfolding(crate::specs::Writing::acknow_data))]
+fn acknow_value(alloc: Global, message: &Acknow) -> Result<Value, AllocError>
+    ensures { IfOk result (λ value. view value ≡ acknow_data message.now) }
+{
+    let day = message.day.to_string(alloc)?;
+    json!(in alloc; {
+        "day": day.as_str(),
+        "kind": Kind::Acknow.text(),
+        "point": message.point.as_str(),
+        "portfolio": message.portfolio.as_str(),
+        "version": message.version
+    })
+}
+
+/// The object of a NOMRES.
+#[tactic(auto, unfolding(crate::specs::Writing::nomres_data))]
+fn nomres_value(alloc: Global, message: &Nomres) -> Result<Value, AllocError>
+    ensures { IfOk result (λ value. view value ≡ nomres_data message.now) }
+{
+    let day = message.day.to_string(alloc)?;
+    let lines = lines_value(alloc, message.lines.as_slice())?;
+    json!(in alloc; {
+        "cycle": message.cycle,
+        "day": day.as_str(),
+        "first": message.first,
+        "kind": Kind::Nomres.text(),
+        "last": message.last,
+        "lines": lines,
+        "point": message.point.as_str(),
+        "portfolio": message.portfolio.as_str()
+    })
 }
 
 /// The object of a DELORD.
@@ -92,13 +168,16 @@ fn message_value(alloc: Global, message: &Message) -> Result<Value, AllocError>
     ensures { IfOk result (λ value. view value ≡ data_of message.now) }
 {
     match message {
+        Message::Nomint(nomint) => nomint_value(alloc, nomint),
+        Message::Acknow(acknow) => acknow_value(alloc, acknow),
+        Message::Nomres(nomres) => nomres_value(alloc, nomres),
         Message::Delord(delord) => delord_value(alloc, delord),
         Message::Delres(delres) => delres_value(alloc, delres),
     }
 }
 
-/// The one JSON text of the message, with its keys in byte order and its rows in table order. It
-/// fails only for want of memory.
+/// The one JSON text of the message, with its keys in byte order, its lines in their order and its
+/// rows in table order. It fails only for want of memory.
 pub fn encode(alloc: Global, message: &Message) -> Result<Vec<u8>, AllocError>
     ensures text { IfOk result (λ bytes. bytes.items ≡ text_of message.now) }
     // The message is read back, where the text is not too large.

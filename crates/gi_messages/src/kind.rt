@@ -4,6 +4,9 @@ ghost use Rattle.gi_messages.specs.Kind.{kind_text, kind_named};
 /// The kinds of messages.
 #[derive(Clone, Copy, Debug, PartialEq, Eq)]
 pub enum Kind {
+    Nomint,
+    Acknow,
+    Nomres,
     Delord,
     Delres,
 }
@@ -14,6 +17,9 @@ impl Kind {
         ensures { result.now ≡ kind_text self }
     {
         match self {
+            Kind::Nomint => "NOMINT",
+            Kind::Acknow => "ACKNOW",
+            Kind::Nomres => "NOMRES",
             Kind::Delord => "DELORD",
             Kind::Delres => "DELRES",
         }
@@ -26,6 +32,9 @@ pub fn kind_named(text: &str) -> Option<Kind>
     ensures { result ≡ kind_named text.now }
 {
     match text {
+        "NOMINT" => Some(Kind::Nomint),
+        "ACKNOW" => Some(Kind::Acknow),
+        "NOMRES" => Some(Kind::Nomres),
         "DELORD" => Some(Kind::Delord),
         "DELRES" => Some(Kind::Delres),
         _ => None,

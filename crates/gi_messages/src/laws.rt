@@ -12,8 +12,10 @@ pub fn reads_spelling()
     ensures { ReadsSpelling }
 {}
 
-/// A message is writable exactly where it has a code, a gas day, a cycle from 0 to 36, a processed
-/// table of at most 4,096 rows, and a confirmed table for the same hours.
+/// A message is writable exactly where its point, portfolio and counterparties are codes, its day a
+/// gas day, its version from 1 to 999,999,999, its cycle from 0 to 36 and its quantities in range;
+/// where the lines of a NOMRES are for its hours, a processed table has at most 4,096 rows, and a
+/// confirmed table is for the same hours.
 pub fn writable_exactly()
     ensures { IsWritableExactly }
 {}

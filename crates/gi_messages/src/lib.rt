@@ -9,16 +9,24 @@ mod json_text;
 mod key;
 mod kind;
 mod laws;
+mod line;
+mod line_reading;
+mod lines;
 mod message;
 mod message_fault;
 mod names;
+mod quantities;
 mod rows;
 
 pub use decoding::decode;
 pub use encoding::encode;
 pub use key::Key;
 pub use laws::{one_message, reads_spelling, round_trip, writable_exactly, writes_message};
-pub use message::{Delord, Delres, LAST_CYCLE, MOST_BYTES, Message};
+pub use line::Line;
+pub use lines::Lines;
+pub use message::{
+    Acknow, Delord, Delres, LAST_CYCLE, LAST_VERSION, MOST_BYTES, Message, Nomint, Nomres,
+};
 pub use message_fault::MessageFault;
 
 #[cfg(test)]

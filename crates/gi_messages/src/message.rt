@@ -1,3 +1,4 @@
+use crate::lines::Lines;
 use gi_day::GasDay;
 use gi_pairs::{Code, Table};
 
@@ -6,6 +7,47 @@ pub const MOST_BYTES: usize = 16_777_216;
 
 /// The highest number of a cycle.
 pub const LAST_CYCLE: u8 = 36;
+
+/// The highest version of a nomination.
+pub const LAST_VERSION: u32 = 999_999_999;
+
+/// What a shipper nominates: all lines of one portfolio for one gas day, in both directions. No
+/// lines at all withdraw what was nominated.
+#[derive(Debug, Drop)]
+pub struct Nomint {
+    pub point: Code,
+    pub portfolio: Code,
+    pub day: GasDay,
+    /// From 1 to 999,999,999.
+    pub version: u32,
+    pub lines: Lines,
+}
+
+/// What an operator answers when a nomination is recorded and saved.
+#[derive(Clone, Copy, Debug, PartialEq, Eq)]
+pub struct Acknow {
+    pub point: Code,
+    pub portfolio: Code,
+    pub day: GasDay,
+    /// That of the nomination, from 1 to 999,999,999.
+    pub version: u32,
+}
+
+/// What an operator tells a portfolio: its confirmed quantities of a cycle.
+#[derive(Debug, Drop)]
+pub struct Nomres {
+    pub point: Code,
+    pub portfolio: Code,
+    pub day: GasDay,
+    /// From 0 to 36.
+    pub cycle: u8,
+    /// The first hour that the lines cover, from 1.
+    pub first: u8,
+    /// The last hour that they cover, at most 25.
+    pub last: u8,
+    /// One quantity for each covered hour.
+    pub lines: Lines,
+}
 
 /// What the initiating operator sends to the matching one: its processed quantities of a cycle.
 #[derive(Debug, Drop)]
@@ -34,6 +76,9 @@ pub struct Delres {
 /// A message between the dispatch offices.
 #[derive(Debug, Drop)]
 pub enum Message {
+    Nomint(Nomint),
+    Acknow(Acknow),
+    Nomres(Nomres),
     Delord(Delord),
     Delres(Delres),
 }

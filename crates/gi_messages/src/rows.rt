@@ -2,50 +2,15 @@
 
 ghost use Rattle.std.specs.Prelude.{◌≡◌, ◌≤◌};
 ghost use Rattle.serde_json.specs.View.{view, items_view};
-ghost use Rattle.gi_pairs.specs.Quantity.{most_quantity};
-ghost use Rattle.gi_messages.specs.Reading.{Gives, each, whole, quantities, hours, row, rows_of, table};
-ghost use Rattle.gi_messages.specs.declared.key.Key.TheVariants.{Hours as HoursKey};
+ghost use Rattle.gi_messages.specs.Reading.{Gives, each, row, rows_of, table};
 
 use crate::fault::FieldFault;
-use crate::fields::{code, direction, items, whole};
+use crate::fields::{code, direction, items};
 use crate::key::Key;
-use gi_pairs::{Hours, Pair, Quantity, Row, Table};
+use crate::quantities::hours;
+use gi_pairs::{Pair, Row, Table};
 use serde_json::Value;
 use std::alloc::Global;
-
-/// The quantities of an array's elements.
-fn each_quantity(alloc: Global, elements: &[Value]) -> Result<Vec<Quantity>, FieldFault>
-    ensures { Gives (λ found. found.items) result (each (whole 0 most_quantity HoursKey) (items_view elements.now)) }
-{
-    let mut quantities = Vec::with_capacity(alloc, elements.len())?;
-    for element in elements {
-        quantities.push(quantity(element)?)?;
-    }
-    Ok(quantities)
-}
-
-/// A quantity, in kWh/h.
-fn quantity(element: &Value) -> Result<Quantity, Key>
-    ensures { result ≡ whole 0 most_quantity HoursKey (view element.now) }
-{
-    let value = whole(element, Key::Hours, 0, Quantity::MAX)?;
-    match Quantity::new(value) {
-        Ok(quantity) => Ok(quantity),
-        Err(_) => Err(Key::Hours),
-    }
-}
-
-/// One quantity for each of so many hours, at the key `hours`.
-#[tactic(auto, using(crate::proofs::Elements::lengths), unfolding(crate::specs::Reading::hours, crate::specs::Reading::quantities))]
-pub fn hours(alloc: Global, object: &Value, count: usize) -> Result<Hours, FieldFault>
-    ensures { Gives (λ found. found) result (hours count (view object.now)) }
-{
-    let elements = items(object, Key::Hours)?;
-    if elements.len() != count {
-        return Err(FieldFault::Wrong(Key::Hours));
-    }
-    Ok(Hours::from(each_quantity(alloc, elements)?))
-}
 
 /// A row for so many hours, from an element of the array at the key `array`.
 #[tactic(auto, unfolding(crate::specs::Reading::row))]
@@ -60,7 +25,7 @@ pub fn row(alloc: Global, element: &Value, array: Key, count: usize) -> Result<R
         matching: code(element, Key::Matching)?,
     };
     let direction = direction(element, Key::Direction)?;
-    let hours = hours(alloc, element, count)?;
+    let hours = hours(alloc, element, Some(count))?;
     Ok(Row {
         pair,
         direction,

@@ -1,4 +1,7 @@
+mod nominations;
+
 use super::*;
+use nominations::{ACKNOW, NOMINT, NOMRES};
 use std::test::Fail;
 
 const DELORD: &str =
@@ -9,7 +12,7 @@ const DELRES: &str =
 
 #[test]
 fn reads_and_writes(rt: HostRuntime) -> Result<(), Fail> {
-    for text in [DELORD, DELRES] {
+    for text in [NOMINT, ACKNOW, NOMRES, DELORD, DELRES] {
         let message = decode(rt.alloc(), text.as_bytes())?;
         assert_eq!(rt; encode(rt.alloc(), &message)?.as_slice(), text.as_bytes());
     }

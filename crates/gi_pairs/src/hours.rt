@@ -1,4 +1,7 @@
-ghost use Rattle.std.specs.Prelude.{◌≡◌, IfOk};
+ghost use Rattle.std.specs.Prelude.{◌≡◌, IfOk, nat_eq};
+ghost use Rattle.std.proofs.Common.{rules};
+ghost use Rattle.std.specs.Cmp.Rules.{comparing};
+ghost use Rattle.std.specs.Cmp.Lexicographic.{pointwise};
 
 use crate::quantity::Quantity;
 use std::alloc::AllocError;
@@ -58,4 +61,18 @@ impl Hours {
         let alloc = *self.quantities.allocator();
         Ok(Hours::from(Vec::from_slice(alloc, &self.quantities)?))
     }
+}
+
+impl PartialEq for Hours {
+    ghost eq = { pointwise nat_eq };
+
+    ghost laws = { Prim.search (comparing, rules) };
+
+    fn eq(&self, other: &Hours) -> bool {
+        self.as_slice() == other.as_slice()
+    }
+}
+
+impl Eq for Hours {
+    ghost laws = { Prim.search (comparing, rules) };
 }

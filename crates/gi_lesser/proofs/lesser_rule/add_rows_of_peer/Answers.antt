@@ -2,7 +2,8 @@ use Rattle.std.proofs.Common.{List, subst}
 use Rattle.gi_pairs.specs.declared.row.Row.{Row}
 use Rattle.gi_pairs.proofs.Building.{In}
 use Rattle.gi_lesser.specs.Lesser.{lacks, lesser_row, row_below}
-use Rattle.gi_lesser.proofs.Rows.{in_read, peer_step, row_of_peer}
+use Rattle.gi_pairs.proofs.Members.{in_read}
+use Rattle.gi_lesser.proofs.Rows.{peer_step, row_of_peer}
 use Rattle.gi_lesser.proofs.lesser_rule.add_rows_of_peer.Goals as goal
 
 pub loop-row-preserved : goal.loop-row-preserved

@@ -3,7 +3,7 @@ use Rattle.std.proofs.lemmas.List.Sorted.{answers_always}
 use Rattle.gi_pairs.specs.Row.{key_of}
 use Rattle.gi_pairs.specs.Table.{is_at}
 use Rattle.gi_pairs.specs.declared.row.Row.{Row}
-use Rattle.gi_lesser.proofs.Members.{search_tells}
+use Rattle.gi_pairs.proofs.Members.{search_tells}
 use Rattle.gi_lesser.proofs.lesser_rule.has_row.Goals as goal
 
 pub returns : goal.returns

@@ -1,7 +1,7 @@
 use Rattle.std.proofs.Common.{◌≡◌, ◌-◌, map, min, slice_index, arith, ap, ◌∙◌}
 use Rattle.std.specs.List.{range_with_len}
 use Rattle.gi_pairs.specs.Table.{covered, reading}
-use Rattle.gi_lesser.proofs.Rows.{hour_step}
+use Rattle.gi_pairs.proofs.Members.{hour_step}
 use Rattle.gi_lesser.proofs.lesser_rule.lesser_row.Goals as goal
 
 pub loop-hour-preserved : goal.loop-hour-preserved

@@ -2,7 +2,8 @@ use Rattle.std.proofs.Common.{List, subst, ◌∙◌}
 use Rattle.gi_pairs.specs.declared.row.Row.{Row}
 use Rattle.gi_pairs.proofs.Building.{In}
 use Rattle.gi_lesser.specs.Lesser.{lesser_row}
-use Rattle.gi_lesser.proofs.Rows.{in_read, own_step, row_of_own}
+use Rattle.gi_pairs.proofs.Members.{in_read}
+use Rattle.gi_lesser.proofs.Rows.{own_step, row_of_own}
 use Rattle.gi_lesser.proofs.lesser_rule.rows_of_own.Goals as goal
 
 pub loop-row-preserved : goal.loop-row-preserved

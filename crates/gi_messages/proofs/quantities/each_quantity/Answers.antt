@@ -6,7 +6,7 @@ use Rattle.gi_messages.specs.declared.key.Key.TheVariants.{Hours}
 use Rattle.gi_messages.specs.declared.fault.FieldFault.TheVariants as fault
 use Rattle.gi_messages.specs.Reading.{each, whole}
 use Rattle.gi_messages.proofs.Elements.{goes_on, ends, is_done}
-use Rattle.gi_messages.proofs.rows.each_quantity.Goals as goal
+use Rattle.gi_messages.proofs.quantities.each_quantity.Goals as goal
 
 pub returns-in_err-quantity : goal.returns-in_err-quantity
 returns-in_err-quantity c =

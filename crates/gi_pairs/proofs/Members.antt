@@ -1,16 +1,19 @@
 -- What stands in a list, through maps and filters, and which row is found.
-use Rattle.std.proofs.Common.{◌≡◌, ℕ, List, [], ◌∷◌, ◌++◌, length, map, filter, find, get_or, true, false, Bool, Some, None, Option, is_some, Result, Ok, Err, is_ok, arith, ◌⊎◌, inl, inr, refl, sym, ap, ◌∙◌, subst, if◌then◌else◌}
+use Rattle.std.proofs.Common.{◌≡◌, ℕ, ◌+◌, ◌-◌, ◌<◌, ◌≤◌, List, [], ◌∷◌, ◌++◌, length, map, filter, find, get_or, true, false, Bool, Some, None, Option, is_some, Result, Ok, Err, is_ok, arith, ◌⊎◌, inl, inr, refl, sym, ap, ◌∙◌, subst, if◌then◌else◌}
 use Rattle.std.specs.declared.cmp.Ordering.{Ordering}
 use Rattle.std.specs.declared.cmp.Ordering.TheVariants.{Less, Equal, Greater}
+use Rattle.std.specs.List.{list_any, range_with_len}
+use Rattle.std.proofs.lemmas.Bool.{or_parts}
 use Rattle.std.proofs.lemmas.List.{get_or_default}
+use Rattle.std.proofs.lemmas.List.FromFn.{map-range_with_len_more}
 use Rattle.std.specs.List.Sorted.{IsStrictlySortedBy, IsSearchInRange, IsBinarySearchResult}
 use Rattle.std.specs.Ordering.{is_eq}
 use Rattle.gi_pairs.specs.Key.{key_cmp}
 use Rattle.gi_pairs.specs.Row.{key_of}
-use Rattle.gi_pairs.specs.Table.{is_at, keys_of}
+use Rattle.gi_pairs.specs.Table.{is_at, keys_of, repeats}
 use Rattle.gi_pairs.specs.declared.key.Key.{Key}
 use Rattle.gi_pairs.specs.declared.row.Row.{Row}
-use Rattle.gi_pairs.proofs.Building.{In, contains_from_in}
+use Rattle.gi_pairs.proofs.Building.{In, contains_from_in, in_from_contains}
 use Rattle.gi_pairs.proofs.KeyOrder.{key_refl, key_same}
 use Rattle.gi_pairs.proofs.Reading.{find_found, find_missed, searchable}
 
@@ -105,3 +108,52 @@ search_tells (x ∷ xs) key (Ok i) sorted below equal =
     let found = find_found (x ∷ xs) key i (get_or (x ∷ xs) i x) sorted below (get_or_default (x ∷ xs) i x (get_or (x ∷ xs) i x) below) equal in
     sym (ap is_some found)
 search_tells rows key (Err i) sorted below point = sym (ap is_some (find_missed rows key i (point (searchable rows key sorted))))
+
+-- what was read of a list stands in it
+pub in_read : {X : Type 0} (xs : List X) (i : ℕ) (x : X) → i < length xs → x ≡ get_or xs i x → In x xs
+in_read xs i x below is = in_from_contains x xs (i, below, sym is)
+
+-- ---- keys that stand once
+
+none_in : (k : Key) (ks : List Key) → ((l : Key) → In l ks → is_eq (key_cmp k l) ≡ false) → list_any (λ other. is_eq (key_cmp k other)) ks ≡ false
+none_in k [] apart = refl
+none_in k (l ∷ ls) apart =
+    let here : is_eq (key_cmp k l) ≡ false = apart l (inl refl) in
+    rw here (none_in k ls (λ m h. apart m (inr h)))
+
+apart_in : (k : Key) (ks : List Key) → list_any (λ other. is_eq (key_cmp k other)) ks ≡ false → (l : Key) → In l ks → is_eq (key_cmp k l) ≡ false
+apart_in k [] e l h = absurd h
+apart_in k (m ∷ ms) e l (inl is) = ap (λ n. is_eq (key_cmp k n)) (sym is) ∙ (or_parts _ _ e).0
+apart_in k (m ∷ ms) e l (inr h) = apart_in k ms ((or_parts _ _ e).1) l h
+
+-- a key before keys that it is not one of
+pub repeats_cons : (k : Key) (ks : List Key) → ((l : Key) → In l ks → is_eq (key_cmp k l) ≡ false) → repeats ks ≡ false → repeats (k ∷ ks) ≡ false
+repeats_cons k ks apart rest = let here = none_in k ks apart in rw here rest
+
+-- two lists of keys that have none in common
+pub repeats_append : (xs ys : List Key) → repeats xs ≡ false → repeats ys ≡ false → ((k l : Key) → In k xs → In l ys → is_eq (key_cmp k l) ≡ false) → repeats (xs ++ ys) ≡ false
+repeats_append [] ys a b apart = b
+repeats_append (x ∷ xs) ys a b apart =
+    repeats_cons x (xs ++ ys)
+    (λ l h. elim (from_append l xs ys h) [ inl k ↦ apart_in x xs ((or_parts _ _ a).0) l k | inr k ↦ apart x l (inl refl) k ])
+    (repeats_append xs ys ((or_parts _ _ a).1) b (λ k l h. apart k l (inr h)))
+
+pub repeats_filter : (p : Key → Bool) (ks : List Key) → repeats ks ≡ false → repeats (filter p ks) ≡ false
+repeats_filter p [] e = refl
+repeats_filter p (k ∷ ks) e =
+    kept_key (p k) (λ l h. apart_in k ks ((or_parts _ _ e).0) l (from_filter p l ks h).0) (repeats_filter p ks ((or_parts _ _ e).1))
+  where
+    kept_key : (b : Bool) → ((l : Key) → In l (filter p ks) → is_eq (key_cmp k l) ≡ false) → repeats (filter p ks) ≡ false → repeats (if b then k ∷ filter p ks else filter p ks) ≡ false
+    kept_key true apart rest = repeats_cons k (filter p ks) apart rest
+    kept_key false apart rest = rest
+
+-- ---- one quantity for each hour
+
+-- one more hour
+pub hour_step : (f : ℕ → ℕ) (first hour quantity : ℕ) (items more : List ℕ) → first ≤ hour → items ≡ map f (range_with_len first (hour - first)) → quantity ≡ f hour
+    → more ≡ items ++ quantity ∷ [] → more ≡ map f (range_with_len first (hour + 1 - first))
+hour_step f first hour quantity items more low so_far lowered pushed =
+    let here : items ++ quantity ∷ [] ≡ map f (range_with_len first (hour - first)) ++ f hour ∷ [] = λ i. so_far i ++ lowered i ∷ [] in
+    let next = map-range_with_len_more f first (hour - first) hour (omega arith) in
+    let count : hour - first + 1 ≡ hour + 1 - first = omega arith in
+    pushed ∙ here ∙ sym next ∙ ap (λ n. map f (range_with_len first n)) count

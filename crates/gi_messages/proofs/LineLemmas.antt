@@ -1,0 +1,62 @@
+-- A line is read exactly where it stands in the relation.
+use Rattle.std.proofs.Common.{◌≡◌, ℕ, List, Option, Some, None, Ok, refl, subst}
+use Rattle.std.specs.Prelude.{is_some}
+use Rattle.serde_json.specs.Data.{Data}
+use Rattle.serde_json.specs.Find.{as_object}
+use Rattle.gi_pairs.specs.declared.direction.Direction.{Direction}
+use Rattle.gi_messages.specs.declared.key.Key.TheVariants as keys
+use Rattle.gi_messages.specs.declared.line.Line.{Line}
+use Rattle.gi_messages.specs.Key.{key_text}
+use Rattle.gi_messages.specs.Grammar.{Has, AreElements, IsLine, IsLineFor}
+use Rattle.gi_messages.specs.Reading.{◌>>=◌, code, direction, hours, line, lines}
+use Rattle.gi_messages.proofs.FieldLemmas.{Reads, bind_ok, Reads-code, Reads-direction, Reads-array}
+use Rattle.gi_messages.proofs.HoursLemmas.{guard_ok, ok_is, has_members, AsMany, hours_take, hours_again}
+
+made : List ℕ → Direction → List ℕ → Line
+made counterparty way hs = record { counterparty = counterparty; direction = way; hours = hs }
+
+line_takes : (count : Option ℕ) (d : Data) (l : Line) → line count d ≡ Ok l → IsLine d l × AsMany count l.hours
+unfolding line made
+line_takes count d l e =
+    let third = λ (a : List ℕ) (b : Direction). hours count d >>= λ hs. Ok (made a b hs) in
+    let second = λ (a : List ℕ). direction keys.Direction d >>= third a in
+    let g = guard_ok (is_some (as_object d)) (code keys.Counterparty d >>= second) keys.Lines l e in
+    let a = bind_ok (code keys.Counterparty d) second l g.1 in
+    let b = bind_ok (direction keys.Direction d) (third a.0) l a.2 in
+    let h = bind_ok (hours count d) (λ hs. Ok (made a.0 b.0 hs)) l b.2 in
+    let q = hours_take count d h.0 h.1 in
+    subst (λ (k : Line). IsLine d k × AsMany count k.hours) (ok_is (made a.0 b.0 h.0) l h.2) (
+      record {
+        counterparty = (Reads-code keys.Counterparty).takes d a.0 a.1;
+        direction = (Reads-direction keys.Direction).takes d b.0 b.1;
+        quantities = q.0;
+      },
+      q.1,
+    )
+
+line_again : (count : Option ℕ) (d : Data) (l : Line) → IsLine d l → AsMany count l.hours → line count d ≡ Ok l
+unfolding line
+line_again count d l h many =
+    rw (
+      has_members (key_text keys.Counterparty) d h.counterparty.value h.counterparty.found,
+      (Reads-code keys.Counterparty).again d l.counterparty h.counterparty,
+      (Reads-direction keys.Direction).again d l.direction h.direction,
+      hours_again count d l.hours h.quantities many,
+    ) refl
+
+Reads-line : Reads (line None) IsLine
+Reads-line = record { takes = λ d l e. (line_takes None d l e).0; again = λ d l h. line_again None d l h tt }
+
+Reads-line_for : (count : ℕ) → Reads (line (Some count)) (IsLineFor count)
+Reads-line_for count = record {
+  takes = λ d l e. let t = line_takes (Some count) d l e in record { stands = t.0; whole = t.1 };
+  again = λ d l h. line_again (Some count) d l h.stands h.whole;
+}
+
+pub Reads-lines : Reads (lines None) (Has (AreElements IsLine) keys.Lines)
+unfolding lines
+Reads-lines = Reads-array keys.Lines (line None) IsLine Reads-line
+
+pub Reads-lines_for : (count : ℕ) → Reads (lines (Some count)) (Has (AreElements (IsLineFor count)) keys.Lines)
+unfolding lines
+Reads-lines_for count = Reads-array keys.Lines (line (Some count)) (IsLineFor count) (Reads-line_for count)

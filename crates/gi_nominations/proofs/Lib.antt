@@ -1,0 +1,3 @@
+pub mod BookLaws
+pub mod JudgingLaws
+pub mod LinesLaws

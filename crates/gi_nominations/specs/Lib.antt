@@ -1,0 +1,5 @@
+pub mod FaultText
+pub mod Lines
+pub mod Book
+pub mod BookKept
+pub mod Judging

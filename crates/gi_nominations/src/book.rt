@@ -1,0 +1,135 @@
+ghost use Rattle.std.specs.Prelude.{◌≡◌, ℕ, List, [], Some, false, All, OnOk, OnErr};
+ghost use Rattle.std.specs.Option.{option_copied};
+ghost use Rattle.jiff_core.specs.declared.civil.date.Date.{Date};
+ghost use Rattle.gi_messages.specs.declared.message.Nomint.{Nomint};
+ghost use Rattle.gi_nominations.specs.Book.{in_force as in_force_of, is_of, with_document, IsNewer, IsUpTo};
+ghost use Rattle.gi_nominations.specs.declared.verdict.Verdict.TheVariants as Verdict;
+ghost use Rattle.gi_nominations.specs.Judging.{verdict, IsRecordable, IsRepeat, by_version as judged_by_version};
+
+use crate::judging::{is_over, lines_fault};
+use crate::nomination_fault::NominationFault;
+use crate::setting::Setting;
+use crate::verdict::Verdict;
+use gi_day::GasDay;
+use gi_messages::Nomint;
+use gi_pairs::Code;
+use std::alloc::{AllocError, Global};
+use std::marker::Model;
+
+/// The nominations that an operator has taken from its shippers at an interconnection point, in
+/// the order in which they were taken.
+#[derive(Debug, Drop)]
+pub struct Book {
+    point: Code,
+    documents: Vec<Nomint>,
+}
+
+impl Model for Book {
+    ghost use Rattle.gi_nominations.specs.Book.{Documents};
+
+    ghost Value = { Documents };
+
+    ghost use Rattle.gi_nominations.specs.BookKept.{book_of};
+
+    ghost view = { book_of };
+
+    ghost use Rattle.gi_nominations.specs.Book.{Rises};
+
+    ghost invariant = { λ book. Rises book.documents.items };
+}
+
+/// How a nomination is judged by the one in force.
+fn by_version(held: &Nomint, nomint: &Nomint) -> Verdict
+    ensures { result ≡ judged_by_version (Some held.now) nomint.now }
+{
+    let version = held.version;
+    if version < nomint.version {
+        return Verdict::Recordable;
+    }
+    if nomint.version < version {
+        return Verdict::Refused(NominationFault::Stale { held: version });
+    }
+    if nomint.lines == held.lines {
+        return Verdict::Repeat;
+    }
+    Verdict::Refused(NominationFault::Conflict { held: version })
+}
+
+/// The last of the documents that is of the portfolio and the gas day.
+#[tactic(auto, unfolding(crate::specs::Book::in_force))]
+fn last_of(documents: &[Nomint], portfolio: Code, day: GasDay) -> Option<&Nomint>
+    ensures { option_copied result ≡ in_force_of portfolio day documents.now }
+{
+    documents.iter().rev().find(|document| document.portfolio == portfolio && document.day == day)
+}
+
+impl Book {
+    /// The book of a point, without any document. It takes no memory.
+    pub fn new(alloc: Global, point: Code) -> Book
+        ensures { result ≡ record { point = point; documents = [] } }
+    {
+        Book {
+            point,
+            documents: Vec::new(alloc),
+        }
+    }
+
+    /// The nomination in force of a portfolio and a gas day: the last one taken of both.
+    pub fn in_force(&self, portfolio: Code, day: GasDay) -> Option<&Nomint>
+        ensures value { option_copied result ≡ in_force_of portfolio day self.now.documents }
+        // No document taken of both has a higher version.
+        ensures highest { (held : Nomint) → option_copied result ≡ Some held → All (IsUpTo portfolio day held) self.now.documents }
+    {
+        last_of(&self.documents, portfolio, day)
+    }
+
+    /// What becomes of a nomination: the first of the refusals whose condition holds, in their
+    /// order, else `Repeat` or `Recordable`. The frame is that of the nomination's gas day.
+    pub fn judge(&self, setting: &Setting, nomint: &Nomint) -> Verdict
+        requires { setting.now.frame ≡ nomint.now.day }
+        ensures value { result ≡ verdict self.now setting.now nomint.now }
+
+        // What is recordable has a proper form and can be taken, and a repeat has the version and
+        // the lines of the one in force.
+        ensures recordable { result ≡ Verdict.Recordable → IsRecordable self.now setting.now nomint.now }
+        ensures repeats { result ≡ Verdict.Repeat → IsRepeat self.now nomint.now }
+    {
+        self.verdict(setting, nomint)
+    }
+
+    /// The verdict on a nomination.
+    #[tactic(auto, unfolding(crate::specs::Judging::verdict))]
+    fn verdict(&self, setting: &Setting, nomint: &Nomint) -> Verdict
+        requires { setting.now.frame ≡ nomint.now.day }
+        ensures { result ≡ verdict self.now setting.now nomint.now }
+    {
+        if nomint.point != self.point {
+            return Verdict::Refused(NominationFault::WrongPoint);
+        }
+        if !setting.known {
+            return Verdict::Refused(NominationFault::UnknownPortfolio);
+        }
+        if let Some(fault) = lines_fault(nomint.lines.as_slice(), setting.frame.hours()) {
+            return Verdict::Refused(fault);
+        }
+        if is_over(setting.frame, setting.last_closed) {
+            return Verdict::Refused(NominationFault::DayOver);
+        }
+        match self.in_force(nomint.portfolio, nomint.day) {
+            Some(held) => by_version(held, nomint),
+            None => Verdict::Recordable,
+        }
+    }
+
+    /// Takes a nomination, which is from then on the one in force of its portfolio and gas day. Its
+    /// version is above that of the one in force. Where memory runs out the book stays as it was.
+    pub fn take(&mut self, nomint: Nomint) -> Result<(), AllocError>
+        requires newer { IsNewer self.now.documents nomint }
+        ensures taken { OnOk result (self.new ≡ with_document self.old nomint) }
+        ensures kept { OnErr result (self.new ≡ self.old) }
+        ensures held { OnOk result (in_force_of nomint.portfolio nomint.day self.new.documents ≡ Some nomint) }
+        ensures others { OnOk result ((portfolio : List ℕ) (day : Date) → is_of portfolio day nomint ≡ false → in_force_of portfolio day self.new.documents ≡ in_force_of portfolio day self.old.documents) }
+    {
+        self.documents.push(nomint).map_err(|_| AllocError)
+    }
+}

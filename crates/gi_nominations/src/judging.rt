@@ -1,0 +1,74 @@
+//! What of a nomination is judged without the book.
+
+ghost use Rattle.std.specs.Prelude.{◌≡◌};
+ghost use Rattle.gi_nominations.specs.Lines.{is_twin as is_twin_of, has_hours, has_twin, has_twins, lines_fault as fault_of_lines};
+ghost use Rattle.gi_nominations.specs.Judging.{is_over as is_day_over};
+
+use crate::nomination_fault::NominationFault;
+use gi_day::DayFrame;
+use gi_messages::Line;
+
+/// How many lines a nomination has at most.
+pub const MOST_LINES: usize = 64;
+
+/// Whether each line has so many hours.
+fn have_hours(lines: &[Line], hours: usize) -> bool
+    ensures { result ≡ has_hours hours lines.now }
+{
+    lines
+        .iter()
+        .all(|line| line.hours.as_slice().len() == hours)
+}
+
+/// Whether both lines are of one counterparty and direction.
+fn is_twin(line: &Line, other: &Line) -> bool
+    ensures { result ≡ is_twin_of line.now other.now }
+{
+    line.counterparty == other.counterparty && line.direction == other.direction
+}
+
+/// Whether one of the others is of the line's counterparty and direction.
+fn has_twin(line: &Line, others: &[Line]) -> bool
+    ensures { result ≡ has_twin line.now others.now }
+{
+    others.iter().any(|other| is_twin(line, other))
+}
+
+/// Whether two lines are of one counterparty and direction.
+fn have_twins(lines: &[Line]) -> bool
+    ensures { result ≡ has_twins lines.now }
+{
+    for i in 0..lines.len() {
+        if has_twin(&lines[i], &lines[i + 1..]) {
+            return true;
+        }
+    }
+    false
+}
+
+/// The first fault of the lines of a gas day that has so many hours.
+#[tactic(auto, unfolding(crate::specs::Lines::lines_fault))]
+pub fn lines_fault(lines: &[Line], hours: u8) -> Option<NominationFault>
+    ensures { result ≡ fault_of_lines hours lines.now }
+{
+    if !have_hours(lines, usize::from(hours)) {
+        return Some(NominationFault::HourCount);
+    }
+    if lines.len() > MOST_LINES {
+        return Some(NominationFault::TooManyLines);
+    }
+    if have_twins(lines) {
+        return Some(NominationFault::DuplicateLine);
+    }
+    None
+}
+
+/// Whether the last cycle of the gas day is closed.
+pub fn is_over(frame: DayFrame, last_closed: Option<u8>) -> bool
+    ensures { result ≡ is_day_over frame last_closed }
+{
+    match last_closed {
+        Some(cycle) => cycle >= frame.cycle_count() - 1,
+        None => false,
+    }
+}

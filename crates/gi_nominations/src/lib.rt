@@ -1,0 +1,17 @@
+//! Nominations: whether one is taken, and which one is in force.
+#![tactic(auto)]
+
+mod book;
+mod judging;
+mod nomination_fault;
+mod setting;
+mod verdict;
+
+pub use book::Book;
+pub use judging::MOST_LINES;
+pub use nomination_fault::NominationFault;
+pub use setting::Setting;
+pub use verdict::Verdict;
+
+#[cfg(test)]
+mod tests;

@@ -1,0 +1,45 @@
+use std::error::Error;
+use std::fmt;
+
+/// Why a nomination is refused, in the order in which this is judged.
+#[derive(Clone, Copy, Debug, PartialEq, Eq)]
+pub enum NominationFault {
+    /// It is for another interconnection point.
+    WrongPoint,
+    /// Its portfolio has no contract for its gas day.
+    UnknownPortfolio,
+    /// A line whose hours are not as many as the gas day's.
+    HourCount,
+    /// More than 64 lines.
+    TooManyLines,
+    /// Two lines of one counterparty and direction.
+    DuplicateLine,
+    /// The last cycle of its gas day is closed.
+    DayOver,
+    /// Its version is below the one in force.
+    Stale { held: u32 },
+    /// It has the version of the one in force, and other lines.
+    Conflict { held: u32 },
+}
+
+impl fmt::Display for NominationFault {
+    ghost use Rattle.std.specs.Prelude.{Some};
+    ghost use Rattle.gi_nominations.specs.FaultText.{fault_text};
+
+    ghost output = { λ fault. Some (fault_text fault) };
+
+    fn fmt<W: fmt::Write>(&self, f: &mut fmt::Formatter<W>) -> fmt::Result {
+        match self {
+            NominationFault::WrongPoint => f.write_str("WrongPoint"),
+            NominationFault::UnknownPortfolio => f.write_str("UnknownPortfolio"),
+            NominationFault::HourCount => f.write_str("HourCount"),
+            NominationFault::TooManyLines => f.write_str("TooManyLines"),
+            NominationFault::DuplicateLine => f.write_str("DuplicateLine"),
+            NominationFault::DayOver => f.write_str("DayOver"),
+            NominationFault::Stale { held } => write!(f, "Stale {held}"),
+            NominationFault::Conflict { held } => write!(f, "Conflict {held}"),
+        }
+    }
+}
+
+impl Error for NominationFault {}

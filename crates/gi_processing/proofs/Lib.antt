@@ -1,0 +1,10 @@
+mod Counterparties
+mod LastRecorded
+mod Portfolios
+mod ProcessingLaws
+mod ProcessingLemmas
+mod ProcessingRows
+mod Recorded
+pub mod ReductionLaws
+pub mod SoundLaws
+mod SumLemmas

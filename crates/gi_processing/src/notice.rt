@@ -1,0 +1,44 @@
+ghost use Rattle.std.specs.Prelude.{◌≡◌};
+ghost use Rattle.gi_processing.specs.Capacity.{covers as covers_of};
+ghost use Rattle.gi_processing.specs.Recording.{has_hours, is_over as is_over_of};
+
+use gi_day::GasDay;
+use gi_pairs::Direction;
+
+/// The greatest per-mille number: nothing is cut.
+pub const MOST_PERMILLE: u16 = 1000;
+
+/// How many thousandths of the firm and of the interruptible quantity of each contract of a gas
+/// day and direction are available in the hours from `first` to `last`, numbered from 1.
+#[derive(Clone, Copy, Debug, PartialEq, Eq)]
+pub struct Notice {
+    pub day: GasDay,
+    pub direction: Direction,
+    pub first: u8,
+    pub last: u8,
+    pub firm: u16,
+    pub interruptible: u16,
+}
+
+impl Notice {
+    /// Whether it is for the day and direction, and covers the hour.
+    pub(crate) fn covers(&self, day: GasDay, direction: Direction, hour: u8) -> bool
+        ensures { result ≡ covers_of day direction hour self.now }
+    {
+        self.day == day && self.direction == direction && self.first <= hour && hour <= self.last
+    }
+
+    /// Whether 1 <= first <= last <= hours.
+    pub(crate) fn is_within(&self, hours: u8) -> bool
+        ensures { result ≡ has_hours hours self.now }
+    {
+        1 <= self.first && self.first <= self.last && self.last <= hours
+    }
+
+    /// Whether a number is over 1000 per mille.
+    pub(crate) fn is_over(&self) -> bool
+        ensures { result ≡ is_over_of self.now }
+    {
+        self.firm > MOST_PERMILLE || self.interruptible > MOST_PERMILLE
+    }
+}
