@@ -70,10 +70,11 @@ pub struct Delres {
     pub cycle: u8,
     /// At most 4,096 rows.
     pub processed: Table,
+    /// At most 8,192 rows, for the same hours as the processed ones.
     pub confirmed: Table,
 }
 
-/// A message between the dispatch offices.
+/// A message between an operator and a shipper, or between the two operators.
 #[derive(Debug, Drop)]
 pub enum Message {
     Nomint(Nomint),

@@ -17,6 +17,7 @@ pub enum MessageFault {
     UnknownKind,
     /// The first field, in the order of the kind, that is missing or wrong.
     Field(Key),
+    /// Memory ran out.
     OutOfMemory,
 }
 

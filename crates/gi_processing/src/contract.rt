@@ -4,8 +4,8 @@ ghost use Rattle.gi_processing.specs.Capacity.{is_for as is_for_of, is_of};
 use gi_day::GasDay;
 use gi_pairs::{Code, Direction, Quantity};
 
-/// What a portfolio may nominate in a gas day and direction, in each hour, in kWh/h: a firm
-/// quantity, and an interruptible one.
+/// What is available to a portfolio in each hour of a gas day and direction where no notice cuts
+/// it, in kWh/h: a firm quantity and an interruptible one.
 #[derive(Clone, Copy, Debug, PartialEq, Eq)]
 pub struct Contract {
     pub portfolio: Code,

@@ -14,9 +14,13 @@ pub const MOST_PERMILLE: u16 = 1000;
 pub struct Notice {
     pub day: GasDay,
     pub direction: Direction,
+    /// The first hour, from 1.
     pub first: u8,
+    /// The last hour, at most the number of the gas day's hours.
     pub last: u8,
+    /// From 0 to 1000 thousandths.
     pub firm: u16,
+    /// From 0 to 1000 thousandths.
     pub interruptible: u16,
 }
 

@@ -156,8 +156,8 @@ fn table_of(
 
 /// The processed table of a cycle at a side: a row for each line in force, zeros too, on the hours
 /// that the cycle covers. In each direction and hour a portfolio's lines are reduced to what is
-/// available to it, in order of counterparty. The gas day, which is the frame's, has the cycle,
-/// and each nomination in force on it was recordable.
+/// available to it, in order of counterparty. The gas day, which is the frame's, has the cycle, and
+/// each nomination in force on it is of a portfolio with a contract and has lines without fault.
 pub fn processed(
     alloc: Global,
     book: &Book,

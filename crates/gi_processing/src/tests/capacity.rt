@@ -1,32 +1,12 @@
-use crate::{
-    Contract, ContractFault, Contracts, MOST_PERMILLE, MOST_PORTFOLIOS, Notice, NoticeFault,
-};
+use super::{DAY, contract};
+use crate::{ContractFault, Contracts, MOST_PERMILLE, MOST_PORTFOLIOS, Notice, NoticeFault};
 use gi_day::{Calendar, DayFrame, GasDay};
 use gi_pairs::{Code, Direction, Quantity};
 use std::alloc::Global;
 use std::test::Fail;
 
-/// A day of 24 hours.
-const DAY: &str = "2026-01-15";
-
 /// The greatest quantity.
 const MOST: u64 = 999_999_999_999;
-
-/// A contract for that day.
-fn contract(
-    portfolio: &str,
-    direction: Direction,
-    firm: u64,
-    interruptible: u64,
-) -> Result<Contract, Fail> {
-    Ok(Contract {
-        portfolio: Code::read(portfolio)?,
-        day: GasDay::read(DAY)?,
-        direction,
-        firm: Quantity::new(firm)?,
-        interruptible: Quantity::new(interruptible)?,
-    })
-}
 
 /// A notice of a day in `IM`.
 fn notice(day: &str, hours: (u8, u8), firm: u16, interruptible: u16) -> Result<Notice, Fail> {

@@ -1,35 +1,17 @@
 //! Processed tables of nominations that were judged and taken.
 
-ghost use Rattle.std.specs.Prelude.{OnOk};
+ghost use Rattle.std.specs.Prelude.{◌≡◌, OnOk};
 ghost use Rattle.gi_processing.specs.Processing.{AreSound};
 
-use crate::{Contract, Contracts, Notice, processed};
+use super::{DAY, contract};
+use crate::{Contracts, Notice, processed};
 use gi_day::{Calendar, GasDay};
 use gi_messages::{Line, Lines, Nomint};
-use gi_nominations::{Book, Setting, Verdict};
+use gi_nominations::{Book, NominationFault, Setting, Verdict};
 use gi_pairs::{Code, Direction, Hours, Pair, Quantity, Side, Table};
 use std::alloc::Global;
 use std::process::Abort;
 use std::test::Fail;
-
-/// A day of 24 hours, whose last cycle is 35.
-const DAY: &str = "2026-01-15";
-
-/// A contract for that day.
-fn contract(
-    portfolio: &str,
-    direction: Direction,
-    firm: u64,
-    interruptible: u64,
-) -> Result<Contract, Fail> {
-    Ok(Contract {
-        portfolio: Code::read(portfolio)?,
-        day: GasDay::read(DAY)?,
-        direction,
-        firm: Quantity::new(firm)?,
-        interruptible: Quantity::new(interruptible)?,
-    })
-}
 
 /// The contract of portfolio A in `IM`, alone.
 fn contract_of_a(alloc: Global, firm: u64) -> Result<Contracts, Fail> {
@@ -87,7 +69,25 @@ fn take(book: &mut Book, contracts: &Contracts, day: GasDay, nomint: Nomint) -> 
     }
 }
 
-/// The processed table of that day's cycle, with these nominations in force.
+/// The processed table of a cycle, with these nominations in force on its day.
+fn table_on(
+    alloc: Global,
+    day: &str,
+    contracts: &Contracts,
+    nominations: Vec<Nomint>,
+    side: Side,
+    cycle: u8,
+) -> Result<Table, Fail> {
+    let frame = Calendar::new()?.frame(GasDay::read(day)?)?;
+    let mut book = Book::new(alloc, Code::read("BORDER-1")?);
+    for nomint in nominations {
+        take(&mut book, contracts, frame.day(), nomint)?;
+    }
+    frame.first_hour(cycle)?;
+    Ok(processed(alloc, &book, contracts, side, &frame, cycle)?)
+}
+
+/// The processed table of that day's cycle.
 fn table(
     alloc: Global,
     contracts: &Contracts,
@@ -95,13 +95,19 @@ fn table(
     side: Side,
     cycle: u8,
 ) -> Result<Table, Fail> {
-    let frame = Calendar::new()?.frame(GasDay::read(DAY)?)?;
-    let mut book = Book::new(alloc, Code::read("BORDER-1")?);
-    for nomint in nominations {
-        take(&mut book, contracts, frame.day(), nomint)?;
-    }
-    frame.first_hour(cycle)?;
-    Ok(processed(alloc, &book, contracts, side, &frame, cycle)?)
+    table_on(alloc, DAY, contracts, nominations, side, cycle)
+}
+
+/// The same for I, where A alone nominates.
+fn table_of_a(
+    alloc: Global,
+    contracts: &Contracts,
+    lines: Vec<Line>,
+    cycle: u8,
+) -> Result<Table, Fail> {
+    let mut nominations = Vec::new(alloc);
+    nominations.push(nomint("A", 1, lines)?)?;
+    table(alloc, contracts, nominations, Side::I, cycle)
 }
 
 /// What the table reads for a pair in `IM`.
@@ -113,80 +119,191 @@ fn read(table: &Table, initiating: &str, matching: &str, hour: u8) -> Result<u64
     Ok(table.at(pair, Direction::IM, hour))
 }
 
+/// Lines of A in `IM` with these quantities in every hour, B's first.
+fn lines_of(alloc: Global, quantities: &[u64]) -> Result<Vec<Line>, Fail> {
+    let mut lines = Vec::new(alloc);
+    for place in 0..quantities.len().min(3) {
+        lines.push(line(
+            alloc,
+            OTHERS[place],
+            Direction::IM,
+            &[quantities[place]; 24],
+        )?)?;
+    }
+    Ok(lines)
+}
+
+/// The counterparties of those lines.
+const OTHERS: [&str; 3] = ["B", "C", "D"];
+
+/// Whether the table has these quantities for A in every hour.
+fn has_quantities(table: &Table, quantities: &[u64]) -> Result<bool, Fail> {
+    let mut same = true;
+    for hour in 1..25 {
+        for place in 0..quantities.len().min(3) {
+            same &= read(table, "A", OTHERS[place], hour)? == quantities[place];
+        }
+    }
+    Ok(same)
+}
+
+/// Quantities nominated, what is available, and the quantities processed.
+const REDUCED: [(&[u64], u64, &[u64]); 14] = [
+    (&[50, 50, 50], 100, &[33, 33, 34]),
+    (&[1, 1], 1, &[0, 1]),
+    (&[5], 0, &[0]),
+    (&[40, 60], 100, &[40, 60]),
+    (&[50, 50, 50], 149, &[49, 50, 50]),
+    (&[50, 50, 50], 150, &[50, 50, 50]),
+    (&[50, 50, 50], 151, &[50, 50, 50]),
+    (&[1, 1, 0], 1, &[0, 1, 0]),
+    (&[1, 1, 1], 2, &[0, 1, 1]),
+    (&[5, 0, 0], 0, &[0, 0, 0]),
+    (&[40, 60, 0], 100, &[40, 60, 0]),
+    (&[0, 0, 0], 0, &[0, 0, 0]),
+    (&[7, 0, 13], 10, &[3, 0, 7]),
+    (&[], 7, &[]),
+];
+
 #[test]
 fn reduces_to_what_is_available(rt: HostRuntime) -> Result<(), Fail> {
     let alloc = rt.alloc();
-    for (available, [b, c, d], want) in [
-        (100, [50, 50, 50], [33, 33, 34]),
-        (149, [50, 50, 50], [49, 50, 50]),
-        (150, [50, 50, 50], [50, 50, 50]),
-        (151, [50, 50, 50], [50, 50, 50]),
-        (1, [1, 1, 0], [0, 1, 0]),
-        (2, [1, 1, 1], [0, 1, 1]),
-        (0, [5, 0, 0], [0, 0, 0]),
-        (100, [40, 60, 0], [40, 60, 0]),
-        (0, [0, 0, 0], [0, 0, 0]),
-        (10, [7, 0, 13], [3, 0, 7]),
-    ] {
+    for (quantities, available, want) in REDUCED {
         let contracts = contract_of_a(alloc, available)?;
-        // Out of order, and with a line of the other direction.
-        let lines = vec![in alloc;
-            line(alloc, "D", Direction::IM, &[d; 24])?,
-            line(alloc, "C", Direction::MI, &[1_000; 24])?,
-            line(alloc, "B", Direction::IM, &[b; 24])?,
-            line(alloc, "C", Direction::IM, &[c; 24])?,
-        ]?;
-        let nominations = vec![in alloc; nomint("A", 1, lines)?]?;
-        let table = table(alloc, &contracts, nominations, Side::I, 0)?;
-        assert_eq!(rt;
-            (table.first(), table.last(), table.rows().len()),
-            (1, 24, 4)
+        let table = table_of_a(alloc, &contracts, lines_of(alloc, quantities)?, 0)?;
+        assert_eq!(rt; table.rows().len(), want.len());
+        assert!(rt;
+            has_quantities(&table, want)?,
+            "{quantities:?} under {available}"
         );
-        for hour in 1..25 {
+    }
+    Ok(())
+}
+
+/// Out of order, and beside a line of the other direction, lines are reduced as in order and alone.
+#[test]
+fn reduces_by_counterparty_in_a_direction(rt: HostRuntime) -> Result<(), Fail> {
+    let alloc = rt.alloc();
+    for (quantities, available, want) in REDUCED {
+        let contracts = contract_of_a(alloc, available)?;
+        let mut lines = lines_of(alloc, quantities)?;
+        lines.push(line(alloc, "C", Direction::MI, &[1_000; 24])?)?;
+        lines.reverse();
+        let table = table_of_a(alloc, &contracts, lines, 0)?;
+        assert!(rt;
+            has_quantities(&table, want)?,
+            "{quantities:?} under {available}"
+        );
+    }
+    Ok(())
+}
+
+/// Cycle 20 of that day, after a notice of A's direction or the other one: the table reads this
+/// much in its hours, and 0 before.
+#[test]
+fn covers_the_hours_of_the_cycle(rt: HostRuntime) -> Result<(), Fail> {
+    let alloc = rt.alloc();
+    let mut contracts = Contracts::new(alloc);
+    contracts.set(contract("A", Direction::IM, 100, 50)?)?;
+    let frame = Calendar::new()?.frame(GasDay::read(DAY)?)?;
+    for (cycle, first, cut, want) in [
+        (20, 9, None, 120),
+        (21, 10, Some(Direction::MI), 120),
+        (21, 10, Some(Direction::IM), 100),
+    ] {
+        if let Some(direction) = cut {
+            contracts.notice(&frame, firm_alone(frame.day(), direction))?;
+        }
+        let table = table_of_a(alloc, &contracts, lines_of(alloc, &[120])?, cycle)?;
+        assert_eq!(rt; (table.first(), table.last()), (first, 24));
+        for hour in 0..26 {
+            let covered = first <= hour && hour <= 24;
+            let read = read(&table, "A", "B", hour)?;
             assert_eq!(rt;
-                [
-                    read(&table, "A", "B", hour)?,
-                    read(&table, "A", "C", hour)?,
-                    read(&table, "A", "D", hour)?
-                ],
-                want,
-                "{b}, {c}, {d} under {available}"
+                read,
+                if covered { want } else { 0 },
+                "hour {hour} of cycle {cycle}"
             );
         }
     }
     Ok(())
 }
 
-#[test]
-fn covers_the_hours_of_the_cycle(rt: HostRuntime) -> Result<(), Fail> {
-    let alloc = rt.alloc();
-    let mut contracts = Contracts::new(alloc);
-    contracts.set(contract("A", Direction::IM, 100, 50)?)?;
-    let lines = vec![in alloc; line(alloc, "B", Direction::IM, &[120; 24])?]?;
-    let nominations = vec![in alloc; nomint("A", 1, lines)?]?;
-    let before = table(alloc, &contracts, nominations, Side::I, 20)?;
-    assert_eq!(rt; (before.first(), before.last()), (9, 24));
-    for (hour, want) in [(8, 0), (9, 120), (24, 120)] {
-        assert_eq!(rt; read(&before, "A", "B", hour)?, want, "hour {hour}");
+/// A notice of hours 1 to 24 that leaves the firm quantity alone.
+fn firm_alone(day: GasDay, direction: Direction) -> Notice
+    ensures { result.day ≡ day }
+{
+    Notice {
+        day,
+        direction,
+        first: 1,
+        last: 24,
+        firm: 1000,
+        interruptible: 0,
     }
-    let frame = Calendar::new()?.frame(GasDay::read(DAY)?)?;
-    for (direction, want) in [(Direction::MI, 120), (Direction::IM, 100)] {
-        let notice = Notice {
-            day: frame.day(),
-            direction,
-            first: 1,
-            last: 24,
-            firm: 1000,
-            interruptible: 0,
-        };
-        contracts.notice(&frame, notice)?;
-        let lines = vec![in alloc; line(alloc, "B", Direction::IM, &[120; 24])?]?;
-        let nominations = vec![in alloc; nomint("A", 1, lines)?]?;
-        let after = table(alloc, &contracts, nominations, Side::I, 21)?;
-        assert_eq!(rt; (after.first(), after.last()), (10, 24));
-        for hour in 10..25 {
-            assert_eq!(rt; read(&after, "A", "B", hour)?, want, "hour {hour}");
+}
+
+#[test]
+fn covers_short_and_long_days(rt: HostRuntime) -> Result<(), Fail> {
+    let alloc = rt.alloc();
+    for (day, hours, cycle) in [("2026-03-28", 23, 34), ("2026-10-24", 25, 36)] {
+        let mut contract = contract("A", Direction::IM, 9, 0)?;
+        contract.day = GasDay::read(day)?;
+        let mut contracts = Contracts::new(alloc);
+        contracts.set(contract)?;
+        for (cycle, first) in [(0, 1), (cycle, hours)] {
+            let mut nominations = Vec::new(alloc);
+            nominations.push(nomint_of_hours(alloc, day, hours)?)?;
+            let table = table_on(alloc, day, &contracts, nominations, Side::I, cycle)?;
+            assert_eq!(rt;
+                (table.first(), table.last()),
+                (first, hours),
+                "cycle {cycle} of {day}"
+            );
+            assert_eq!(rt; read(&table, "A", "B", hours)?, 7);
+            assert_eq!(rt; read(&table, "A", "B", hours + 1)?, 0);
         }
+    }
+    Ok(())
+}
+
+/// A nomination of A for a day of so many hours, 7 in each.
+fn nomint_of_hours(alloc: Global, day: &str, hours: u8) -> Result<Nomint, Fail> {
+    let quantities = Vec::from_elem(alloc, 7, usize::from(hours))?;
+    let mut lines = Vec::new(alloc);
+    lines.push(line(alloc, "B", Direction::IM, &quantities)?)?;
+    let mut nomint = nomint("A", 1, lines)?;
+    nomint.day = GasDay::read(day)?;
+    Ok(nomint)
+}
+
+/// What the contracts know is what a nomination is judged by.
+#[test]
+fn a_portfolio_without_a_contract_is_unknown(rt: HostRuntime) -> Result<(), Fail> {
+    let alloc = rt.alloc();
+    let contracts = contract_of_a(alloc, 100)?;
+    let book = Book::new(alloc, Code::read("BORDER-1")?);
+    for (portfolio, day, want) in [
+        ("A", DAY, Verdict::Recordable),
+        (
+            "B",
+            DAY,
+            Verdict::Refused(NominationFault::UnknownPortfolio),
+        ),
+        (
+            "A",
+            "2026-01-16",
+            Verdict::Refused(NominationFault::UnknownPortfolio),
+        ),
+    ] {
+        let mut nomint = nomint(portfolio, 1, Vec::new(alloc))?;
+        nomint.day = GasDay::read(day)?;
+        let setting = Setting {
+            frame: Calendar::new()?.frame(nomint.day)?,
+            known: contracts.knows(nomint.portfolio, nomint.day),
+            last_closed: None,
+        };
+        assert_eq!(rt; book.judge(&setting, &nomint), want, "{portfolio} on {day}");
     }
     Ok(())
 }
@@ -290,22 +407,18 @@ fn compare(
             let mut contracts = Contracts::new(alloc);
             let half = limit / 2;
             contracts.set(contract("A", Direction::IM, half, limit - half)?)?;
-            let lines = vec![in alloc;
-                line(alloc, "C", Direction::IM, &columns[1])?,
-                line(alloc, "D", Direction::IM, &columns[2])?,
-                line(alloc, "B", Direction::IM, &columns[0])?,
-            ]?;
-            let nominations = vec![in alloc; nomint("A", 1, lines)?]?;
-            let table = table(alloc, &contracts, nominations, Side::I, 0)?;
+            let mut lines = Vec::new(alloc);
+            for place in [1, 2, 0] {
+                lines.push(line(alloc, OTHERS[place], Direction::IM, &columns[place])?)?;
+            }
+            let table = table_of_a(alloc, &contracts, lines, 0)?;
             for hour in 0..24 {
                 let quantities = [columns[0][hour], columns[1][hour], columns[2][hour]];
                 let want = by_running_sums(quantities, *limit);
-                let parts = [
-                    read(&table, "A", "B", hour as u8 + 1)?,
-                    read(&table, "A", "C", hour as u8 + 1)?,
-                    read(&table, "A", "D", hour as u8 + 1)?,
-                ];
-                assert_eq!(rt; parts, want, "{quantities:?} under {limit}");
+                for place in 0..3 {
+                    let part = read(&table, "A", OTHERS[place], hour as u8 + 1)?;
+                    assert_eq!(rt; part, want[place], "{quantities:?} under {limit}");
+                }
             }
         }
     }

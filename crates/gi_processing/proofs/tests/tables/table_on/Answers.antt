@@ -2,7 +2,7 @@ use Rattle.std.proofs.Common.{◌≡◌, List, ap, sym, subst}
 use Rattle.gi_messages.specs.declared.message.Nomint.{Nomint}
 use Rattle.gi_processing.specs.Processing.{AreSound}
 use Rattle.gi_processing.proofs.SoundLaws.{sound-none}
-use Rattle.gi_processing.proofs.tests.tables.table.Goals as goal
+use Rattle.gi_processing.proofs.tests.tables.table_on.Goals as goal
 
 pub loop-nomint-init : goal.loop-nomint-init
 loop-nomint-init c =
