@@ -1,0 +1,39 @@
+-- What a cycle holds when it is frozen, and when it is matched.
+use Rattle.std.specs.Prelude.{◌≡◌, ◌≤◌, length}
+use Rattle.gi_lesser.specs.Lesser.{HasShapeOf, IsLesser, lesser_of}
+use Rattle.gi_pairs.specs.Limits.{most_processed_rows}
+use Rattle.gi_pairs.specs.Table.{TableContents}
+use Rattle.gi_pairs.specs.declared.cycle_id.CycleId.{CycleId}
+
+-- the operator's own processed table, frozen when the cycle closed
+pub record FrozenCycle : Type 0 where
+  pub id : CycleId
+  pub own : TableContents
+
+-- a frozen table has few rows enough to meet another
+pub record IsFrozen (cycle : FrozenCycle) : Type 0 where
+  pub few : length cycle.own.rows ≤ most_processed_rows
+
+-- the own frozen table, the peer's, and what of both is confirmed
+pub record MatchedCycle : Type 0 where
+  pub id : CycleId
+  pub own : TableContents
+  pub peer : TableContents
+  pub confirmed : TableContents
+
+-- both tables are for the same hours, and the lesser of them is confirmed
+pub record IsMatched (own peer confirmed : TableContents) : Type 0 where
+  pub same_hours : HasShapeOf own peer
+  pub own_few : length own.rows ≤ most_processed_rows
+  pub peer_few : length peer.rows ≤ most_processed_rows
+  pub value : confirmed ≡ lesser_of own peer
+  pub law : IsLesser own peer confirmed
+
+-- a frozen cycle that has met the table of the peer
+abbrev pub matched_of : FrozenCycle → TableContents → MatchedCycle
+matched_of cycle peer = record {
+  id = cycle.id;
+  own = cycle.own;
+  peer = peer;
+  confirmed = lesser_of cycle.own peer;
+}
