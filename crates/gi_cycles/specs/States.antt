@@ -4,15 +4,13 @@ use Rattle.gi_lesser.specs.Lesser.{HasShapeOf, IsLesser, lesser_of}
 use Rattle.gi_pairs.specs.Limits.{most_processed_rows}
 use Rattle.gi_pairs.specs.Table.{TableContents}
 use Rattle.gi_pairs.specs.declared.cycle_id.CycleId.{CycleId}
+use Rattle.gi_cycles.specs.declared.meet_fault.MeetFault.{MeetFault}
+use Rattle.gi_cycles.specs.declared.meet_fault.MeetFault.TheVariants.{ShapeDiffers, OutOfMemory}
 
 -- the operator's own processed table, frozen when the cycle closed
 pub record FrozenCycle : Type 0 where
   pub id : CycleId
   pub own : TableContents
-
--- a frozen table has few rows enough to meet another
-pub record IsFrozen (cycle : FrozenCycle) : Type 0 where
-  pub few : length cycle.own.rows ≤ most_processed_rows
 
 -- the own frozen table, the peer's, and what of both is confirmed
 pub record MatchedCycle : Type 0 where
@@ -37,3 +35,8 @@ matched_of cycle peer = record {
   peer = peer;
   confirmed = lesser_of cycle.own peer;
 }
+
+-- what a refusal tells of the hours of both
+abbrev pub IsMeetFault : FrozenCycle → TableContents → MeetFault → Type 0
+IsMeetFault cycle peer ShapeDiffers = ¬ HasShapeOf cycle.own peer
+IsMeetFault cycle peer OutOfMemory = HasShapeOf cycle.own peer

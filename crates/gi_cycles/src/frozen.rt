@@ -1,7 +1,7 @@
 ghost use Rattle.std.specs.Prelude.{◌≡◌, ◌↔◌, ◌≤◌, Err, IfErr, IfOk, IsTrue, length};
 ghost use Rattle.gi_lesser.specs.Lesser.{HasShapeOf};
 ghost use Rattle.gi_pairs.specs.Limits.{most_processed_rows};
-ghost use Rattle.gi_cycles.specs.States.{matched_of};
+ghost use Rattle.gi_cycles.specs.States.{IsMeetFault, matched_of};
 
 use crate::matched::Matched;
 use crate::meet_fault::MeetFault;
@@ -18,13 +18,15 @@ pub struct Frozen {
 }
 
 impl Model for Frozen {
-    ghost use Rattle.gi_cycles.specs.States.{FrozenCycle, IsFrozen};
+    ghost use Rattle.std.specs.Prelude.{◌≤◌, length};
+    ghost use Rattle.gi_pairs.specs.Limits.{most_processed_rows};
+    ghost use Rattle.gi_cycles.specs.States.{FrozenCycle};
 
     ghost Value = { FrozenCycle };
 
     ghost view = { λ f. record { id = f.id; own = f.own } };
 
-    ghost invariant = { λ f. IsFrozen (record { id = f.id; own = f.own }) };
+    ghost invariant = { λ f. length f.own.rows ≤ most_processed_rows };
 }
 
 /// Whether both tables are for the same hours.
@@ -68,6 +70,7 @@ impl Frozen {
         ensures same_hours { IfOk result (λ _. HasShapeOf self.own peer) }
         ensures differs { ¬ HasShapeOf self.own peer → result ≡ Err (self, MeetFault.ShapeDiffers) }
         ensures wants { HasShapeOf self.own peer → IfErr result (λ refused. refused.1 ≡ MeetFault.OutOfMemory) }
+        ensures fault { IfErr result (λ refused. IsMeetFault self peer refused.1) }
         ensures kept { IfErr result (λ refused. refused.0 ≡ self) }
     {
         if !same_hours(&self.own, &peer) {
