@@ -35,8 +35,9 @@ fn table(alloc: Global, matching: &str, first: u8, last: u8, quantity: u64) -> R
     Ok(Table::build(first, last, vec![in alloc; row]?)?)
 }
 
-/// That cycle, closed with a table, which has few rows.
-fn closed(rt: &(impl Abort + AllocGlobal), own: Table) -> Result<Frozen, Fail> {
+/// That cycle, closed with 10 for A and B in each hour from the first to 24.
+fn closed(rt: &(impl Abort + AllocGlobal), first: u8) -> Result<Frozen, Fail> {
+    let own = table(rt.alloc(), "B", first, 24, 10)?;
     assert!(rt; own.rows().len() <= MOST_PROCESSED_ROWS);
     Ok(Collecting::new(last_cycle()?).close(own))
 }
@@ -51,50 +52,69 @@ fn meeting(
     frozen.meet(rt.alloc(), peer)
 }
 
+/// That cycle, met with 7 for A and the portfolio in hour 24.
+fn matched(rt: &(impl Abort + AllocGlobal), portfolio: &str) -> Result<Matched, Fail> {
+    let peer = table(rt.alloc(), portfolio, 24, 24, 7)?;
+    match meeting(rt, closed(rt, 24)?, peer) {
+        Ok(matched) => Ok(matched),
+        Err((_, fault)) => Err(Fail::from(fault)),
+    }
+}
+
+/// What the three tables read for A and the portfolio in hour 24.
+fn read(matched: &Matched, portfolio: &str) -> Result<(u64, u64, u64), Fail> {
+    let own = matched.own().at(pair(portfolio)?, Direction::IM, 24);
+    let peer = matched.peer().at(pair(portfolio)?, Direction::IM, 24);
+    let confirmed = matched.confirmed().at(pair(portfolio)?, Direction::IM, 24);
+    Ok((own, peer, confirmed))
+}
+
 #[test]
 fn confirms_the_lesser(rt: HostRuntime) -> Result<(), Fail> {
-    let alloc = rt.alloc();
-    // The peer's portfolio, the one that is asked for, and what the three tables read for it.
+    // The peer's portfolio, and the one that is asked for.
     for (peer, asked, want) in [
         ("B", "B", (10, 7, 7)),
         ("C", "B", (10, 0, 0)),
         ("C", "C", (0, 7, 0)),
     ] {
-        let frozen = closed(&rt, table(alloc, "B", 24, 24, 10)?)?;
-        let Ok(matched) = meeting(&rt, frozen, table(alloc, peer, 24, 24, 7)?) else {
-            return Err(Fail::from(MeetFault::OutOfMemory));
-        };
-        let read = (
-            matched.own().at(pair(asked)?, Direction::IM, 24),
-            matched.peer().at(pair(asked)?, Direction::IM, 24),
-            matched.confirmed().at(pair(asked)?, Direction::IM, 24),
+        let matched = matched(&rt, peer)?;
+        assert_eq!(rt;
+            read(&matched, asked)?,
+            want,
+            "{asked}, and the peer has {peer}"
         );
-        assert_eq!(rt; read, want, "{asked}, and the peer has {peer}");
-        assert!(rt; matched.id() == last_cycle()?);
     }
     Ok(())
 }
 
+/// What comes back after a meeting with a table of other hours.
+fn refused(
+    rt: &(impl Abort + AllocGlobal),
+    first: u8,
+    last: u8,
+) -> Result<Option<(Frozen, MeetFault)>, Fail> {
+    let peer = table(rt.alloc(), "B", first, last, 7)?;
+    Ok(meeting(rt, closed(rt, 23)?, peer).err())
+}
+
+/// Whether the cycle is that one, with its own table.
+fn is_as_before(frozen: &Frozen) -> Result<bool, Fail> {
+    let own = frozen.own();
+    let read = own.at(pair("B")?, Direction::IM, 24);
+    Ok(frozen.id() == last_cycle()? && (own.first(), own.last(), read) == (23, 24, 10))
+}
+
 #[test]
 fn gives_a_frozen_cycle_back(rt: HostRuntime) -> Result<(), Fail> {
-    let alloc = rt.alloc();
-    let mut frozen = closed(&rt, table(alloc, "B", 23, 24, 10)?)?;
     for (first, last) in [(22, 24), (24, 24), (23, 23), (23, 25), (22, 23)] {
-        let Err((back, fault)) = meeting(&rt, frozen, table(alloc, "B", first, last, 7)?) else {
-            return Err(Fail::from(MeetFault::OutOfMemory));
-        };
-        assert_eq!(rt; fault, MeetFault::ShapeDiffers, "hours {first} to {last}");
-        assert!(rt; back.id() == last_cycle()?);
-        let own = back.own();
-        let read = (
-            own.first(),
-            own.last(),
-            own.at(pair("B")?, Direction::IM, 24),
-        );
-        assert_eq!(rt; read, (23, 24, 10));
-        frozen = back;
+        match refused(&rt, first, last)? {
+            Some((frozen, fault)) => {
+                assert_eq!(rt; fault, MeetFault::ShapeDiffers, "hours {first} to {last}");
+                assert!(rt; is_as_before(&frozen)?);
+            }
+            None => return Err(Fail::from(MeetFault::OutOfMemory)),
+        }
     }
-    assert!(rt; meeting(&rt, frozen, table(alloc, "B", 23, 24, 7)?).is_ok());
     Ok(())
 }
 
@@ -109,18 +129,13 @@ fn cycle_of(state: &CycleState) -> CycleId {
 
 #[test]
 fn names_its_cycle_in_every_state(rt: HostRuntime) -> Result<(), Fail> {
-    let alloc = rt.alloc();
-    let frozen = closed(&rt, table(alloc, "B", 24, 24, 10)?)?;
-    let Ok(matched) = meeting(&rt, frozen, table(alloc, "B", 24, 24, 7)?) else {
-        return Err(Fail::from(MeetFault::OutOfMemory));
-    };
-    for state in [
-        CycleState::Collecting(Collecting::new(last_cycle()?)),
-        CycleState::Frozen(closed(&rt, table(alloc, "B", 24, 24, 10)?)?),
-        CycleState::Matched(matched),
-    ] {
-        assert!(rt; cycle_of(&state) == last_cycle()?);
-    }
+    let id = last_cycle()?;
+    let collecting = CycleState::Collecting(Collecting::new(id));
+    assert!(rt; cycle_of(&collecting) == id);
+    let frozen = CycleState::Frozen(closed(&rt, 24)?);
+    assert!(rt; cycle_of(&frozen) == id);
+    let matched = CycleState::Matched(matched(&rt, "B")?);
+    assert!(rt; cycle_of(&matched) == id);
     Ok(())
 }
 
