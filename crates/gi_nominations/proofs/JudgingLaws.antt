@@ -15,7 +15,7 @@ use Rattle.gi_messages.specs.declared.line.Line.{Line}
 use Rattle.gi_messages.specs.declared.message.Nomint.{Nomint}
 use Rattle.gi_nominations.specs.Book.{Documents, in_force}
 use Rattle.gi_nominations.specs.Lines.{lines_fault}
-use Rattle.gi_nominations.specs.Judging.{verdict, by_version, or_else, is_over, IsRecordable, IsRepeat}
+use Rattle.gi_nominations.specs.Judging.{verdict, by_version, or_else, is_day_over, IsRecordable, IsRepeat}
 use Rattle.gi_nominations.specs.declared.nomination_fault.NominationFault.{NominationFault}
 use Rattle.gi_nominations.specs.declared.nomination_fault.NominationFault.TheVariants.{WrongPoint, UnknownPortfolio, DayOver, Stale, Conflict}
 use Rattle.gi_nominations.specs.declared.setting.Setting.{Setting}
@@ -43,20 +43,20 @@ pub record IsAccepted (book : Documents) (setting : Setting) (document : Nomint)
   pub point : document.point ≡ book.point
   pub known : setting.known ≡ true
   pub lines : lines_fault (hour_count setting.frame) document.lines ≡ None
-  pub not_over : is_over setting.frame setting.last_closed ≡ false
+  pub not_over : is_day_over setting.frame setting.last_closed ≡ false
   pub by : by_version (in_force document.portfolio document.day book.documents) document ≡ v
 
 accepted : (book : Documents) (setting : Setting) (document : Nomint) (v : Verdict) → Accepts v → verdict book setting document ≡ v → IsAccepted book setting document v
 unfolding verdict
 accepted book setting document v accepts e =
     let held = by_version (in_force document.portfolio document.day book.documents) document in
-    let over = cond (is_over setting.frame setting.last_closed) (Refused DayOver) held in
+    let over = cond (is_day_over setting.frame setting.last_closed) (Refused DayOver) held in
     let lines = or_else (lines_fault (hour_count setting.frame) document.lines) over in
     let known = cond (not setting.known) (Refused UnknownPortfolio) lines in
     let a = passed (not (bytes_eq document.point book.point)) WrongPoint known v accepts e in
     let b = passed (not setting.known) UnknownPortfolio lines v accepts a.1 in
     let c = passed_lines (lines_fault (hour_count setting.frame) document.lines) over v accepts b.1 in
-    let d = passed (is_over setting.frame setting.last_closed) DayOver held v accepts c.1 in
+    let d = passed (is_day_over setting.frame setting.last_closed) DayOver held v accepts c.1 in
     record {
       point = (bytes_eq-Decides document.point book.point).0 (holds (bytes_eq document.point book.point) a.0);
       known = holds setting.known b.0;

@@ -16,9 +16,9 @@ use Rattle.gi_nominations.specs.declared.verdict.Verdict.{Verdict}
 use Rattle.gi_nominations.specs.declared.verdict.Verdict.TheVariants.{Recordable, Repeat, Refused}
 
 -- the last cycle of the gas day is closed
-abbrev pub is_over : Date → Option ℕ → Bool
-is_over day None = false
-is_over day (Some last_closed) = nat_le (cycle_count day - 1) last_closed
+abbrev pub is_day_over : Date → Option ℕ → Bool
+is_day_over day None = false
+is_day_over day (Some last_closed) = nat_le (cycle_count day - 1) last_closed
 
 -- By the document in force: a higher version is taken, a lower one is stale, and the same one is a repeat where the
 -- lines are the same, in the same order.
@@ -40,7 +40,7 @@ verdict book setting document =
     if not (bytes_eq document.point book.point) then Refused WrongPoint
     else (if not setting.known then Refused UnknownPortfolio
     else or_else (lines_fault (hour_count setting.frame) document.lines) (
-    if is_over setting.frame setting.last_closed then Refused DayOver
+    if is_day_over setting.frame setting.last_closed then Refused DayOver
     else by_version (in_force document.portfolio document.day book.documents) document))
 
 -- what holds of a nomination that can be taken
@@ -48,7 +48,7 @@ pub record IsRecordable (book : Documents) (setting : Setting) (document : Nomin
   pub point : document.point ≡ book.point
   pub known : setting.known ≡ true
   pub lines : lines_fault (hour_count setting.frame) document.lines ≡ None
-  pub not_over : is_over setting.frame setting.last_closed ≡ false
+  pub not_over : is_day_over setting.frame setting.last_closed ≡ false
   pub newer : IsNewer book.documents document
 
 -- what holds of one that is a repeat: it has the version and the lines of the one in force

@@ -6,7 +6,7 @@ ghost use Rattle.gi_nominations.specs.Book.{in_force as in_force_of, is_of, with
 ghost use Rattle.gi_nominations.specs.declared.verdict.Verdict.TheVariants as Verdict;
 ghost use Rattle.gi_nominations.specs.Judging.{verdict, IsRecordable, IsRepeat, by_version as judged_by_version};
 
-use crate::judging::{is_over, lines_fault};
+use crate::judging::{is_day_over, lines_fault};
 use crate::nomination_fault::NominationFault;
 use crate::setting::Setting;
 use crate::verdict::Verdict;
@@ -112,7 +112,7 @@ impl Book {
         if let Some(fault) = lines_fault(nomint.lines.as_slice(), setting.frame.hours()) {
             return Verdict::Refused(fault);
         }
-        if is_over(setting.frame, setting.last_closed) {
+        if is_day_over(setting.frame, setting.last_closed) {
             return Verdict::Refused(NominationFault::DayOver);
         }
         match self.in_force(nomint.portfolio, nomint.day) {

@@ -2,7 +2,7 @@
 
 ghost use Rattle.std.specs.Prelude.{◌≡◌};
 ghost use Rattle.gi_nominations.specs.Lines.{is_twin as is_twin_of, has_hours, has_twin, has_twins, lines_fault as fault_of_lines};
-ghost use Rattle.gi_nominations.specs.Judging.{is_over as is_day_over};
+ghost use Rattle.gi_nominations.specs.Judging.{is_day_over};
 
 use crate::nomination_fault::NominationFault;
 use gi_day::DayFrame;
@@ -64,7 +64,7 @@ pub fn lines_fault(lines: &[Line], hours: u8) -> Option<NominationFault>
 }
 
 /// Whether the last cycle of the gas day is closed.
-pub fn is_over(frame: DayFrame, last_closed: Option<u8>) -> bool
+pub fn is_day_over(frame: DayFrame, last_closed: Option<u8>) -> bool
     ensures { result ≡ is_day_over frame last_closed }
 {
     match last_closed {

@@ -8,17 +8,18 @@ pub enum NominationFault {
     WrongPoint,
     /// Its portfolio has no contract for its gas day.
     UnknownPortfolio,
-    /// A line whose hours are not as many as the gas day's.
+    /// A line has not as many hours as the gas day, which has 23, 24 or 25.
     HourCount,
-    /// More than 64 lines.
+    /// It has more than 64 lines.
     TooManyLines,
-    /// Two lines of one counterparty and direction.
+    /// Two of its lines are of one counterparty and direction.
     DuplicateLine,
     /// The last cycle of its gas day is closed.
     DayOver,
-    /// Its version is below the one in force.
+    /// Its version is below `held`, the version of the one in force, from 1 to 999,999,999.
     Stale { held: u32 },
-    /// It has the version of the one in force, and other lines.
+    /// Its version is `held`, that of the one in force, from 1 to 999,999,999, and its lines are
+    /// others.
     Conflict { held: u32 },
 }
 

@@ -7,6 +7,6 @@ pub enum Verdict {
     Recordable,
     /// It has the version and the lines of the one in force.
     Repeat,
-    /// It changes nothing, for this reason.
+    /// It cannot be taken, for the first fault whose condition holds.
     Refused(NominationFault),
 }
