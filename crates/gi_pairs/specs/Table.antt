@@ -1,10 +1,11 @@
 -- Tables: what they hold, how they read, and which rows make one.
-use Rattle.std.specs.Prelude.{◌≡◌, ℕ, ◌+◌, ◌-◌, ◌≤◌, ◌==◌, List, [], ◌∷◌, length, map, find, slice_index, Bool, false, not, ◌&&◌, ◌||◌, nat_lt, nat_le, if◌then◌else◌, Option, Some, None, Result, Ok, Err, All}
+use Rattle.std.specs.Prelude.{◌≡◌, ℕ, ◌+◌, ◌-◌, ◌≤◌, ◌==◌, List, [], ◌∷◌, length, map, find, slice_index, nat_eq, Bool, false, not, ◌&&◌, ◌||◌, nat_lt, nat_le, if◌then◌else◌, Option, Some, None, Result, Ok, Err, All}
 use Rattle.std.specs.List.{list_all, list_any}
 use Rattle.std.specs.List.Sorted.{IsStrictlySortedBy}
+use Rattle.std.specs.Cmp.Lexicographic.{pointwise}
 use Rattle.std.specs.Ordering.{is_eq, is_lt}
 use Rattle.gi_pairs.specs.Key.{key_cmp}
-use Rattle.gi_pairs.specs.Row.{key_of, IsRow}
+use Rattle.gi_pairs.specs.Row.{key_of, row_eq, IsRow}
 use Rattle.gi_pairs.specs.declared.direction.Direction.{Direction}
 use Rattle.gi_pairs.specs.declared.key.Key.{Key}
 use Rattle.gi_pairs.specs.declared.pair.Pair.{Pair}
@@ -84,3 +85,7 @@ ok_unless (Some e) x = Err e
 -- the table that rows make, or their first fault
 unfoldable pub built : ℕ → ℕ → List Row → Result TableContents TableFault
 built first last rows = ok_unless (refusal first last rows) (record { first = first; last = last; rows = in_order rows })
+
+-- they cover the same hours, and their rows are equal
+abbrev pub table_eq : TableContents → TableContents → Bool
+table_eq a b = nat_eq a.first b.first && nat_eq a.last b.last && pointwise row_eq a.rows b.rows

@@ -1,0 +1,109 @@
+-- What the readings of a list of facts come to.
+use Rattle.std.proofs.Common.{◌≡◌, ◌<◌, ◌+◌, ℕ, List, [], ◌∷◌, ◌++◌, length, take, reverse, find, filter_map, get_or, Bool, true, false, not, cond, nat_lt, ltb-false, Option, Some, None, refl, sym, ap, ◌∙◌, arith}
+use Rattle.std.specs.Option.{option_or, unwrap_or, option_map}
+use Rattle.std.specs.List.{position_or_len}
+use Rattle.std.proofs.lemmas.List.{length-take, reverse-append, take_more}
+use Rattle.std.proofs.lemmas.List.Elements.{filter_map-append}
+use Rattle.std.proofs.lemmas.List.Folds.{find-append}
+use Rattle.std.proofs.lemmas.List.Sums.{prefix_len-le-length}
+use Rattle.jiff_core.specs.declared.civil.date.Date.{Date}
+use Rattle.gi_day.specs.SameDay.{same_day}
+use Rattle.gi_pairs.specs.declared.cycle_id.CycleId.{CycleId}
+use Rattle.gi_messages.specs.declared.message.Nomint.{Nomint}
+use Rattle.gi_nominations.specs.Book.{Documents}
+use Rattle.gi_processing.specs.Capacity.{Capacity}
+use Rattle.gi_processing.specs.declared.contract.Contract.{Contract}
+use Rattle.gi_processing.specs.declared.notice.Notice.{Notice}
+use Rattle.gi_desk.specs.History.{capacity_of, contract_in, document_in, documents_of, notice_in, closing_in, closings, facts_before, last_closed, number_of}
+use Rattle.gi_desk.specs.declared.fact.Fact.{Fact}
+use Rattle.gi_desk.specs.declared.fact.Fact.TheVariants.{Contracted, Noticed, Nominated, Closed, Met}
+
+-- one more item, at a place of a list
+pub one_more : {X : Type 0} (xs : List X) (i : ℕ) (x : X) → i < length xs → x ≡ get_or xs i x → take (i + 1) xs ≡ take i xs ++ x ∷ []
+one_more xs i x below is = take_more xs i x below ∙ ap (λ y. take i xs ++ y ∷ []) (sym is)
+
+counted : (is : Fact → Bool) (facts : List Fact) → number_of is facts ≡ position_or_len is facts + 1
+unfolding number_of facts_before
+counted is facts = let within = prefix_len-le-length (λ fact. not (is fact)) facts in grind (length-take, arith, within)
+
+-- the number of the first fact that is so, by its place
+pub numbered : (is : Fact → Bool) (facts : List Fact) (place : Option ℕ)
+    → place ≡ cond (nat_lt (position_or_len is facts) (length facts)) (Some (position_or_len is facts)) None → unwrap_or place (length facts) + 1 ≡ number_of is facts
+numbered is facts place e = ap (λ (o : Option ℕ). unwrap_or o (length facts) + 1) e ∙ by_test (nat_lt (position_or_len is facts) (length facts)) refl ∙ sym (counted is facts)
+  where
+    by_test : (b : Bool) → nat_lt (position_or_len is facts) (length facts) ≡ b → unwrap_or (cond b (Some (position_or_len is facts)) None) (length facts) + 1 ≡ position_or_len is facts + 1
+    by_test true e = refl
+    by_test false e =
+        let above = ltb-false (position_or_len is facts) (length facts) e in
+        let within = prefix_len-le-length (λ fact. not (is fact)) facts in
+        omega (arith, above, within)
+
+mapped : {X Y : Type 0} (f : X → Y) (a b : Option X) → option_map f (option_or a b) ≡ option_or (option_map f a) (option_map f b)
+mapped f None b = refl
+mapped f (Some x) b = refl
+
+-- the cycle closed last is that of the last fact that closes one of the gas day
+closed_more : (day : Date) (facts : List Fact) (fact : Fact) → last_closed day (facts ++ fact ∷ []) ≡ option_or (last_closed day (fact ∷ [])) (last_closed day facts)
+unfolding last_closed closings
+closed_more day facts fact =
+    let of_day : CycleId → Bool = λ id. same_day id.day day in
+    let number : CycleId → ℕ = λ id. id.cycle in
+    let first = filter_map closing_in facts in
+    let last = filter_map closing_in (fact ∷ []) in
+    ap (λ (ids : List CycleId). option_map number (find of_day (reverse ids))) (filter_map-append closing_in facts (fact ∷ []))
+    ∙ ap (λ (ids : List CycleId). option_map number (find of_day ids)) (reverse-append first last)
+    ∙ ap (option_map number) (find-append of_day (reverse last) (reverse first))
+    ∙ mapped number (find of_day (reverse last)) (find of_day (reverse first))
+
+pub closed_step : (day : Date) (facts : List Fact) (i : ℕ) (fact : Fact) (found last next : Option ℕ) → i < length facts → fact ≡ get_or facts i fact
+    → found ≡ last_closed day (fact ∷ []) → last ≡ last_closed day (take i facts) → next ≡ option_or found last → next ≡ last_closed day (take (i + 1) facts)
+closed_step day facts i fact found last next below is found_is last_is next_is =
+    next_is ∙ (λ t. option_or (found_is t) (last_is t)) ∙ sym (closed_more day (take i facts) fact) ∙ ap (last_closed day) (sym (one_more facts i fact below is))
+
+-- one more fact records one more contract, notice or nomination
+pub capacity_more : (facts : List Fact) (fact : Fact) → capacity_of (facts ++ fact ∷ [])
+    ≡ record { contracts = (capacity_of facts).contracts ++ (capacity_of (fact ∷ [])).contracts; notices = (capacity_of facts).notices ++ (capacity_of (fact ∷ [])).notices }
+unfolding capacity_of
+capacity_more facts fact =
+    let contracts = filter_map-append contract_in facts (fact ∷ []) in
+    let notices = filter_map-append notice_in facts (fact ∷ []) in
+    λ t. record { contracts = contracts t; notices = notices t }
+
+pub documents_more : (facts : List Fact) (fact : Fact) → documents_of (facts ++ fact ∷ []) ≡ documents_of facts ++ documents_of (fact ∷ [])
+unfolding documents_of
+documents_more facts fact = filter_map-append document_in facts (fact ∷ [])
+
+pub capacity_step : (facts : List Fact) (i : ℕ) (fact : Fact) (old new : Capacity) → i < length facts → fact ≡ get_or facts i fact → old ≡ capacity_of (take i facts)
+    → new.contracts ≡ old.contracts ++ (capacity_of (fact ∷ [])).contracts → new.notices ≡ old.notices ++ (capacity_of (fact ∷ [])).notices → new ≡ capacity_of (take (i + 1) facts)
+capacity_step facts i fact old new below is old_is contracts notices =
+    let joined : new ≡ record { contracts = (capacity_of (take i facts)).contracts ++ (capacity_of (fact ∷ [])).contracts; notices = (capacity_of (take i facts)).notices ++ (capacity_of (fact ∷ [])).notices } =
+    (λ t. record { contracts = contracts t; notices = notices t })
+    ∙ (λ t. record { contracts = (old_is t).contracts ++ (capacity_of (fact ∷ [])).contracts; notices = (old_is t).notices ++ (capacity_of (fact ∷ [])).notices }) in
+    joined ∙ sym (capacity_more (take i facts) fact) ∙ ap capacity_of (sym (one_more facts i fact below is))
+
+pub documents_step : (point : List ℕ) (facts : List Fact) (i : ℕ) (fact : Fact) (old new : Documents) → i < length facts → fact ≡ get_or facts i fact
+    → old ≡ record { point = point; documents = documents_of (take i facts) } → new.point ≡ old.point → new.documents ≡ old.documents ++ documents_of (fact ∷ [])
+    → new ≡ record { point = point; documents = documents_of (take (i + 1) facts) }
+documents_step point facts i fact old new below is old_is same documents =
+    let of_point : new.point ≡ point = same ∙ ap (λ (d : Documents). d.point) old_is in
+    let joined : new.documents ≡ documents_of (take (i + 1) facts) =
+    documents ∙ ap (λ (d : Documents). d.documents ++ documents_of (fact ∷ [])) old_is ∙ sym (documents_more (take i facts) fact) ∙ ap documents_of (sym (one_more facts i fact below is)) in
+    λ t. record { point = of_point t; documents = joined t }
+
+-- a fact of another kind records neither contract nor notice, and no nomination
+pub no_capacity : (fact : Fact) → ((contract : Contract) → fact ≡ Contracted contract → ⊥) → ((notice : Notice) → fact ≡ Noticed notice → ⊥)
+    → capacity_of (fact ∷ []) ≡ record { contracts = []; notices = [] }
+unfolding capacity_of
+no_capacity (Contracted contract) contracted noticed = absurd (contracted contract refl)
+no_capacity (Noticed notice) contracted noticed = absurd (noticed notice refl)
+no_capacity (Nominated document) contracted noticed = refl
+no_capacity (Closed id) contracted noticed = refl
+no_capacity (Met id peer) contracted noticed = refl
+
+pub no_document : (fact : Fact) → ((document : Nomint) → fact ≡ Nominated document → ⊥) → documents_of (fact ∷ []) ≡ []
+unfolding documents_of
+no_document (Contracted contract) nominated = refl
+no_document (Noticed notice) nominated = refl
+no_document (Nominated document) nominated = absurd (nominated document refl)
+no_document (Closed id) nominated = refl
+no_document (Met id peer) nominated = refl

@@ -1,0 +1,4 @@
+mod HistoryLaws
+pub mod Differing
+pub mod Legality
+pub mod StateLaws

@@ -1,0 +1,83 @@
+-- What later facts leave as it was.
+use Rattle.std.proofs.Common.{arith, ◌≡◌, ℕ, ◌+◌, ◌≤◌, List, [], ◌∷◌, ◌++◌, length, Bool, true, false, not, cond, ◌||◌, Option, Some, None, refl, sym, ap, ◌∙◌, subst}
+use Rattle.std.specs.Prelude.{take_while, filter_map, slice_get}
+use Rattle.std.specs.List.{list_any, cons_option}
+use Rattle.std.proofs.lemmas.List.{length-take, take-append-le}
+use Rattle.std.proofs.lemmas.List.Sums.{prefix_len-le-length, take_while-cons}
+use Rattle.gi_pairs.specs.Table.{TableContents}
+use Rattle.gi_pairs.specs.declared.cycle_id.CycleId.{CycleId}
+use Rattle.gi_pairs.specs.declared.side.Side.{Side}
+use Rattle.gi_processing.specs.Processing.{processed}
+use Rattle.gi_desk.specs.History.{capacity_of, documents_of, facts_before, frozen_table, is_closed, is_closing, number_of, peer_in, peer_of, state_of}
+use Rattle.gi_desk.specs.LetOut.{let_out}
+use Rattle.gi_desk.specs.declared.fact.Fact.{Fact}
+
+-- what one of the first n facts lets out
+pub lets_out : (side : Side) (point : List ℕ) (facts more : List Fact) (n : ℕ) → n ≤ length facts → let_out side point (facts ++ more) n ≡ let_out side point facts n
+unfolding let_out
+lets_out side point facts more n within = rw (take-append-le n facts more within) refl
+
+-- the facts before one that is so
+later_any : (is : Fact → Bool) (fact : Fact) (facts : List Fact) → is fact ≡ false → list_any is (fact ∷ facts) ≡ true → list_any is facts ≡ true
+later_any is fact facts e any = subst (λ (b : Bool). (b || list_any is facts) ≡ true) e any
+
+before_by : (is : Fact → Bool) (b : Bool) (fact : Fact) (facts more : List Fact) → is fact ≡ b → (list_any is facts ≡ true → take_while (λ f. not (is f)) (facts ++ more) ≡ take_while (λ f. not (is f)) facts)
+    → list_any is (fact ∷ facts) ≡ true
+    → cond (not (is fact)) (fact ∷ take_while (λ f. not (is f)) (facts ++ more)) [] ≡ cond (not (is fact)) (fact ∷ take_while (λ f. not (is f)) facts) []
+before_by is true fact facts more e rest any = rw e refl
+before_by is false fact facts more e rest any = rw e (ap (λ (fs : List Fact). fact ∷ fs) (rest (later_any is fact facts e any)))
+
+before-more : (is : Fact → Bool) (facts more : List Fact) → list_any is facts ≡ true → take_while (λ f. not (is f)) (facts ++ more) ≡ take_while (λ f. not (is f)) facts
+before-more is [] more any = absurd cc
+before-more is (fact ∷ facts) more any =
+    take_while-cons (λ f. not (is f)) fact (facts ++ more) ∙ before_by is (is fact) fact facts more refl (before-more is facts more) any
+    ∙ sym (take_while-cons (λ f. not (is f)) fact facts)
+
+pub facts_before-more : (is : Fact → Bool) (facts more : List Fact) → list_any is facts ≡ true → facts_before is (facts ++ more) ≡ facts_before is facts
+unfolding facts_before
+facts_before-more is facts more any = before-more is facts more any
+
+-- the frozen quantities of a closed cycle
+pub frozen_table-more : (side : Side) (facts more : List Fact) (id : CycleId) → is_closed id facts ≡ true → frozen_table side (facts ++ more) id ≡ frozen_table side facts id
+unfolding frozen_table is_closed
+frozen_table-more side facts more id closed =
+    ap (λ before. processed (capacity_of before) (documents_of before) side id.day id.cycle) (facts_before-more (is_closing id) facts more closed)
+
+-- a closed cycle stays closed
+any_by : {X : Type 0} (test : X → Bool) (b : Bool) (xs ys : List X) → (list_any test xs ≡ true → list_any test (xs ++ ys) ≡ true) → (b || list_any test xs) ≡ true → (b || list_any test (xs ++ ys)) ≡ true
+any_by test true xs ys rest any = refl
+any_by test false xs ys rest any = rest any
+
+any-more : {X : Type 0} (test : X → Bool) (xs ys : List X) → list_any test xs ≡ true → list_any test (xs ++ ys) ≡ true
+any-more test [] ys any = absurd cc
+any-more test (x ∷ xs) ys any = any_by test (test x) xs ys (any-more test xs ys) any
+
+pub is_closed-more : (id : CycleId) (facts more : List Fact) → is_closed id facts ≡ true → is_closed id (facts ++ more) ≡ true
+unfolding is_closed
+is_closed-more id facts more closed = any-more (is_closing id) facts more closed
+
+-- the table met first stays so
+first_by : {Y : Type 0} (found : Option Y) (rest all : List Y) (y : Y) → (slice_get rest 0 ≡ Some y → slice_get all 0 ≡ Some y) → slice_get (cons_option found rest) 0 ≡ Some y
+    → slice_get (cons_option found all) 0 ≡ Some y
+first_by None rest all y later e = later e
+first_by (Some z) rest all y later e = e
+
+first-more : {X Y : Type 0} (h : X → Option Y) (xs ys : List X) (y : Y) → slice_get (filter_map h xs) 0 ≡ Some y → slice_get (filter_map h (xs ++ ys)) 0 ≡ Some y
+first-more h [] ys y e = absurd cc
+first-more h (x ∷ xs) ys y e = first_by (h x) (filter_map h xs) (filter_map h (xs ++ ys)) y (first-more h xs ys y) e
+
+pub peer_of-more : (id : CycleId) (facts more : List Fact) (peer : TableContents) → peer_of id facts ≡ Some peer → peer_of id (facts ++ more) ≡ Some peer
+unfolding peer_of
+peer_of-more id facts more peer met = first-more (peer_in id) facts more peer met
+
+-- a matched cycle stays as it is
+pub state_of-more : (side : Side) (facts more : List Fact) (id : CycleId) (peer : TableContents) → is_closed id facts ≡ true → peer_of id facts ≡ Some peer
+    → state_of side (facts ++ more) id ≡ state_of side facts id
+unfolding state_of
+state_of-more side facts more id peer closed met =
+    rw (closed, is_closed-more id facts more closed, met, peer_of-more id facts more peer met, frozen_table-more side facts more id closed) refl
+
+-- the number of a fact is at most one more than there are facts
+pub number_of-within : (is : Fact → Bool) (facts : List Fact) → number_of is facts ≤ length facts + 1
+unfolding number_of facts_before
+number_of-within is facts = let within = prefix_len-le-length (λ fact. not (is fact)) facts in grind (length-take, arith, within)

@@ -1,0 +1,124 @@
+-- What a list of facts says. A definition that speaks of a place in a list takes the facts before that place.
+use Rattle.std.specs.Prelude.{ℕ, ◌+◌, List, length, take_while, filter_map, find, reverse, slice_get, Bool, false, not, nat_eq, ◌&&◌, if◌then◌else◌, Option, Some, None, option_map}
+use Rattle.std.specs.List.{list_any}
+use Rattle.jiff_core.specs.declared.civil.date.Date.{Date}
+use Rattle.gi_day.specs.SameDay.{same_day}
+use Rattle.gi_pairs.specs.Table.{TableContents}
+use Rattle.gi_pairs.specs.declared.cycle_id.CycleId.{CycleId}
+use Rattle.gi_pairs.specs.declared.side.Side.{Side}
+use Rattle.gi_messages.specs.declared.message.Nomint.{Nomint}
+use Rattle.gi_nominations.specs.Book.{is_of}
+use Rattle.gi_processing.specs.Capacity.{Capacity}
+use Rattle.gi_processing.specs.Processing.{processed}
+use Rattle.gi_processing.specs.declared.contract.Contract.{Contract}
+use Rattle.gi_processing.specs.declared.notice.Notice.{Notice}
+use Rattle.gi_cycles.specs.States.{FrozenCycle, matched_of}
+use Rattle.gi_cycles.specs.declared.cycle_state.CycleState.{CycleState}
+use Rattle.gi_cycles.specs.declared.cycle_state.CycleState.TheVariants.{Collecting, Frozen, Matched}
+use Rattle.gi_desk.specs.Same.{same_cycle}
+use Rattle.gi_desk.specs.declared.fact.Fact.{Fact}
+use Rattle.gi_desk.specs.declared.fact.Fact.TheVariants.{Contracted, Noticed, Nominated, Closed, Met}
+
+-- the contract, the notice and the nomination that a fact records
+abbrev pub contract_in : Fact → Option Contract
+contract_in (Contracted contract) = Some contract
+contract_in (Noticed notice) = None
+contract_in (Nominated document) = None
+contract_in (Closed id) = None
+contract_in (Met id peer) = None
+
+abbrev pub notice_in : Fact → Option Notice
+notice_in (Contracted contract) = None
+notice_in (Noticed notice) = Some notice
+notice_in (Nominated document) = None
+notice_in (Closed id) = None
+notice_in (Met id peer) = None
+
+abbrev pub document_in : Fact → Option Nomint
+document_in (Contracted contract) = None
+document_in (Noticed notice) = None
+document_in (Nominated document) = Some document
+document_in (Closed id) = None
+document_in (Met id peer) = None
+
+-- the contracts and the notices recorded, and the nominations taken, each in their order
+unfoldable pub capacity_of : List Fact → Capacity
+capacity_of facts = record { contracts = filter_map contract_in facts; notices = filter_map notice_in facts }
+
+unfoldable pub documents_of : List Fact → List Nomint
+documents_of facts = filter_map document_in facts
+
+-- the fact is the closing of the cycle, the meeting of the cycle, and the taking of a nomination of that portfolio, gas
+-- day and version
+abbrev pub is_closing : CycleId → Fact → Bool
+is_closing id (Contracted contract) = false
+is_closing id (Noticed notice) = false
+is_closing id (Nominated document) = false
+is_closing id (Closed other) = same_cycle other id
+is_closing id (Met other peer) = false
+
+abbrev pub is_meeting : CycleId → Fact → Bool
+is_meeting id (Contracted contract) = false
+is_meeting id (Noticed notice) = false
+is_meeting id (Nominated document) = false
+is_meeting id (Closed other) = false
+is_meeting id (Met other peer) = same_cycle other id
+
+abbrev pub is_taking : Nomint → Fact → Bool
+is_taking document (Contracted contract) = false
+is_taking document (Noticed notice) = false
+is_taking document (Nominated other) = is_of document.portfolio document.day other && nat_eq other.version document.version
+is_taking document (Closed other) = false
+is_taking document (Met other peer) = false
+
+-- the facts before the first that is so, all where none is
+unfoldable pub facts_before : (Fact → Bool) → List Fact → List Fact
+facts_before is facts = take_while (λ fact. not (is fact)) facts
+
+-- the number of the first fact that is so; one more than there are facts where none is
+unfoldable pub number_of : (Fact → Bool) → List Fact → ℕ
+number_of is facts = length (facts_before is facts) + 1
+
+-- the cycles closed, in the order of their closings
+abbrev pub closing_in : Fact → Option CycleId
+closing_in (Contracted contract) = None
+closing_in (Noticed notice) = None
+closing_in (Nominated document) = None
+closing_in (Closed id) = Some id
+closing_in (Met id peer) = None
+
+unfoldable pub closings : List Fact → List CycleId
+closings facts = filter_map closing_in facts
+
+-- whether the cycle is closed, and the number of the gas day's cycle that was closed last
+unfoldable pub is_closed : CycleId → List Fact → Bool
+is_closed id facts = list_any (is_closing id) facts
+
+unfoldable pub last_closed : Date → List Fact → Option ℕ
+last_closed day facts = option_map (λ id. id.cycle) (find (λ id. same_day id.day day) (reverse (closings facts)))
+
+-- The frozen quantities of a side and a cycle: the processed quantities of the facts before its closing.
+unfoldable pub frozen_table : Side → List Fact → CycleId → TableContents
+frozen_table side facts id = let before = facts_before (is_closing id) facts in processed (capacity_of before) (documents_of before) side id.day id.cycle
+
+-- the peer's table that the cycle met
+abbrev pub peer_in : CycleId → Fact → Option TableContents
+peer_in id (Contracted contract) = None
+peer_in id (Noticed notice) = None
+peer_in id (Nominated document) = None
+peer_in id (Closed other) = None
+peer_in id (Met other peer) = if same_cycle other id then Some peer else None
+
+unfoldable pub peer_of : CycleId → List Fact → Option TableContents
+peer_of id facts = slice_get (filter_map (peer_in id) facts) 0
+
+-- how far the cycle is: it collects until it is closed, is frozen then, and matched once it met the peer's table
+abbrev pub frozen_cycle : Side → List Fact → CycleId → FrozenCycle
+frozen_cycle side facts id = record { id = id; own = frozen_table side facts id }
+
+abbrev pub met_by : FrozenCycle → Option TableContents → CycleState
+met_by cycle None = Frozen cycle
+met_by cycle (Some peer) = Matched (matched_of cycle peer)
+
+unfoldable pub state_of : Side → List Fact → CycleId → CycleState
+state_of side facts id = if is_closed id facts then met_by (frozen_cycle side facts id) (peer_of id facts) else Collecting id

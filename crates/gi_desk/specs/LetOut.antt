@@ -1,0 +1,34 @@
+-- What a saved fact lets out: an acknowledgement of a nomination, the initiating side's order of a closing, and of a
+-- meeting the matching side's response and what each portfolio is told.
+use Rattle.std.specs.Prelude.{ℕ, ◌-◌, List, [], ◌∷◌, ◌++◌, take, slice_get, Option, Some, None}
+use Rattle.gi_pairs.specs.declared.side.Side.{Side}
+use Rattle.gi_messages.specs.declared.message.Message.{Message}
+use Rattle.gi_messages.specs.declared.message.Message.TheVariants as messages
+use Rattle.gi_cycles.specs.States.{matched_of}
+use Rattle.gi_desk.specs.History.{frozen_cycle}
+use Rattle.gi_desk.specs.Messages.{acknow_of, on_closed, on_met, to_peer, to_user, told_packets}
+use Rattle.gi_desk.specs.declared.fact.Fact.{Fact}
+use Rattle.gi_desk.specs.declared.fact.Fact.TheVariants.{Contracted, Noticed, Nominated, Closed, Met}
+use Rattle.gi_desk.specs.declared.packet.Packet.{Packet}
+
+abbrev pub sent : Option Message → List Packet
+sent None = []
+sent (Some message) = to_peer message ∷ []
+
+-- what a fact lets out, at the end of these facts, of which it is the last
+abbrev pub packets_of : Side → List ℕ → List Fact → Fact → List Packet
+packets_of side point facts (Contracted contract) = []
+packets_of side point facts (Noticed notice) = []
+packets_of side point facts (Nominated document) = to_user document.portfolio (messages.Acknow (acknow_of document)) ∷ []
+packets_of side point facts (Closed id) = sent (on_closed side point (frozen_cycle side facts id))
+packets_of side point facts (Met id peer) =
+    let cycle = matched_of (frozen_cycle side facts id) peer in sent (on_met side point cycle) ++ told_packets side point cycle
+
+abbrev pub if_fact : Side → List ℕ → List Fact → Option Fact → List Packet
+if_fact side point facts None = []
+if_fact side point facts (Some fact) = packets_of side point facts fact
+
+-- What fact number n lets out is said by the facts up to it alone: so no later fact, and no restart that keeps it,
+-- changes it.
+unfoldable pub let_out : Side → List ℕ → List Fact → ℕ → List Packet
+let_out side point facts n = let up_to = take n facts in if_fact side point up_to (slice_get up_to (n - 1))

@@ -1,0 +1,166 @@
+-- The desk as a machine: its state is a list of facts, how many of them are saved, and whether it is halted. Every
+-- answer, every packet and the next state are functions of the state and the call.
+use Rattle.std.specs.Prelude.{◌≡◌, ℕ, ◌+◌, List, [], ◌∷◌, ◌++◌, length, filter, Bool, true, false, not, ◌&&◌, nat_le, nat_lt, IsTrue, ◌⊎◌, if◌then◌else◌, Option, Some, None}
+use Rattle.gi_pairs.specs.Limits.{most_processed_rows}
+use Rattle.gi_pairs.specs.declared.side.Side.{Side}
+use Rattle.gi_messages.specs.Decoding.{decoded}
+use Rattle.gi_messages.specs.Limits.{last_version}
+use Rattle.gi_desk.specs.Deciding.{by_order}
+use Rattle.gi_desk.specs.History.{is_closing, is_meeting, number_of, state_of}
+use Rattle.gi_desk.specs.Judging.{by_decision, closed, contracted, delivered, marked, nominated, noticed, resent, submitted}
+use Rattle.gi_desk.specs.LetOut.{let_out}
+use Rattle.gi_desk.specs.declared.answer.Answer.{Answer}
+use Rattle.gi_desk.specs.declared.answer.Answer.TheVariants as answers
+use Rattle.gi_desk.specs.declared.call.Call.{Call}
+use Rattle.gi_desk.specs.declared.call.Call.TheVariants.{Contract, Notice, Submit, Close, Deliver, Resend, MarkSaved, Halt}
+use Rattle.gi_desk.specs.declared.fact.Fact.{Fact}
+use Rattle.gi_desk.specs.declared.fact.Fact.TheVariants as facts
+use Rattle.gi_desk.specs.declared.outcome.Outcome.{Outcome}
+use Rattle.gi_desk.specs.declared.outcome.Outcome.TheVariants.{Records, RepeatsNomination, RepeatsMeeting, Saves, Resends, Stops, Refuses}
+use Rattle.gi_desk.specs.declared.packet.Packet.{Packet}
+use Rattle.gi_desk.specs.declared.recipient.Recipient.{Recipient}
+use Rattle.gi_desk.specs.declared.recipient.Recipient.TheVariants.{Peer, User}
+use Rattle.gi_desk.specs.declared.refusal.Refusal.TheVariants as refusals
+use Rattle.gi_desk.specs.declared.reply.Reply.{Reply}
+
+-- how many facts a desk has at most (this project's choice)
+abbrev pub most_facts : ℕ
+most_facts = 1_000_000
+
+pub record DeskState : Type 0 where
+  pub point : List ℕ
+  pub facts : List Fact
+  pub saved : ℕ
+  pub halted : Bool
+
+-- what a call comes to by itself
+abbrev pub comes_to : Side → DeskState → Call → Outcome
+comes_to side s (Contract contract) = contracted s.facts contract
+comes_to side s (Notice notice) = noticed notice
+comes_to side s (Submit body) = submitted s.point s.facts (decoded body)
+comes_to side s (Close id) = closed s.facts id
+comes_to side s (Deliver body) = delivered side s.point s.facts (decoded body)
+comes_to side s (Resend id) = resent s.facts s.saved id
+comes_to side s (MarkSaved n fact) = marked s.facts s.saved n fact
+comes_to side s Halt = Stops
+
+-- a full desk records no fact
+abbrev pub unless_full : List Fact → Outcome → Outcome
+unless_full history (Records fact) = if nat_le most_facts (length history) then Refuses refusals.Full else Records fact
+unless_full history (RepeatsNomination n) = RepeatsNomination n
+unless_full history (RepeatsMeeting n) = RepeatsMeeting n
+unless_full history (Saves n) = Saves n
+unless_full history (Resends id) = Resends id
+unless_full history Stops = Stops
+unless_full history (Refuses refusal) = Refuses refusal
+
+-- the first refusal whose condition holds, else what is accepted
+unfoldable pub outcome : Side → DeskState → Call → Outcome
+outcome side s call = if s.halted then Refuses refusals.Halted else unless_full s.facts (comes_to side s call)
+
+abbrev pub answer_of : DeskState → Outcome → Answer
+answer_of s (Records fact) = answers.Recorded (length s.facts + 1)
+answer_of s (RepeatsNomination n) = answers.Repeat n
+answer_of s (RepeatsMeeting n) = answers.Repeat n
+answer_of s (Saves n) = answers.Saved n
+answer_of s (Resends id) = answers.Resent
+answer_of s Stops = answers.Stopped
+answer_of s (Refuses refusal) = answers.Refused refusal
+
+-- what fact number n lets out, where it is saved
+abbrev pub saved_out : Side → DeskState → ℕ → List Packet
+saved_out side s n = if nat_le n s.saved then let_out side s.point s.facts n else []
+
+abbrev pub is_for_peer : Packet → Bool
+is_for_peer packet = is_peer packet.to
+  where
+    is_peer : Recipient → Bool
+    is_peer Peer = true
+    is_peer (User portfolio) = false
+
+-- the packets of a reply: a fact's as it is saved, the acknowledgement of a repeated nomination, the response to a
+-- repeated order, and all that a cycle's closing and meeting let out
+abbrev pub out_of : Side → DeskState → Outcome → List Packet
+out_of side s (Records fact) = []
+out_of side s (RepeatsNomination n) = saved_out side s n
+out_of side s (RepeatsMeeting n) = filter is_for_peer (saved_out side s n)
+out_of side s (Saves n) = let_out side s.point s.facts n
+out_of side s (Resends id) = saved_out side s (number_of (is_closing id) s.facts) ++ saved_out side s (number_of (is_meeting id) s.facts)
+out_of side s Stops = []
+out_of side s (Refuses refusal) = []
+
+-- the state that follows
+abbrev pub next_of : DeskState → Outcome → DeskState
+next_of s (Records fact) = record s { facts = s.facts ++ fact ∷ [] }
+next_of s (RepeatsNomination n) = s
+next_of s (RepeatsMeeting n) = s
+next_of s (Saves n) = record s { saved = n }
+next_of s (Resends id) = s
+next_of s Stops = record s { halted = true }
+next_of s (Refuses refusal) = s
+
+unfoldable pub reply : Side → DeskState → Call → Reply
+reply side s call = let o = outcome side s call in record { answer = answer_of s o; out = out_of side s o }
+
+unfoldable pub after : Side → DeskState → Call → DeskState
+after side s call = next_of s (outcome side s call)
+
+-- A step may want memory on no halted desk, for no halt, and for no refused notice, closing, resending or mark.
+abbrev pub is_refusal : Outcome → Bool
+is_refusal (Records fact) = false
+is_refusal (RepeatsNomination n) = false
+is_refusal (RepeatsMeeting n) = false
+is_refusal (Saves n) = false
+is_refusal (Resends id) = false
+is_refusal Stops = false
+is_refusal (Refuses refusal) = true
+
+abbrev pub wants_memory : Outcome → Call → Bool
+wants_memory o (Contract contract) = true
+wants_memory o (Notice notice) = not (is_refusal o)
+wants_memory o (Submit body) = true
+wants_memory o (Close id) = not (is_refusal o)
+wants_memory o (Deliver body) = true
+wants_memory o (Resend id) = not (is_refusal o)
+wants_memory o (MarkSaved n fact) = not (is_refusal o)
+wants_memory o Halt = false
+
+unfoldable pub may_want : Side → DeskState → Call → Bool
+may_want side s call = not s.halted && wants_memory (outcome side s call) call
+
+abbrev pub out_of_memory : Reply
+out_of_memory = record { answer = answers.Refused refusals.OutOfMemory; out = [] }
+
+-- The machine gives this reply and goes on to new. Want of memory leaves all as it was.
+abbrev pub IsStep : Side → DeskState → Call → Reply → DeskState → Type 0
+IsStep side old call r new =
+    ((r ≡ reply side old call) × (new ≡ after side old call)) ⊎ ((r ≡ out_of_memory) × (new ≡ old) × IsTrue (may_want side old call))
+
+-- whether a desk with these facts would record the fact for some call
+abbrev pub is_record : Outcome → Bool
+is_record (Records fact) = true
+is_record (RepeatsNomination n) = false
+is_record (RepeatsMeeting n) = false
+is_record (Saves n) = false
+is_record (Resends id) = false
+is_record Stops = false
+is_record (Refuses refusal) = false
+
+abbrev pub would_record : Side → List ℕ → List Fact → Fact → Bool
+would_record side point history (facts.Contracted contract) = is_record (contracted history contract)
+would_record side point history (facts.Noticed notice) = is_record (noticed notice)
+would_record side point history (facts.Nominated document) =
+    is_record (nominated point history document) && nat_le 1 document.version && nat_le document.version last_version
+would_record side point history (facts.Closed id) = is_record (closed history id)
+would_record side point history (facts.Met id peer) =
+    is_record (by_decision history id (by_order peer (state_of side history id))) && nat_le (length peer.rows) most_processed_rows
+
+-- the number of the first fact that would not be recorded after those before it, or is one too many
+abbrev pub bad_from : Side → List ℕ → List Fact → List Fact → Option ℕ
+bad_from side point before [] = None
+bad_from side point before (fact ∷ later) =
+    if would_record side point before fact && nat_lt (length before) most_facts then bad_from side point (before ++ fact ∷ []) later
+    else Some (length before + 1)
+
+unfoldable pub bad_fact : Side → List ℕ → List Fact → Option ℕ
+bad_fact side point history = bad_from side point [] history

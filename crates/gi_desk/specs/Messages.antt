@@ -1,0 +1,91 @@
+-- The messages that a desk writes, and the packets that carry them.
+use Rattle.std.specs.Prelude.{ℕ, List, [], ◌∷◌, map, filter, Bool, Option, Some, None, if◌then◌else◌}
+use Rattle.std.specs.Ordering.{is_lt}
+use Rattle.std.specs.Str.{bytes_eq}
+use Rattle.gi_pairs.specs.Key.{code_cmp}
+use Rattle.gi_pairs.specs.declared.pair.Pair.{Pair}
+use Rattle.gi_pairs.specs.declared.row.Row.{Row}
+use Rattle.gi_pairs.specs.declared.side.Side.{Side}
+use Rattle.gi_pairs.specs.declared.side.Side.TheVariants.{I, M}
+use Rattle.gi_messages.specs.Writing.{text_of}
+use Rattle.gi_messages.specs.declared.line.Line.{Line}
+use Rattle.gi_messages.specs.declared.message.Acknow.{Acknow}
+use Rattle.gi_messages.specs.declared.message.Delord.{Delord}
+use Rattle.gi_messages.specs.declared.message.Delres.{Delres}
+use Rattle.gi_messages.specs.declared.message.Message.{Message}
+use Rattle.gi_messages.specs.declared.message.Message.TheVariants as messages
+use Rattle.gi_messages.specs.declared.message.Nomint.{Nomint}
+use Rattle.gi_messages.specs.declared.message.Nomres.{Nomres}
+use Rattle.gi_cycles.specs.States.{FrozenCycle, MatchedCycle}
+use Rattle.gi_desk.specs.declared.packet.Packet.{Packet}
+use Rattle.gi_desk.specs.declared.recipient.Recipient.TheVariants.{Peer, User}
+
+abbrev pub to_peer : Message → Packet
+to_peer message = record { to = Peer; body = text_of message }
+
+abbrev pub to_user : List ℕ → Message → Packet
+to_user portfolio message = record { to = User portfolio; body = text_of message }
+
+-- what acknowledges a nomination
+abbrev pub acknow_of : Nomint → Acknow
+acknow_of document = record { point = document.point; portfolio = document.portfolio; day = document.day; version = document.version }
+
+-- the initiating operator's order: its frozen table
+abbrev pub order_of : List ℕ → FrozenCycle → Delord
+order_of point cycle = record { point = point; day = cycle.id.day; cycle = cycle.id.cycle; processed = cycle.own }
+
+-- the matching operator's response: its frozen table, and the confirmed one
+abbrev pub response_of : List ℕ → MatchedCycle → Delres
+response_of point cycle = record { point = point; day = cycle.id.day; cycle = cycle.id.cycle; processed = cycle.own; confirmed = cycle.confirmed }
+
+-- a pair's portfolio at the side, and its counterparty at the other one
+abbrev pub own_of : Side → Pair → List ℕ
+own_of I pair = pair.initiating
+own_of M pair = pair.matching
+
+abbrev pub other_of : Side → Pair → List ℕ
+other_of I pair = pair.matching
+other_of M pair = pair.initiating
+
+-- the side's portfolios that stand in rows, each once, by code
+abbrev pub with_code : List ℕ → List (List ℕ) → List (List ℕ)
+with_code code [] = code ∷ []
+with_code code (x ∷ xs) = if bytes_eq code x then x ∷ xs else (if is_lt (code_cmp code x) then code ∷ x ∷ xs else x ∷ with_code code xs)
+
+abbrev pub portfolios_in : Side → List Row → List (List ℕ)
+portfolios_in side [] = []
+portfolios_in side (row ∷ rows) = with_code (own_of side row.pair) (portfolios_in side rows)
+
+-- the rows of a portfolio as lines, in table order: by counterparty, then `IM` before `MI`
+abbrev pub is_row_of : Side → List ℕ → Row → Bool
+is_row_of side portfolio row = bytes_eq (own_of side row.pair) portfolio
+
+abbrev pub line_of : Side → Row → Line
+line_of side row = record { counterparty = other_of side row.pair; direction = row.direction; hours = row.hours }
+
+abbrev pub lines_of : Side → List ℕ → List Row → List Line
+lines_of side portfolio rows = map (line_of side) (filter (is_row_of side portfolio) rows)
+
+-- what a portfolio is told: its confirmed rows
+abbrev pub told_of : Side → List ℕ → MatchedCycle → List ℕ → Nomres
+told_of side point cycle portfolio = record {
+  point = point;
+  portfolio = portfolio;
+  day = cycle.id.day;
+  cycle = cycle.id.cycle;
+  first = cycle.confirmed.first;
+  last = cycle.confirmed.last;
+  lines = lines_of side portfolio cycle.confirmed.rows;
+}
+
+unfoldable pub told_packets : Side → List ℕ → MatchedCycle → List Packet
+told_packets side point cycle = map (λ portfolio. to_user portfolio (messages.Nomres (told_of side point cycle portfolio))) (portfolios_in side cycle.confirmed.rows)
+
+-- what a role writes to its peer when a cycle is closed, and when it is met
+abbrev pub on_closed : Side → List ℕ → FrozenCycle → Option Message
+on_closed I point cycle = Some (messages.Delord (order_of point cycle))
+on_closed M point cycle = None
+
+abbrev pub on_met : Side → List ℕ → MatchedCycle → Option Message
+on_met I point cycle = None
+on_met M point cycle = Some (messages.Delres (response_of point cycle))

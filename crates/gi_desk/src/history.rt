@@ -1,0 +1,194 @@
+//! What a list of facts says.
+
+ghost use Rattle.std.specs.Prelude.{length, ◌≤◌, ◌+◌, ◌≡◌, ◌++◌, ℕ, List, [], ◌∷◌, false, None, IfOk, OnOk};
+ghost use Rattle.gi_pairs.specs.declared.side.Side.{Side};
+ghost use Rattle.gi_messages.specs.declared.message.Nomint.{Nomint};
+ghost use Rattle.gi_nominations.specs.Book.{IsNewer};
+ghost use Rattle.gi_processing.specs.Recording.{is_refused, notice_refusal, with_contract, with_notice};
+ghost use Rattle.gi_processing.specs.declared.contract.Contract.{Contract};
+ghost use Rattle.gi_processing.specs.declared.notice.Notice.{Notice};
+ghost use Rattle.gi_desk.specs.Machine.{bad_fact};
+ghost use Rattle.gi_desk.specs.declared.fact.Fact.TheVariants.{Contracted, Noticed, Nominated};
+ghost use Rattle.gi_desk.specs.History.{capacity_of, documents_of, is_closed as is_closed_in, is_closing, is_meeting, is_taking, last_closed as last_closed_of, number_of};
+
+use crate::fact::{Fact, copy_of};
+use gi_day::{Calendar, GasDay};
+use gi_messages::Nomint;
+use gi_nominations::Book;
+use gi_pairs::{Code, CycleId};
+use gi_processing::{Contract, ContractFault, Contracts, Notice, NoticeFault};
+use std::alloc::{AllocError, Global};
+
+/// Whether the fact is the closing of the cycle.
+fn closes(fact: &Fact, id: CycleId) -> bool
+    ensures { result ≡ is_closing id fact.now }
+{
+    match fact {
+        Fact::Closed(other) => *other == id,
+        _ => false,
+    }
+}
+
+/// Whether the fact is the meeting of the cycle.
+fn meets(fact: &Fact, id: CycleId) -> bool
+    ensures { result ≡ is_meeting id fact.now }
+{
+    match fact {
+        Fact::Met { id: other, .. } => *other == id,
+        _ => false,
+    }
+}
+
+/// Whether the fact is the taking of a nomination of the same portfolio, gas day and version.
+fn takes(fact: &Fact, document: &Nomint) -> bool
+    ensures { result ≡ is_taking document.now fact.now }
+{
+    match fact {
+        Fact::Nominated(other) => {
+            other.portfolio == document.portfolio
+                && other.day == document.day
+                && other.version == document.version
+        }
+        _ => false,
+    }
+}
+
+/// Whether the cycle is closed.
+#[tactic(auto, unfolding(crate::specs::History::is_closed))]
+pub(crate) fn is_closed(facts: &[Fact], id: CycleId) -> bool
+    ensures { result ≡ is_closed_in id facts.now }
+{
+    facts.iter().any(|fact| closes(fact, id))
+}
+
+/// The number of the cycle's closing; one more than there are facts where it is not closed.
+pub(crate) fn number_of_closing(facts: &[Fact], id: CycleId) -> usize
+    ensures value { result ≡ number_of (is_closing id) facts.now }
+    ensures within { result ≤ length facts.now + 1 }
+{
+    let place = facts.iter().position(|fact| closes(fact, id));
+    place.unwrap_or(facts.len()) + 1
+}
+
+/// The number of the cycle's meeting; one more than there are facts where it has not met.
+pub(crate) fn number_of_meeting(facts: &[Fact], id: CycleId) -> usize
+    ensures value { result ≡ number_of (is_meeting id) facts.now }
+    ensures within { result ≤ length facts.now + 1 }
+{
+    let place = facts.iter().position(|fact| meets(fact, id));
+    place.unwrap_or(facts.len()) + 1
+}
+
+/// The number of the taking of a nomination of the same portfolio, gas day and version; one more
+/// than there are facts where none was taken.
+pub(crate) fn number_of_taking(facts: &[Fact], document: &Nomint) -> usize
+    ensures value { result ≡ number_of (is_taking document.now) facts.now }
+    ensures within { result ≤ length facts.now + 1 }
+{
+    let place = facts.iter().position(|fact| takes(fact, document));
+    place.unwrap_or(facts.len()) + 1
+}
+
+/// The number of the cycle, where the fact closes one of the gas day.
+#[tactic(auto, unfolding(crate::specs::History::last_closed, crate::specs::History::closings))]
+fn closed_on(fact: &Fact, day: GasDay) -> Option<u8>
+    ensures { result ≡ last_closed_of day (fact.now ∷ []) }
+{
+    match fact {
+        Fact::Closed(id) if id.day == day => Some(id.cycle),
+        _ => None,
+    }
+}
+
+/// The number of the gas day's cycle that was closed last.
+#[tactic(auto, unfolding(crate::specs::History::last_closed, crate::specs::History::closings))]
+pub(crate) fn last_closed(facts: &[Fact], day: GasDay) -> Option<u8>
+    ensures { result ≡ last_closed_of day facts.now }
+{
+    let mut last = None;
+    for fact in facts {
+        last = closed_on(fact, day).or(last);
+    }
+    last
+}
+
+/// Sets a contract that is not refused.
+fn set(contracts: &mut Contracts, contract: Contract) -> Result<(), AllocError>
+    requires { is_refused contract contracts.now.contracts ≡ false }
+    ensures { OnOk result (contracts.new ≡ with_contract contracts.old contract) }
+{
+    match contracts.set(contract) {
+        Ok(()) => Ok(()),
+        Err(ContractFault::OutOfMemory) => Err(AllocError),
+        Err(ContractFault::TooManyPortfolios) => unreachable!(),
+    }
+}
+
+/// Records a notice that has no fault.
+fn cut(contracts: &mut Contracts, calendar: &Calendar, notice: Notice) -> Result<(), AllocError>
+    requires { notice_refusal notice ≡ None }
+    ensures { OnOk result (contracts.new ≡ with_notice contracts.old notice) }
+{
+    let Ok(frame) = calendar.frame(notice.day) else {
+        unreachable!()
+    };
+    match contracts.notice(&frame, notice) {
+        Ok(()) => Ok(()),
+        Err(NoticeFault::OutOfMemory) => Err(AllocError),
+        Err(NoticeFault::NoticeRange | NoticeFault::PermilleRange) => unreachable!(),
+    }
+}
+
+/// Records the contract or the notice that the fact records, if any.
+fn record(contracts: &mut Contracts, calendar: &Calendar, fact: &Fact) -> Result<(), AllocError>
+    requires contract { (contract : Contract) → fact.now ≡ Contracted contract → is_refused contract contracts.now.contracts ≡ false }
+    requires notice { (notice : Notice) → fact.now ≡ Noticed notice → notice_refusal notice ≡ None }
+    ensures contracts { OnOk result (contracts.new.contracts ≡ contracts.old.contracts ++ (capacity_of (fact.now ∷ [])).contracts) }
+    ensures notices { OnOk result (contracts.new.notices ≡ contracts.old.notices ++ (capacity_of (fact.now ∷ [])).notices) }
+{
+    match fact {
+        Fact::Contracted(contract) => set(contracts, *contract),
+        Fact::Noticed(notice) => cut(contracts, calendar, *notice),
+        _ => Ok(()),
+    }
+}
+
+/// The contracts and the notices that legal facts record.
+pub(crate) fn contracts_at(
+    alloc: Global,
+    calendar: &Calendar,
+    facts: &[Fact],
+) -> Result<Contracts, AllocError>
+    requires legal { (side : Side) × (point : List ℕ) × (bad_fact side point facts.now ≡ None) }
+    ensures { IfOk result (λ contracts. contracts ≡ capacity_of facts.now) }
+{
+    let mut contracts = Contracts::new(alloc);
+    for fact in facts {
+        record(&mut contracts, calendar, fact)?;
+    }
+    Ok(contracts)
+}
+
+/// Takes the nomination that the fact takes, if any.
+fn take(book: &mut Book, fact: &Fact) -> Result<(), AllocError>
+    requires { (document : Nomint) → fact.now ≡ Nominated document → IsNewer book.now.documents document }
+    ensures point { OnOk result (book.new.point ≡ book.old.point) }
+    ensures documents { OnOk result (book.new.documents ≡ book.old.documents ++ documents_of (fact.now ∷ [])) }
+{
+    match fact {
+        Fact::Nominated(document) => book.take(copy_of(document)?),
+        _ => Ok(()),
+    }
+}
+
+/// The book of the nominations that legal facts take.
+pub(crate) fn book_at(alloc: Global, point: Code, facts: &[Fact]) -> Result<Book, AllocError>
+    requires legal { (side : Side) × (bad_fact side point facts.now ≡ None) }
+    ensures { IfOk result (λ book. book ≡ record { point = point; documents = documents_of facts.now }) }
+{
+    let mut book = Book::new(alloc, point);
+    for fact in facts {
+        take(&mut book, fact)?;
+    }
+    Ok(book)
+}

@@ -1,0 +1,48 @@
+use gi_day::CalendarFault;
+use gi_messages::MessageFault;
+use gi_nominations::NominationFault;
+
+/// Why a desk refuses a call.
+#[derive(Clone, Copy, Debug, PartialEq, Eq)]
+pub enum Refusal {
+    /// The desk is halted.
+    Halted,
+    /// The portfolio has no contract on any day, and 64 others have one.
+    TooManyPortfolios,
+    /// The calendar gives no frame of the gas day. No call answers it.
+    Calendar(CalendarFault),
+    /// Not 1 <= first <= last <= the gas day's hours.
+    NoticeRange,
+    /// A number over 1000 per mille.
+    PermilleRange,
+    /// The bytes are no message.
+    Message(MessageFault),
+    /// A message of a kind that is not for this call.
+    WrongKind,
+    /// The nomination is refused.
+    Nomination(NominationFault),
+    /// The gas day has no such cycle.
+    NoSuchCycle,
+    /// The cycle is closed already.
+    AlreadyClosed,
+    /// A later cycle of the gas day is closed: the one closed last has this number.
+    OutOfOrder { last: u8 },
+    /// The message is for another interconnection point.
+    WrongPoint,
+    /// The cycle is not closed here; for a resending, its closing is not saved.
+    NotClosed,
+    /// The table is for other hours than the frozen one.
+    ShapeDiffers,
+    /// The confirmed table is not the lesser of the two: they differ first at this row, from 1.
+    NotTheLesser { row: u32 },
+    /// The cycle met another table.
+    Conflict,
+    /// The next fact to save has this number.
+    NotNext { expected: u32 },
+    /// The fact of that number is another one, or is not there.
+    OtherFact,
+    /// 1,000,000 facts are recorded.
+    Full,
+    /// Memory ran out.
+    OutOfMemory,
+}

@@ -1,0 +1,114 @@
+//! What the portfolios of a side are told.
+
+ghost use Rattle.std.specs.Prelude.{◌≡◌, IfOk, map};
+ghost use Rattle.gi_messages.specs.declared.message.Message.TheVariants as messages;
+ghost use Rattle.gi_desk.specs.Messages.{line_of as line_of_row, lines_of as lines_of_rows, other_of, own_of, to_user, told_of};
+
+use crate::body::Body;
+use crate::packet::Packet;
+use crate::recipient::Recipient;
+use gi_cycles::Matched;
+use gi_messages::{Line, Lines, Message, Nomres, encode};
+use gi_pairs::{Code, Pair, Row, Side};
+use std::alloc::{AllocError, Global};
+
+/// A pair's portfolio at the side.
+fn own_code(side: Side, pair: Pair) -> Code
+    ensures { result ≡ own_of side pair }
+{
+    match side {
+        Side::I => pair.initiating,
+        Side::M => pair.matching,
+    }
+}
+
+/// Its counterparty at the other side.
+fn other_code(side: Side, pair: Pair) -> Code
+    ensures { result ≡ other_of side pair }
+{
+    match side {
+        Side::I => pair.matching,
+        Side::M => pair.initiating,
+    }
+}
+
+/// The row as a line for the side's portfolio.
+fn line_of(side: Side, row: &Row) -> Result<Line, AllocError>
+    ensures { IfOk result (λ line. line ≡ line_of_row side row.now) }
+{
+    Ok(Line {
+        counterparty: other_code(side, row.pair),
+        direction: row.direction,
+        hours: row.hours.copy()?,
+    })
+}
+
+/// The rows of a portfolio as lines, in their order.
+fn lines_of(alloc: Global, side: Side, portfolio: Code, rows: &[Row]) -> Result<Lines, AllocError>
+    ensures { IfOk result (λ lines. lines ≡ lines_of_rows side portfolio rows.now) }
+{
+    let mut lines = Vec::new(alloc);
+    for row in rows {
+        if own_code(side, row.pair) == portfolio {
+            lines.push(line_of(side, row)?)?;
+        }
+    }
+    Ok(Lines::from(lines))
+}
+
+/// What a portfolio is told: its confirmed rows.
+fn told(
+    alloc: Global,
+    side: Side,
+    point: Code,
+    cycle: &Matched,
+    portfolio: Code,
+) -> Result<Nomres, AllocError>
+    ensures { IfOk result (λ nomres. nomres ≡ told_of side point cycle.now portfolio) }
+{
+    let id = cycle.id();
+    let confirmed = cycle.confirmed();
+    Ok(Nomres {
+        point,
+        portfolio,
+        day: id.day,
+        cycle: id.cycle,
+        first: confirmed.first(),
+        last: confirmed.last(),
+        lines: lines_of(alloc, side, portfolio, confirmed.rows())?,
+    })
+}
+
+/// The packet that tells a portfolio.
+fn packet_for(
+    alloc: Global,
+    side: Side,
+    point: Code,
+    cycle: &Matched,
+    portfolio: Code,
+) -> Result<Packet, AllocError>
+    ensures { IfOk result (λ packet. packet ≡ to_user portfolio (messages.Nomres (told_of side point cycle.now portfolio))) }
+{
+    let message = Message::Nomres(told(alloc, side, point, cycle, portfolio)?);
+    Ok(Packet {
+        to: Recipient::User(portfolio),
+        body: Body::from(encode(alloc, &message)?),
+    })
+}
+
+/// The packets that tell these portfolios, in their order.
+pub(crate) fn packets_for(
+    alloc: Global,
+    side: Side,
+    point: Code,
+    cycle: &Matched,
+    portfolios: &[Code],
+) -> Result<Vec<Packet>, AllocError>
+    ensures { IfOk result (λ packets. packets.items ≡ map (λ portfolio. to_user portfolio (messages.Nomres (told_of side point cycle.now portfolio))) portfolios.now) }
+{
+    let mut packets = Vec::with_capacity(alloc, portfolios.len())?;
+    for portfolio in portfolios {
+        packets.push(packet_for(alloc, side, point, cycle, *portfolio)?)?;
+    }
+    Ok(packets)
+}

@@ -1,0 +1,41 @@
+use crate::order::order_for;
+use crate::response::take_response;
+use gi_cycles::{CycleState, Frozen, Matched};
+use gi_desk::{Decision, Refusal, Role};
+use gi_messages::Message;
+use gi_pairs::{Code, Side};
+use std::alloc::{AllocError, Global};
+
+/// The initiating operator: it sends the order, and takes the response.
+pub struct Initiating;
+
+impl Role for Initiating {
+    ghost use Rattle.gi_pairs.specs.declared.side.Side.TheVariants.{I};
+
+    ghost SIDE = { I };
+
+    const SIDE: Side = Side::I;
+
+    fn decide(alloc: Global, state: &CycleState, message: &Message) -> Decision {
+        match message {
+            Message::Delres(response) => take_response(alloc, state, response),
+            _ => Decision::Refused(Refusal::WrongKind),
+        }
+    }
+
+    fn on_closed(
+        alloc: Global,
+        point: Code,
+        cycle: &Frozen,
+    ) -> Result<Option<Message>, AllocError> {
+        Ok(Some(Message::Delord(order_for(alloc, point, cycle)?)))
+    }
+
+    fn on_met(
+        _alloc: Global,
+        _point: Code,
+        _cycle: &Matched,
+    ) -> Result<Option<Message>, AllocError> {
+        Ok(None)
+    }
+}

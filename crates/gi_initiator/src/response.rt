@@ -1,0 +1,56 @@
+ghost use Rattle.std.specs.Prelude.{◌≡◌, ◌≤◌, IfErr, IfOk, IsTrue, length};
+ghost use Rattle.std.specs.Option.{option_copied};
+ghost use Rattle.gi_pairs.specs.Limits.{most_processed_rows};
+ghost use Rattle.gi_desk.specs.Deciding.{IsUnlessShort, by_response, compared, may_want, same_hours as same_hours_of};
+ghost use Rattle.gi_initiator.specs.Taking.{taking};
+
+use gi_cycles::CycleState;
+use gi_desk::{Decision, Refusal, difference, met_again, same_hours};
+use gi_lesser::lesser;
+use gi_messages::Delres;
+use gi_pairs::Table;
+use std::alloc::{AllocError, Global};
+
+/// What comes of a response to a closed cycle, which may have met a table. Memory is wanted only
+/// where the hours are the same.
+fn taken(
+    alloc: Global,
+    own: &Table,
+    met: Option<&Table>,
+    response: &Delres,
+) -> Result<Decision, AllocError>
+    requires own { length own.now.rows ≤ most_processed_rows }
+    requires processed { length response.now.processed.rows ≤ most_processed_rows }
+    ensures decided { IfOk result (λ decision. decision ≡ compared own.now response.now.processed response.now.confirmed (taking (option_copied met.entry) response.now.processed)) }
+    ensures short { IfErr result (λ _. IsTrue (same_hours_of own.now response.now.processed)) }
+{
+    if !same_hours(own, &response.processed) {
+        return Ok(Decision::Refused(Refusal::ShapeDiffers));
+    }
+    let lesser = lesser(alloc, own, &response.processed)?;
+    if let Some(row) = difference(response.confirmed.rows(), lesser.rows()) {
+        return Ok(Decision::Refused(Refusal::NotTheLesser { row }));
+    }
+    Ok(match met {
+        Some(met) => met_again(met, &response.processed),
+        None => Decision::Meet(response.processed.copy()?),
+    })
+}
+
+/// What comes of a response, which has at most 4,096 processed rows, in a state of its cycle:
+/// `NotClosed` while nominations are collected; `ShapeDiffers` where its tables are for other hours
+/// than the frozen one; `NotTheLesser` where what it confirms is not the lesser of the frozen table
+/// and its processed one. A frozen cycle meets the processed table; a matched one has met it
+/// already, or answers `Conflict`. `OutOfMemory` comes only where the cycle is closed and the hours
+/// are the same.
+pub fn take_response(alloc: Global, state: &CycleState, response: &Delres) -> Decision
+    requires { length response.now.processed.rows ≤ most_processed_rows }
+    ensures { IsUnlessShort (may_want response.now.processed state.now) (by_response response.now.processed response.now.confirmed state.now) result }
+{
+    let decision = match state {
+        CycleState::Collecting(_) => Ok(Decision::Refused(Refusal::NotClosed)),
+        CycleState::Frozen(cycle) => taken(alloc, cycle.own(), None, response),
+        CycleState::Matched(cycle) => taken(alloc, cycle.own(), Some(cycle.peer()), response),
+    };
+    decision.unwrap_or(Decision::Refused(Refusal::OutOfMemory))
+}
