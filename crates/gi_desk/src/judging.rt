@@ -2,7 +2,7 @@
 
 ghost use Rattle.std.specs.Prelude.{◌≡◌, ◌≤◌, IfOk, List, Some, length};
 ghost use Rattle.gi_desk.specs.History.{capacity_of, documents_of};
-ghost use Rattle.gi_desk.specs.Judging.{by_decision, by_verdict as by_verdict_of, closed as closed_of, contracted as contracted_of, if_same as if_same_fact, marked as marked_of, nominated as nominated_of, noticed as noticed_of, resent as resent_of};
+ghost use Rattle.gi_desk.specs.Judging.{by_decision, by_verdict as by_verdict_of, closed as closed_of, contracted as contracted_of, if_same as if_same_fact, marked as marked_of, nominated as nominated_of, resent as resent_of};
 ghost use Rattle.gi_desk.specs.Machine.{most_facts, unless_full as unless_full_of};
 
 use crate::decision::Decision;
@@ -16,7 +16,7 @@ use gi_day::Calendar;
 use gi_messages::Nomint;
 use gi_nominations::{Book, Setting, Verdict};
 use gi_pairs::CycleId;
-use gi_processing::{Contract, ContractFault, Contracts, Notice, NoticeFault};
+use gi_processing::{Contract, ContractFault, Contracts};
 use std::alloc::{AllocError, Global};
 
 /// How many facts a desk has at most.
