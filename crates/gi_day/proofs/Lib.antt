@@ -1,4 +1,4 @@
-mod CycleLemmas
+pub mod CycleLemmas
 mod DayLemmas
 mod DayRange
 mod ZoneLemmas

@@ -1,5 +1,5 @@
 -- Facts that are legal: each would be recorded after those before it.
-use Rattle.std.proofs.Common.{◌≡◌, ◌<◌, ◌≤◌, ◌+◌, ℕ, List, [], ◌∷◌, ◌++◌, length, take, drop, get_or, Bool, true, false, cond, ◌&&◌, nat_lt, ltb-true, length-append, arith, Option, Some, None, refl, sym, ap, subst}
+use Rattle.std.proofs.Common.{◌≡◌, ◌<◌, ◌≤◌, ◌+◌, ℕ, List, [], ◌∷◌, ◌++◌, length, take, drop, get_or, Bool, true, false, cond, nat_lt, ltb-true, length-append, arith, Option, Some, None, refl, sym, ap, subst}
 use Rattle.std.proofs.lemmas.Bool.{and_from, and_parts}
 use Rattle.std.proofs.lemmas.Bool.Decides.{nat_tests}
 use Rattle.std.proofs.lemmas.List.{append-nil, append_assoc, take-append-drop}
@@ -22,15 +22,11 @@ use Rattle.gi_processing.specs.declared.notice_fault.NoticeFault.TheVariants as 
 use Rattle.gi_desk.specs.History.{capacity_of, documents_of}
 use Rattle.gi_desk.specs.Judging.{by_verdict, setting_of, unless_fault, verdict_on}
 use Rattle.gi_desk.specs.declared.outcome.Outcome.TheVariants.{Records, Refuses}
-use Rattle.gi_desk.specs.Machine.{bad_fact, bad_from, is_record, most_facts, would_record}
+use Rattle.gi_desk.specs.Machine.{bad_fact, bad_from, is_record, may_follow, most_facts, would_record}
 use Rattle.gi_desk.specs.declared.fact.Fact.{Fact}
 use Rattle.gi_desk.specs.declared.fact.Fact.TheVariants.{Contracted, Noticed, Nominated, Closed, Met}
 use Rattle.gi_desk.specs.declared.refusal.Refusal.TheVariants as refusals
 use Rattle.gi_desk.proofs.HistoryLaws.{capacity_more, documents_more, one_more}
-
--- the fact may come after those before it
-abbrev pub may_follow : Side → List ℕ → List Fact → Fact → Bool
-may_follow side point before fact = would_record side point before fact && nat_lt (length before) most_facts
 
 first_may : (b : Bool) (next : Option ℕ) (number : ℕ) → cond b next (Some number) ≡ None → (b ≡ true) × (next ≡ None)
 first_may true next number e = (refl, e)

@@ -1,4 +1,16 @@
+mod Called
+mod Confirmed
+mod CycleLaws
+mod Decoded
+mod Differing
 mod HistoryLaws
-pub mod Differing
-pub mod Legality
-pub mod StateLaws
+mod KeptLaws
+mod Legality
+mod LettingOut
+mod Outcomes
+mod Replaying
+mod StageLaws
+mod StateLaws
+mod StepFacts
+mod StepLaws
+mod Told

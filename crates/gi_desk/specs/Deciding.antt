@@ -3,6 +3,7 @@ use Rattle.std.specs.Prelude.{◌≡◌, ◌≤◌, ◌⊎◌, ℕ, ◌+◌, Lis
 use Rattle.gi_pairs.specs.Limits.{most_processed_rows}
 use Rattle.gi_pairs.specs.Row.{row_eq}
 use Rattle.gi_pairs.specs.Table.{TableContents, table_eq}
+use Rattle.gi_pairs.specs.declared.cycle_id.CycleId.{CycleId}
 use Rattle.gi_pairs.specs.declared.row.Row.{Row}
 use Rattle.gi_pairs.specs.declared.side.Side.{Side}
 use Rattle.gi_pairs.specs.declared.side.Side.TheVariants.{I, M}
@@ -73,6 +74,16 @@ IsForRole M (Delres message) = ⊥
 IsForRole side (Nomint message) = ⊥
 IsForRole side (Acknow message) = ⊥
 IsForRole side (Nomres message) = ⊥
+
+-- the interconnection point and the cycle of such a message
+abbrev pub address_of : Side → Message → Option (List ℕ × CycleId)
+address_of M (Delord message) = Some (message.point, record { day = message.day; cycle = message.cycle })
+address_of I (Delres message) = Some (message.point, record { day = message.day; cycle = message.cycle })
+address_of I (Delord message) = None
+address_of M (Delres message) = None
+address_of side (Nomint message) = None
+address_of side (Acknow message) = None
+address_of side (Nomres message) = None
 
 -- the processed table of an order or a response has as few rows as a message may carry
 abbrev pub HasFewRows : Message → Type 0

@@ -26,10 +26,9 @@ use Rattle.gi_desk.specs.Same.{same_fact}
 use Rattle.gi_desk.specs.declared.decision.Decision.{Decision}
 use Rattle.gi_desk.specs.declared.decision.Decision.TheVariants as decisions
 use Rattle.gi_desk.specs.declared.outcome.Outcome.{Outcome}
-use Rattle.gi_desk.specs.declared.outcome.Outcome.TheVariants.{Records, RepeatsNomination, RepeatsMeeting, Saves, Resends, Stops, Refuses}
+use Rattle.gi_desk.specs.declared.outcome.Outcome.TheVariants.{Records, RepeatsNomination, RepeatsMeeting, Saves, Resends, Refuses}
 use Rattle.gi_desk.specs.declared.fact.Fact.{Fact}
 use Rattle.gi_desk.specs.declared.fact.Fact.TheVariants as facts
-use Rattle.gi_desk.specs.declared.refusal.Refusal.{Refusal}
 use Rattle.gi_desk.specs.declared.refusal.Refusal.TheVariants.{TooManyPortfolios, NoticeRange, PermilleRange, OutOfMemory, Message as MessageRefused, WrongKind, Nomination, NoSuchCycle, AlreadyClosed, OutOfOrder, WrongPoint, NotClosed, NotNext, OtherFact}
 
 -- a contract
@@ -37,7 +36,7 @@ abbrev pub contracted : List Fact → Contract → Outcome
 contracted history contract =
     if is_refused contract (capacity_of history).contracts then Refuses TooManyPortfolios else Records (facts.Contracted contract)
 
--- a notice
+-- a notice; none comes to want of memory
 abbrev pub unless_fault : Option NoticeFault → Outcome → Outcome
 unless_fault None outcome = outcome
 unless_fault (Some notices.NoticeRange) outcome = Refuses NoticeRange

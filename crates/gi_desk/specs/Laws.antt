@@ -1,13 +1,19 @@
 -- What holds of all histories of a desk.
-use Rattle.std.specs.Prelude.{◌≡◌, ℕ, ◌≤◌, List, ◌∷◌, ◌++◌, length, Some, None, true, false}
+use Rattle.std.specs.Prelude.{◌≡◌, ℕ, ◌+◌, ◌≤◌, List, [], ◌∷◌, ◌++◌, length, take, Contains, ◌⊎◌, Some, None, true, false}
 use Rattle.gi_pairs.specs.Table.{TableContents}
 use Rattle.gi_pairs.specs.declared.cycle_id.CycleId.{CycleId}
 use Rattle.gi_pairs.specs.declared.side.Side.{Side}
 use Rattle.gi_desk.specs.History.{frozen_table, is_closed, peer_of, state_of}
-use Rattle.gi_desk.specs.LetOut.{let_out}
-use Rattle.gi_desk.specs.Machine.{bad_fact}
+use Rattle.gi_desk.specs.Kept.{changes_cycle}
+use Rattle.gi_desk.specs.LetOut.{let_out, packets_of}
+use Rattle.gi_desk.specs.Machine.{DeskState, after as state_after, bad_fact, is_for_peer, reply}
+use Rattle.gi_desk.specs.Queries.{confirmed}
+use Rattle.gi_desk.specs.declared.answer.Answer.TheVariants as answers
+use Rattle.gi_desk.specs.declared.call.Call.{Call}
 use Rattle.gi_desk.specs.declared.fact.Fact.{Fact}
 use Rattle.gi_desk.specs.declared.fact.Fact.TheVariants.{Closed, Met}
+use Rattle.gi_desk.specs.declared.packet.Packet.{Packet}
+use Rattle.gi_desk.specs.declared.refusal.Refusal.{Refusal}
 
 -- what a fact lets out is never changed by later facts
 abbrev pub LetsOutForGood : Type 0
@@ -36,3 +42,49 @@ MeetsOnce =
     (side : Side) (point : List ℕ) (before after : List Fact) (id : CycleId) (peer : TableContents)
     → bad_fact side point (before ++ Met id peer ∷ after) ≡ None
     → (is_closed id before ≡ true) × (peer_of id before ≡ None) × (peer_of id after ≡ None)
+
+-- the new facts are the old ones, or those with one more at the end
+abbrev pub HasOneMoreAtMost : List Fact → List Fact → Type 0
+HasOneMoreAtMost old new = (new ≡ old) ⊎ ((fact : Fact) × (new ≡ old ++ fact ∷ []))
+
+-- A call leaves the facts as they are or adds one at the end. It saves one more at most, and what is saved stays so.
+abbrev pub OnlyAppends : Type 0
+OnlyAppends =
+    (side : Side) (s : DeskState) (call : Call)
+    → let next = state_after side s call in HasOneMoreAtMost s.facts next.facts × (s.saved ≤ next.saved) × (next.saved ≤ s.saved + 1)
+
+-- A refused call changes nothing and lets nothing out.
+abbrev pub RefusalsChangeNothing : Type 0
+RefusalsChangeNothing =
+    (side : Side) (s : DeskState) (call : Call) (refusal : Refusal) → (reply side s call).answer ≡ answers.Refused refusal
+    → (state_after side s call ≡ s) × ((reply side s call).out ≡ [])
+
+-- Every packet of a reply is what a fact lets out that is saved once the call is done.
+abbrev pub SaysOnlyWhatIsSaved : Type 0
+SaysOnlyWhatIsSaved =
+    (side : Side) (s : DeskState) (call : Call) (packet : Packet) → Contains (reply side s call).out packet
+    → (n : ℕ) × (1 ≤ n) × (n ≤ (state_after side s call).saved) × Contains (let_out side s.point s.facts n) packet
+
+-- The peer is written to only of a cycle that was closed or met.
+abbrev pub OrdersOnlyOfCycles : Type 0
+OrdersOnlyOfCycles =
+    (side : Side) (point : List ℕ) (facts : List Fact) (fact : Fact) (packet : Packet) → Contains (packets_of side point facts fact) packet
+    → is_for_peer packet ≡ true → changes_cycle fact ≡ true
+
+-- Facts that a desk would record in turn stay such facts after a call, and no call saves more facts than there are.
+abbrev pub StaysLegal : Type 0
+StaysLegal =
+    (side : Side) (s : DeskState) (call : Call)
+    → let next = state_after side s call in
+    (bad_fact side s.point s.facts ≡ None → bad_fact side next.point next.facts ≡ None) × (s.saved ≤ length s.facts → next.saved ≤ length next.facts)
+
+-- The first so many of facts that a desk would record in turn are such facts too.
+abbrev pub FrontsAreLegal : Type 0
+FrontsAreLegal =
+    (side : Side) (point : List ℕ) (facts : List Fact) (n : ℕ) → bad_fact side point facts ≡ None → bad_fact side point (take n facts) ≡ None
+
+-- What is once confirmed of a cycle no call changes.
+abbrev pub ConfirmsForGood : Type 0
+ConfirmsForGood =
+    (side : Side) (s : DeskState) (call : Call) (id : CycleId) (table : TableContents) → bad_fact side s.point s.facts ≡ None → s.saved ≤ length s.facts
+    → confirmed side s id ≡ Some table → confirmed side (state_after side s call) id ≡ Some table

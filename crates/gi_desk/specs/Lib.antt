@@ -5,4 +5,7 @@ pub mod Deciding
 pub mod LetOut
 pub mod Judging
 pub mod Machine
+pub mod Kept
+pub mod Queries
+pub mod FaultText
 pub mod Laws

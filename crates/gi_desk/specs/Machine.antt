@@ -1,10 +1,10 @@
 -- The desk as a machine: its state is a list of facts, how many of them are saved, and whether it is halted. Every
 -- answer, every packet and the next state are functions of the state and the call.
-use Rattle.std.specs.Prelude.{◌≡◌, ℕ, ◌+◌, List, [], ◌∷◌, ◌++◌, length, filter, Bool, true, false, not, ◌&&◌, nat_le, nat_lt, IsTrue, ◌⊎◌, if◌then◌else◌, Option, Some, None}
+use Rattle.std.specs.Prelude.{◌≡◌, ◌<◌, ℕ, ◌+◌, List, [], ◌∷◌, ◌++◌, length, filter, Bool, true, false, not, ◌&&◌, nat_le, nat_lt, IsTrue, ◌⊎◌, if◌then◌else◌, Option, Some, None, Result, Ok, Err}
 use Rattle.gi_pairs.specs.Limits.{most_processed_rows}
 use Rattle.gi_pairs.specs.declared.side.Side.{Side}
 use Rattle.gi_messages.specs.Decoding.{decoded}
-use Rattle.gi_messages.specs.Limits.{last_version}
+use Rattle.gi_messages.specs.Limits.{last_version, most_bytes}
 use Rattle.gi_desk.specs.Deciding.{by_order}
 use Rattle.gi_desk.specs.History.{is_closing, is_meeting, number_of, state_of}
 use Rattle.gi_desk.specs.Judging.{by_decision, closed, contracted, delivered, marked, nominated, noticed, resent, submitted}
@@ -21,6 +21,8 @@ use Rattle.gi_desk.specs.declared.packet.Packet.{Packet}
 use Rattle.gi_desk.specs.declared.recipient.Recipient.{Recipient}
 use Rattle.gi_desk.specs.declared.recipient.Recipient.TheVariants.{Peer, User}
 use Rattle.gi_desk.specs.declared.refusal.Refusal.TheVariants as refusals
+use Rattle.gi_desk.specs.declared.replay_fault.ReplayFault.{ReplayFault}
+use Rattle.gi_desk.specs.declared.replay_fault.ReplayFault.TheVariants.{BadFact, OutOfMemory}
 use Rattle.gi_desk.specs.declared.reply.Reply.{Reply}
 
 -- how many facts a desk has at most (this project's choice)
@@ -105,24 +107,30 @@ reply side s call = let o = outcome side s call in record { answer = answer_of s
 unfoldable pub after : Side → DeskState → Call → DeskState
 after side s call = next_of s (outcome side s call)
 
--- A step may want memory on no halted desk, for no halt, and for no refused notice, closing, resending or mark.
-abbrev pub is_refusal : Outcome → Bool
-is_refusal (Records fact) = false
-is_refusal (RepeatsNomination n) = false
-is_refusal (RepeatsMeeting n) = false
-is_refusal (Saves n) = false
-is_refusal (Resends id) = false
-is_refusal Stops = false
-is_refusal (Refuses refusal) = true
+-- to refuse and to halt want no memory
+abbrev pub grows : Outcome → Bool
+grows (Records fact) = true
+grows (RepeatsNomination n) = true
+grows (RepeatsMeeting n) = true
+grows (Saves n) = true
+grows (Resends id) = true
+grows Stops = false
+grows (Refuses refusal) = false
 
+-- a message that is not too large to be read
+abbrev pub can_be_read : List ℕ → Bool
+can_be_read body = nat_le (length body) most_bytes
+
+-- A step may want memory on no halted desk, for no halt, for no message that is too large, and for no refused notice,
+-- closing, resending or mark.
 abbrev pub wants_memory : Outcome → Call → Bool
 wants_memory o (Contract contract) = true
-wants_memory o (Notice notice) = not (is_refusal o)
-wants_memory o (Submit body) = true
-wants_memory o (Close id) = not (is_refusal o)
-wants_memory o (Deliver body) = true
-wants_memory o (Resend id) = not (is_refusal o)
-wants_memory o (MarkSaved n fact) = not (is_refusal o)
+wants_memory o (Notice notice) = grows o
+wants_memory o (Submit body) = can_be_read body
+wants_memory o (Close id) = grows o
+wants_memory o (Deliver body) = can_be_read body
+wants_memory o (Resend id) = grows o
+wants_memory o (MarkSaved n fact) = grows o
 wants_memory o Halt = false
 
 unfoldable pub may_want : Side → DeskState → Call → Bool
@@ -135,6 +143,10 @@ out_of_memory = record { answer = answers.Refused refusals.OutOfMemory; out = []
 abbrev pub IsStep : Side → DeskState → Call → Reply → DeskState → Type 0
 IsStep side old call r new =
     ((r ≡ reply side old call) × (new ≡ after side old call)) ⊎ ((r ≡ out_of_memory) × (new ≡ old) × IsTrue (may_want side old call))
+
+-- that reply beforehand, with nothing changed
+abbrev pub IsForeseen : Side → DeskState → Call → Reply → Type 0
+IsForeseen side s call r = (r ≡ reply side s call) ⊎ ((r ≡ out_of_memory) × IsTrue (may_want side s call))
 
 -- whether a desk with these facts would record the fact for some call
 abbrev pub is_record : Outcome → Bool
@@ -155,12 +167,23 @@ would_record side point history (facts.Closed id) = is_record (closed history id
 would_record side point history (facts.Met id peer) =
     is_record (by_decision history id (by_order peer (state_of side history id))) && nat_le (length peer.rows) most_processed_rows
 
+-- the fact may come after those before it: some call would record it, and there is room
+abbrev pub may_follow : Side → List ℕ → List Fact → Fact → Bool
+may_follow side point before fact = would_record side point before fact && nat_lt (length before) most_facts
+
 -- the number of the first fact that would not be recorded after those before it, or is one too many
 abbrev pub bad_from : Side → List ℕ → List Fact → List Fact → Option ℕ
 bad_from side point before [] = None
 bad_from side point before (fact ∷ later) =
-    if would_record side point before fact && nat_lt (length before) most_facts then bad_from side point (before ++ fact ∷ []) later
+    if may_follow side point before fact then bad_from side point (before ++ fact ∷ []) later
     else Some (length before + 1)
 
 unfoldable pub bad_fact : Side → List ℕ → List Fact → Option ℕ
 bad_fact side point history = bad_from side point [] history
+
+-- A desk of given facts: all of them are saved, and it is not halted. It refuses the first bad one. A desk without
+-- facts wants no memory.
+abbrev pub IsReplayed : Side → List ℕ → List Fact → Result DeskState ReplayFault → Type 0
+IsReplayed side point facts (Ok s) = (bad_fact side point facts ≡ None) × (s ≡ record { point = point; facts = facts; saved = length facts; halted = false })
+IsReplayed side point facts (Err (BadFact n)) = bad_fact side point facts ≡ Some n
+IsReplayed side point facts (Err OutOfMemory) = 0 < length facts

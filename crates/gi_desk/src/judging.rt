@@ -1,10 +1,17 @@
 //! What each call comes to, by the facts of a desk.
 
-ghost use Rattle.std.specs.Prelude.{◌≡◌, ◌≤◌, IfOk, List, Some, length};
+ghost use Rattle.std.specs.Prelude.{◌≡◌, ◌≤◌, ◌&&◌, ◌↔◌, IfOk, IfSome, IsTrue, List, Some, length, nat_le};
 ghost use Rattle.gi_desk.specs.History.{capacity_of, documents_of};
-ghost use Rattle.gi_desk.specs.Judging.{by_decision, by_verdict as by_verdict_of, closed as closed_of, contracted as contracted_of, if_same as if_same_fact, marked as marked_of, nominated as nominated_of, resent as resent_of};
-ghost use Rattle.gi_desk.specs.Machine.{most_facts, unless_full as unless_full_of};
+ghost use Rattle.gi_desk.specs.Judging.{by_decision, by_verdict as by_verdict_of, closed as closed_of, contracted as contracted_of, if_same as if_same_fact, marked as marked_of, nominated as nominated_of, noticed as noticed_of, resent as resent_of, verdict_on};
+ghost use Rattle.gi_pairs.specs.Limits.{most_processed_rows};
+ghost use Rattle.gi_pairs.specs.declared.cycle_id.CycleId.{CycleId};
+ghost use Rattle.gi_desk.specs.Deciding.{IsForRole, address_of, by_order};
+ghost use Rattle.gi_desk.specs.declared.fact.Fact.{Fact};
+ghost use Rattle.gi_desk.specs.declared.decision.Decision.TheVariants.{Refused};
+ghost use Rattle.gi_desk.specs.declared.refusal.Refusal.TheVariants.{OutOfMemory};
+ghost use Rattle.gi_desk.specs.Machine.{is_record as is_record_of, most_facts, unless_full as unless_full_of};
 
+use crate::deciding::same_hours;
 use crate::decision::Decision;
 use crate::fact::Fact;
 use crate::history::{
@@ -12,11 +19,12 @@ use crate::history::{
 };
 use crate::outcome::Outcome;
 use crate::refusal::Refusal;
+use gi_cycles::CycleState;
 use gi_day::Calendar;
-use gi_messages::Nomint;
+use gi_messages::{Message, Nomint};
 use gi_nominations::{Book, Setting, Verdict};
-use gi_pairs::CycleId;
-use gi_processing::{Contract, ContractFault, Contracts};
+use gi_pairs::{Code, CycleId, MOST_PROCESSED_ROWS, Side, Table};
+use gi_processing::{Contract, ContractFault, Contracts, Notice, NoticeFault};
 use std::alloc::{AllocError, Global};
 
 /// How many facts a desk has at most.
@@ -34,6 +42,39 @@ pub(crate) fn contracted(contracts: Contracts, contract: &Contract) -> Result<Ou
     }
 }
 
+/// A notice.
+pub(crate) fn noticed(calendar: &Calendar, notice: &Notice) -> Outcome
+    ensures { result ≡ noticed_of notice.now }
+{
+    let frame = calendar.frame(notice.day).unwrap();
+    match notice.fault(&frame) {
+        None => Outcome::Records(Fact::Noticed(*notice)),
+        Some(NoticeFault::NoticeRange) => Outcome::Refuses(Refusal::NoticeRange),
+        Some(NoticeFault::PermilleRange) => Outcome::Refuses(Refusal::PermilleRange),
+        Some(NoticeFault::OutOfMemory) => Outcome::Refuses(Refusal::OutOfMemory),
+    }
+}
+
+/// The verdict on a nomination, by the book and the contracts of the facts.
+pub(crate) fn verdict(
+    calendar: &Calendar,
+    facts: &[Fact],
+    book: &Book,
+    contracts: &Contracts,
+    document: &Nomint,
+) -> Verdict
+    requires book { book.now.documents ≡ documents_of facts.now }
+    requires contracts { contracts.now ≡ capacity_of facts.now }
+    ensures { result ≡ verdict_on book.now.point facts.now document.now }
+{
+    let setting = Setting {
+        frame: calendar.frame(document.day).unwrap(),
+        known: contracts.knows(document.portfolio, document.day),
+        last_closed: last_closed(facts, document.day),
+    };
+    book.judge(&setting, document)
+}
+
 /// A nomination, by the book and the contracts of the facts.
 pub(crate) fn nominated(
     calendar: &Calendar,
@@ -47,12 +88,7 @@ pub(crate) fn nominated(
     requires contracts { contracts.now ≡ capacity_of facts.now }
     ensures { result ≡ nominated_of book.now.point facts.now document }
 {
-    let setting = Setting {
-        frame: calendar.frame(document.day).unwrap(),
-        known: contracts.knows(document.portfolio, document.day),
-        last_closed: last_closed(facts, document.day),
-    };
-    let verdict = book.judge(&setting, &document);
+    let verdict = verdict(calendar, facts, book, contracts, &document);
     by_verdict(facts, document, verdict)
 }
 
@@ -89,6 +125,38 @@ pub(crate) fn closed(calendar: &Calendar, facts: &[Fact], id: &CycleId) -> Outco
     Outcome::Records(Fact::Closed(*id))
 }
 
+/// The interconnection point and the cycle of the peer's message, where it is of the kind that is
+/// for the side.
+pub(crate) fn addressed(side: Side, message: &Message) -> Option<(Code, CycleId)>
+    ensures value { result ≡ address_of side message.now }
+    ensures kind { IfSome result (λ _. IsForRole side message.now) }
+{
+    match (side, message) {
+        (Side::M, Message::Delord(order)) => Some((
+            order.point,
+            CycleId {
+                day: order.day,
+                cycle: order.cycle,
+            },
+        )),
+        (Side::I, Message::Delres(response)) => Some((
+            response.point,
+            CycleId {
+                day: response.day,
+                cycle: response.cycle,
+            },
+        )),
+        _ => None,
+    }
+}
+
+/// Whether a decision is want of memory.
+pub(crate) fn is_short(decision: &Decision) -> bool
+    ensures { IsTrue result ↔ (decision.now ≡ Refused OutOfMemory) }
+{
+    matches!(decision, Decision::Refused(Refusal::OutOfMemory))
+}
+
 /// The peer's message, by what its role makes of it.
 pub(crate) fn decided(facts: &[Fact], id: CycleId, decision: Decision) -> Outcome
     requires few { length facts.now ≤ most_facts }
@@ -100,6 +168,19 @@ pub(crate) fn decided(facts: &[Fact], id: CycleId, decision: Decision) -> Outcom
             n: number_of_meeting(facts, id) as u32,
         },
         Decision::Refused(refusal) => Outcome::Refuses(refusal),
+    }
+}
+
+/// Whether a cycle that is so far can meet the peer's table.
+pub(crate) fn can_meet(state: &CycleState, peer: &Table) -> bool
+    ensures { (facts : List Fact) (id : CycleId) → result ≡ (is_record_of (by_decision facts id (by_order peer.now state.now)) && nat_le (length peer.now.rows) most_processed_rows) }
+{
+    match state {
+        CycleState::Collecting(_) => false,
+        CycleState::Frozen(cycle) => {
+            same_hours(cycle.own(), peer) && peer.rows().len() <= MOST_PROCESSED_ROWS
+        }
+        CycleState::Matched(_) => false,
     }
 }
 
@@ -138,6 +219,13 @@ pub(crate) fn marked(facts: &[Fact], saved: u32, n: u32, fact: &Fact) -> Outcome
         return Outcome::Refuses(Refusal::OtherFact);
     }
     if_same(n, fact, &facts[place])
+}
+
+/// Whether a fact is recorded.
+pub(crate) fn is_record(outcome: &Outcome) -> bool
+    ensures { result ≡ is_record_of outcome.now }
+{
+    matches!(outcome, Outcome::Records(_))
 }
 
 /// Where no fact more can be recorded, none is.

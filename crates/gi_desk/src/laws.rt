@@ -1,6 +1,6 @@
 //! What holds of all histories of a desk. These functions do nothing; their clauses are the laws.
 
-ghost use Rattle.gi_desk.specs.Laws.{FreezesForGood, LetsOutForGood, MatchesForGood};
+ghost use Rattle.gi_desk.specs.Laws.{ClosesOnce, ConfirmsForGood, FreezesForGood, FrontsAreLegal, LetsOutForGood, MatchesForGood, MeetsOnce, OnlyAppends, OrdersOnlyOfCycles, RefusalsChangeNothing, SaysOnlyWhatIsSaved, StaysLegal};
 
 /// No later fact changes what a fact lets out.
 pub fn lets_out_for_good()
@@ -15,4 +15,49 @@ pub fn freezes_for_good()
 /// No later fact changes a cycle that met its peer's table.
 pub fn matches_for_good()
     ensures { MatchesForGood }
+{}
+
+/// Of facts that a desk would record in turn, one at most closes a cycle.
+pub fn closes_once()
+    ensures { ClosesOnce }
+{}
+
+/// One at most meets it, and that one stands after the closing.
+pub fn meets_once()
+    ensures { MeetsOnce }
+{}
+
+/// A call adds one fact at the end at most, saves one more at most, and unsaves none.
+pub fn only_appends()
+    ensures { OnlyAppends }
+{}
+
+/// A refused call changes nothing and lets nothing out.
+pub fn refusals_change_nothing()
+    ensures { RefusalsChangeNothing }
+{}
+
+/// Every packet of a reply is what a saved fact lets out.
+pub fn says_only_what_is_saved()
+    ensures { SaysOnlyWhatIsSaved }
+{}
+
+/// The peer is written to only of a cycle that was closed or met.
+pub fn orders_only_of_cycles()
+    ensures { OrdersOnlyOfCycles }
+{}
+
+/// From facts that a desk would record in turn a call leads to such facts.
+pub fn stays_legal()
+    ensures { StaysLegal }
+{}
+
+/// The first so many of facts that a desk would record in turn are such facts too.
+pub fn fronts_are_legal()
+    ensures { FrontsAreLegal }
+{}
+
+/// What is once confirmed of a cycle no call changes.
+pub fn confirms_for_good()
+    ensures { ConfirmsForGood }
 {}

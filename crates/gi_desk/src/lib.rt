@@ -6,18 +6,23 @@ mod body;
 mod call;
 mod deciding;
 mod decision;
+mod desk;
 mod fact;
 mod history;
 mod judging;
 mod laws;
+mod letting_out;
 mod outcome;
 mod packet;
 mod packets;
 mod recipient;
 mod refusal;
+mod replay_fault;
 mod reply;
 mod role;
 mod same;
+mod stage_name;
+mod stages;
 mod telling;
 
 pub use answer::Answer;
@@ -25,15 +30,22 @@ pub use body::Body;
 pub use call::Call;
 pub use deciding::{difference, met_again, same_hours};
 pub use decision::Decision;
+pub use desk::Desk;
 pub use fact::Fact;
 pub use judging::MOST_FACTS;
-pub use laws::{freezes_for_good, lets_out_for_good, matches_for_good};
+pub use laws::{
+    closes_once, confirms_for_good, freezes_for_good, fronts_are_legal, lets_out_for_good,
+    matches_for_good, meets_once, only_appends, orders_only_of_cycles, refusals_change_nothing,
+    says_only_what_is_saved, stays_legal,
+};
 pub use packet::Packet;
 pub use packets::Packets;
 pub use recipient::Recipient;
 pub use refusal::Refusal;
+pub use replay_fault::ReplayFault;
 pub use reply::Reply;
 pub use role::Role;
+pub use stage_name::StageName;
 
 #[cfg(test)]
 mod tests;

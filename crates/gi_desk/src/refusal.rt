@@ -1,6 +1,8 @@
 use gi_day::CalendarFault;
 use gi_messages::MessageFault;
 use gi_nominations::NominationFault;
+use std::error::Error;
+use std::fmt;
 
 /// Why a desk refuses a call.
 #[derive(Clone, Copy, Debug, PartialEq, Eq)]
@@ -46,3 +48,37 @@ pub enum Refusal {
     /// Memory ran out.
     OutOfMemory,
 }
+
+impl fmt::Display for Refusal {
+    ghost use Rattle.std.specs.Prelude.{Some};
+    ghost use Rattle.gi_desk.specs.FaultText.{refusal_text};
+
+    ghost output = { λ refusal. Some (refusal_text refusal) };
+
+    fn fmt<W: fmt::Write>(&self, f: &mut fmt::Formatter<W>) -> fmt::Result {
+        match self {
+            Refusal::Halted => f.write_str("Halted"),
+            Refusal::TooManyPortfolios => f.write_str("TooManyPortfolios"),
+            Refusal::Calendar(fault) => write!(f, "Calendar {fault}"),
+            Refusal::NoticeRange => f.write_str("NoticeRange"),
+            Refusal::PermilleRange => f.write_str("PermilleRange"),
+            Refusal::Message(fault) => write!(f, "Message {fault}"),
+            Refusal::WrongKind => f.write_str("WrongKind"),
+            Refusal::Nomination(fault) => write!(f, "{fault}"),
+            Refusal::NoSuchCycle => f.write_str("NoSuchCycle"),
+            Refusal::AlreadyClosed => f.write_str("AlreadyClosed"),
+            Refusal::OutOfOrder { last } => write!(f, "OutOfOrder {last}"),
+            Refusal::WrongPoint => f.write_str("WrongPoint"),
+            Refusal::NotClosed => f.write_str("NotClosed"),
+            Refusal::ShapeDiffers => f.write_str("ShapeDiffers"),
+            Refusal::NotTheLesser { row } => write!(f, "NotTheLesser {row}"),
+            Refusal::Conflict => f.write_str("Conflict"),
+            Refusal::NotNext { expected } => write!(f, "NotNext {expected}"),
+            Refusal::OtherFact => f.write_str("OtherFact"),
+            Refusal::Full => f.write_str("Full"),
+            Refusal::OutOfMemory => f.write_str("OutOfMemory"),
+        }
+    }
+}
+
+impl Error for Refusal {}

@@ -21,7 +21,8 @@ pub trait Role {
     /// processed rows, in a state of its cycle: `NotClosed` while nominations are collected, then
     /// `ShapeDiffers`, then at the initiating side `NotTheLesser`. A frozen cycle meets the
     /// message's table; a matched one has met it already or answers `Conflict`. `OutOfMemory` comes
-    /// only where the cycle is closed and the hours are the same.
+    /// only where the cycle is closed and the hours are the same. A message of another kind does not
+    /// come here: the desk refuses it.
     fn decide(alloc: Global, state: &CycleState, message: &Message) -> Decision
         requires kind { IsForRole SIDE message.now }
         requires few { HasFewRows message.now }

@@ -1,8 +1,9 @@
 //! What the portfolios of a side are told.
 
-ghost use Rattle.std.specs.Prelude.{◌≡◌, IfOk, map};
+ghost use Rattle.std.specs.Prelude.{◌≡◌, IfOk, OnOk, Some, map};
 ghost use Rattle.gi_messages.specs.declared.message.Message.TheVariants as messages;
-ghost use Rattle.gi_desk.specs.Messages.{line_of as line_of_row, lines_of as lines_of_rows, other_of, own_of, to_user, told_of};
+ghost use Rattle.gi_desk.specs.Messages.{line_of as line_of_row, lines_of as lines_of_rows, other_of, own_of, portfolios_in as portfolios_in_rows, to_user, told_of, told_packets as told_packets_of, with_code};
+ghost use Rattle.gi_desk.specs.Queries.{stands_in as stands_in_rows, told_if as told_if_met};
 
 use crate::body::Body;
 use crate::packet::Packet;
@@ -79,6 +80,29 @@ fn told(
     })
 }
 
+/// Whether the side's portfolio stands in one of the rows.
+fn stands_in(side: Side, portfolio: Code, rows: &[Row]) -> bool
+    ensures { result ≡ stands_in_rows side portfolio rows.now }
+{
+    rows.iter().any(|row| own_code(side, row.pair) == portfolio)
+}
+
+/// What a portfolio is told, where it stands in a confirmed row.
+pub(crate) fn told_if(
+    alloc: Global,
+    side: Side,
+    point: Code,
+    cycle: &Matched,
+    portfolio: Code,
+) -> Result<Option<Nomres>, AllocError>
+    ensures { IfOk result (λ nomres. nomres ≡ told_if_met side point portfolio (Some cycle.now)) }
+{
+    if !stands_in(side, portfolio, cycle.confirmed().rows()) {
+        return Ok(None);
+    }
+    Ok(Some(told(alloc, side, point, cycle, portfolio)?))
+}
+
 /// The packet that tells a portfolio.
 fn packet_for(
     alloc: Global,
@@ -111,4 +135,41 @@ pub(crate) fn packets_for(
         packets.push(packet_for(alloc, side, point, cycle, *portfolio)?)?;
     }
     Ok(packets)
+}
+
+/// Puts the code before the first that is not below it, unless it stands there.
+fn insert(codes: &mut Vec<Code>, code: Code) -> Result<(), AllocError>
+    ensures { OnOk result (codes.new.items ≡ with_code code codes.old.items) }
+{
+    let place = codes.iter().position(|other| code <= *other);
+    let place = place.unwrap_or(codes.len());
+    if place == codes.len() || code != codes[place] {
+        codes.insert(place, code)?;
+    }
+    Ok(())
+}
+
+/// The side's portfolios that stand in the rows, each once, by code.
+fn portfolios_in(alloc: Global, side: Side, rows: &[Row]) -> Result<Vec<Code>, AllocError>
+    ensures { IfOk result (λ codes. codes.items ≡ portfolios_in_rows side rows.now) }
+{
+    let mut codes = Vec::new(alloc);
+    for row in rows.iter().rev() {
+        insert(&mut codes, own_code(side, row.pair))?;
+    }
+    Ok(codes)
+}
+
+/// The packets that tell each portfolio its confirmed rows.
+#[tactic(auto, unfolding(crate::specs::Messages::told_packets))]
+pub(crate) fn told_packets(
+    alloc: Global,
+    side: Side,
+    point: Code,
+    cycle: &Matched,
+) -> Result<Vec<Packet>, AllocError>
+    ensures { IfOk result (λ packets. packets.items ≡ told_packets_of side point cycle.now) }
+{
+    let portfolios = portfolios_in(alloc, side, cycle.confirmed().rows())?;
+    packets_for(alloc, side, point, cycle, &portfolios)
 }

@@ -11,4 +11,6 @@ pub use order::order_for;
 pub use response::take_response;
 
 #[cfg(test)]
+mod desk_tests;
+#[cfg(test)]
 mod tests;

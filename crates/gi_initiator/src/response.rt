@@ -38,8 +38,9 @@ fn taken(
 }
 
 /// What comes of a response, which has at most 4,096 processed rows, in a state of its cycle:
-/// `NotClosed` while nominations are collected; `ShapeDiffers` where its tables are for other hours
-/// than the frozen one; `NotTheLesser` where what it confirms is not the lesser of the frozen table
+/// `NotClosed` while nominations are collected; `ShapeDiffers` where its processed table is for other
+/// hours than the frozen one (in a response that was read both tables are for the same hours);
+/// `NotTheLesser` where what it confirms is not the lesser of the frozen table
 /// and its processed one. A frozen cycle meets the processed table; a matched one has met it
 /// already, or answers `Conflict`. `OutOfMemory` comes only where the cycle is closed and the hours
 /// are the same.

@@ -4,7 +4,6 @@ mod Portfolios
 mod ProcessingLaws
 mod ProcessingLemmas
 mod ProcessingRows
-mod Recorded
 pub mod ReductionLaws
 pub mod SoundLaws
 mod SumLemmas

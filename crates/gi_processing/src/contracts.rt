@@ -161,7 +161,6 @@ impl Contracts {
 
     /// Records a notice, under the frame of its day. The refusals, in their order, are `NoticeRange`,
     /// `PermilleRange` and `OutOfMemory`; after each nothing is changed.
-    #[tactic(auto, unfolding(crate::specs::Recording::notice_refusal))]
     pub fn notice(&mut self, frame: &DayFrame, notice: Notice) -> Result<(), NoticeFault>
         requires { frame.now ≡ notice.day }
         ensures refused { (fault : NoticeFault) → notice_refusal notice ≡ Some fault → result ≡ Err fault }
@@ -170,11 +169,8 @@ impl Contracts {
         ensures stands { OnOk result (NoticeStands self.old.notices self.new.notices notice) }
         ensures kept { OnErr result (self.new ≡ self.old) }
     {
-        if !notice.is_within(frame.hours()) {
-            return Err(NoticeFault::NoticeRange);
-        }
-        if notice.is_over() {
-            return Err(NoticeFault::PermilleRange);
+        if let Some(fault) = notice.fault(frame) {
+            return Err(fault);
         }
         let Ok(()) = self.notices.reserve(1) else {
             return Err(NoticeFault::OutOfMemory);

@@ -1,8 +1,9 @@
-ghost use Rattle.std.specs.Prelude.{◌≡◌};
+ghost use Rattle.std.specs.Prelude.{◌≡◌, IfNone};
 ghost use Rattle.gi_processing.specs.Capacity.{covers as covers_of};
-ghost use Rattle.gi_processing.specs.Recording.{has_hours, is_over as is_over_of};
+ghost use Rattle.gi_processing.specs.Recording.{IsNotice, has_hours, is_over as is_over_of, notice_refusal};
 
-use gi_day::GasDay;
+use crate::notice_fault::NoticeFault;
+use gi_day::{DayFrame, GasDay};
 use gi_pairs::Direction;
 
 /// The greatest per-mille number: nothing is cut.
@@ -33,16 +34,33 @@ impl Notice {
     }
 
     /// Whether 1 <= first <= last <= hours.
-    pub(crate) fn is_within(&self, hours: u8) -> bool
+    fn is_within(&self, hours: u8) -> bool
         ensures { result ≡ has_hours hours self.now }
     {
         1 <= self.first && self.first <= self.last && self.last <= hours
     }
 
     /// Whether a number is over 1000 per mille.
-    pub(crate) fn is_over(&self) -> bool
+    fn is_over(&self) -> bool
         ensures { result ≡ is_over_of self.now }
     {
         self.firm > MOST_PERMILLE || self.interruptible > MOST_PERMILLE
+    }
+
+    /// Why it is refused, if it is, under the frame of its day: `NoticeRange` where not
+    /// 1 <= first <= last <= the day's hours, then `PermilleRange`.
+    #[tactic(auto, unfolding(crate::specs::Recording::notice_refusal))]
+    pub fn fault(&self, frame: &DayFrame) -> Option<NoticeFault>
+        requires { frame.now ≡ self.now.day }
+        ensures value { result ≡ notice_refusal self.now }
+        ensures in_range { IfNone result (IsNotice self.now) }
+    {
+        if !self.is_within(frame.hours()) {
+            return Some(NoticeFault::NoticeRange);
+        }
+        if self.is_over() {
+            return Some(NoticeFault::PermilleRange);
+        }
+        None
     }
 }

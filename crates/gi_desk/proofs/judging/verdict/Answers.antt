@@ -1,19 +1,14 @@
-use Rattle.std.proofs.Common.{◌≡◌, ℕ, Option, Some, Bool, ap, sym, ◌∙◌, rules}
-use Rattle.jiff_core.specs.declared.civil.date.Date.{Date}
-use Rattle.gi_messages.specs.declared.message.Nomint.{Nomint}
-use Rattle.gi_nominations.specs.Book.{Documents}
+use Rattle.std.proofs.Common.{◌≡◌, ap, ◌∙◌, rules}
 use Rattle.gi_nominations.specs.Judging.{verdict}
-use Rattle.gi_nominations.specs.declared.setting.Setting.{Setting}
-use Rattle.gi_nominations.specs.declared.verdict.Verdict.{Verdict}
 use Rattle.gi_processing.specs.Capacity.{knows}
-use Rattle.gi_desk.specs.History.{capacity_of, documents_of, last_closed}
-use Rattle.gi_desk.specs.Judging.{by_verdict, setting_of, verdict_on}
-use Rattle.gi_desk.proofs.judging.nominated.Goals as goal
+use Rattle.gi_desk.specs.History.{capacity_of, documents_of}
+use Rattle.gi_desk.specs.Judging.{setting_of}
+use Rattle.gi_desk.proofs.judging.verdict.Goals as goal
 
 pub returns : goal.returns
 returns c =
     let facts = c.args.facts.now in
-    let document = c.args.document in
+    let document = c.args.document.now in
     let frame : c.unwrap.result ≡ document.day = search rules in
     let known : c.knows.result ≡ knows document.portfolio document.day (capacity_of facts).contracts =
     c.knows.ensures ∙ ap (λ capacity. knows document.portfolio document.day capacity.contracts) c.requires.contracts in
@@ -21,6 +16,4 @@ returns c =
     λ i. record { point = c.args.book.now.point; documents = c.requires.book i } in
     let setting : record { frame = c.unwrap.result; known = c.knows.result; last_closed = c.last_closed.result } ≡ setting_of facts document =
     λ i. record { frame = frame i; known = known i; last_closed = c.last_closed.ensures i } in
-    let judged : c.judge-verdict.result ≡ verdict_on c.args.book.now.point facts document =
-    c.judge-verdict.ensures.value ∙ (λ i. verdict (book i) (setting i) document) in
-    c.by_verdict.ensures ∙ ap (by_verdict facts document) judged
+    c.judge.ensures.value ∙ (λ i. verdict (book i) (setting i) document)

@@ -1,0 +1,139 @@
+-- What calls come to, by the parts of their definitions.
+use Rattle.std.proofs.Common.{◌≡◌, inl, inr, ℕ, List, Bool, true, false, not, cond, Option, Some, None, Result, Ok, Err, IsTrue, Bor, IfOk, IfErr, refl, sym, ap, ◌∙◌}
+use Rattle.std.proofs.lemmas.Bool.{and_from}
+use Rattle.std.proofs.lemmas.Option.{same_Some}
+use Rattle.std.specs.Option.{option_copied, unwrap_or}
+use Rattle.std.specs.Str.{bytes_eq}
+use Rattle.gi_pairs.specs.Table.{TableContents}
+use Rattle.gi_pairs.specs.declared.cycle_id.CycleId.{CycleId}
+use Rattle.gi_pairs.specs.declared.side.Side.{Side}
+use Rattle.gi_pairs.specs.declared.side.Side.TheVariants.{I, M}
+use Rattle.gi_messages.specs.declared.message.Message.{Message}
+use Rattle.gi_messages.specs.declared.message.Message.TheVariants.{Nomint, Acknow, Nomres, Delord, Delres}
+use Rattle.gi_cycles.specs.declared.cycle_state.CycleState.{CycleState}
+use Rattle.gi_cycles.specs.declared.cycle_state.CycleState.TheVariants.{Collecting}
+use Rattle.gi_desk.specs.Deciding.{IsUnlessShort, address_of, by_order, by_response, decision}
+use Rattle.gi_desk.specs.History.{frozen_cycle, is_closed, met_by, peer_of, state_of}
+use Rattle.gi_desk.specs.Judging.{by_decision, cycle_of, delivered, resent}
+use Rattle.gi_desk.specs.Kept.{closed_state, learns_with_memory}
+use Rattle.gi_desk.specs.Machine.{DeskState, comes_to, is_record, may_want, outcome, unless_full, wants_memory}
+use Rattle.gi_desk.specs.declared.call.Call.{Call}
+use Rattle.gi_desk.specs.declared.call.Call.TheVariants.{Contract, Notice, Submit, Close, Deliver, Resend, MarkSaved, Halt}
+use Rattle.gi_desk.specs.declared.decision.Decision.{Decision}
+use Rattle.gi_desk.specs.declared.decision.Decision.TheVariants.{Refused}
+use Rattle.gi_desk.specs.declared.fact.Fact.{Fact}
+use Rattle.gi_desk.specs.declared.outcome.Outcome.{Outcome}
+use Rattle.gi_desk.specs.declared.outcome.Outcome.TheVariants.{Refuses}
+use Rattle.gi_desk.specs.declared.refusal.Refusal.TheVariants.{Halted, OutOfMemory, WrongPoint}
+
+-- ---- how far a cycle is
+
+state_by : (b : Bool) (state : CycleState) (id : CycleId) → unwrap_or (cond b (Some (cond b state (Collecting id))) None) (Collecting id) ≡ cond b state (Collecting id)
+state_by true state id = refl
+state_by false state id = refl
+
+-- a cycle that is not closed collects
+pub found-state : (side : Side) (facts : List Fact) (id : CycleId) (found : Option CycleState) → found ≡ closed_state side facts id → unwrap_or found (Collecting id) ≡ state_of side facts id
+unfolding state_of
+found-state side facts id found e =
+    ap (λ (o : Option CycleState). unwrap_or o (Collecting id)) e ∙ state_by (is_closed id facts) (met_by (frozen_cycle side facts id) (peer_of id facts)) id
+
+-- the state that was found, or the other one, where they are referred to
+pub referred-state : (found : Option (Bor CycleState)) (other : Bor CycleState) → (unwrap_or found other).now ≡ unwrap_or (option_copied found) other.now
+referred-state None other = refl
+referred-state (Some state) other = refl
+
+-- ---- a decision that is no want of memory
+
+-- a test that fails does not pass
+untrue : (b : Bool) → b ≡ false → IsTrue b → ⊥
+untrue true is true_is = absurd cc
+untrue false is true_is = absurd cc
+
+pub unless_short : (wants short : Bool) (decided got : Decision) → IsUnlessShort wants decided got → (got ≡ Refused OutOfMemory → IsTrue short) → short ≡ false → got ≡ decided
+unless_short wants short decided got is here not_short = elim is [ inl e ↦ e | inr e ↦ absurd (untrue short not_short (here e.1)) ]
+
+-- ---- the peer's message
+
+taken : (b : Bool) (o : Outcome) → false ≡ not b → cond b o (Refuses WrongPoint) ≡ o
+taken true o e = refl
+taken false o e = absurd cc
+
+-- a message of the point, of the kind that is for the side
+pub delivered-addressed : (side : Side) (point kept own : List ℕ) (history : List Fact) (id : CycleId) (message : Message) → Some (point, id) ≡ address_of side message → false ≡ not (bytes_eq point kept) → kept ≡ own
+    → by_decision history id (decision side (state_of side history id) message) ≡ delivered side own history (Ok message)
+delivered-addressed M point kept own history id (Delord message) addressed same is_own =
+    let address = same_Some (point, id) (message.point, cycle_of message.day message.cycle) addressed in
+    let of_point : point ≡ message.point = ap (λ (a : List ℕ × CycleId). a.0) address in
+    let of_cycle : id ≡ cycle_of message.day message.cycle = ap (λ (a : List ℕ × CycleId). a.1) address in
+    let same_here : false ≡ not (bytes_eq message.point own) = same ∙ (λ i. not (bytes_eq (of_point i) (is_own i))) in
+    ap (λ (i : CycleId). by_decision history i (by_order message.processed (state_of M history i))) of_cycle
+    ∙ sym (taken (bytes_eq message.point own) _ same_here)
+delivered-addressed I point kept own history id (Delres message) addressed same is_own =
+    let address = same_Some (point, id) (message.point, cycle_of message.day message.cycle) addressed in
+    let of_point : point ≡ message.point = ap (λ (a : List ℕ × CycleId). a.0) address in
+    let of_cycle : id ≡ cycle_of message.day message.cycle = ap (λ (a : List ℕ × CycleId). a.1) address in
+    let same_here : false ≡ not (bytes_eq message.point own) = same ∙ (λ i. not (bytes_eq (of_point i) (is_own i))) in
+    ap (λ (i : CycleId). by_decision history i (by_response message.processed message.confirmed (state_of I history i))) of_cycle
+    ∙ sym (taken (bytes_eq message.point own) _ same_here)
+delivered-addressed I point kept own history id (Delord message) addressed same is_own = absurd cc
+delivered-addressed M point kept own history id (Delres message) addressed same is_own = absurd cc
+delivered-addressed M point kept own history id (Nomint message) addressed same is_own = absurd cc
+delivered-addressed M point kept own history id (Acknow message) addressed same is_own = absurd cc
+delivered-addressed M point kept own history id (Nomres message) addressed same is_own = absurd cc
+delivered-addressed I point kept own history id (Nomint message) addressed same is_own = absurd cc
+delivered-addressed I point kept own history id (Acknow message) addressed same is_own = absurd cc
+delivered-addressed I point kept own history id (Nomres message) addressed same is_own = absurd cc
+
+-- what was decoded, where what comes of it is known
+pub delivered-from : {E : Type 0} (r : Result Outcome E) (read other : Outcome) → IfOk r (λ outcome. outcome ≡ read) → read ≡ other → IfOk r (λ outcome. outcome ≡ other)
+delivered-from (Ok outcome) read other is e = is ∙ e
+delivered-from (Err fault) read other is e = tt
+
+-- ---- which cycle can meet a table
+
+-- one that is not closed cannot
+pub unmet-unclosed : (side : Side) (facts : List Fact) (id : CycleId) (peer : TableContents) → None ≡ closed_state side facts id
+    → is_record (by_decision facts id (by_order peer (state_of side facts id))) ≡ false
+unmet-unclosed side facts id peer e =
+    ap (λ (state : CycleState). is_record (by_decision facts id (by_order peer state))) (sym (found-state side facts id None e))
+
+-- ---- want of memory
+
+pub learnt-wants : (o : Outcome) (call : Call) → IsTrue (learns_with_memory call) → wants_memory o call ≡ true
+learnt-wants o (Contract contract) learns = refl
+learnt-wants o (Submit body) learns = learns
+learnt-wants o (Deliver body) learns = learns
+learnt-wants o (Notice notice) learns = absurd cc
+learnt-wants o (Close id) learns = absurd cc
+learnt-wants o (Resend id) learns = absurd cc
+learnt-wants o (MarkSaved n fact) learns = absurd cc
+learnt-wants o Halt learns = absurd cc
+
+-- a desk that is not halted may want memory wherever it learns with memory
+pub short-wants : (side : Side) (s : DeskState) (call : Call) → s.halted ≡ false → IsTrue (learns_with_memory call) → IsTrue (may_want side s call)
+unfolding may_want
+short-wants side s call running learns =
+    and_from (not s.halted) (wants_memory (outcome side s call) call) (ap not running) (learnt-wants (outcome side s call) call learns)
+
+-- ---- outcomes
+
+pub halted-outcome : (side : Side) (s : DeskState) (call : Call) → s.halted ≡ true → Refuses Halted ≡ outcome side s call
+unfolding outcome
+halted-outcome side s call halted = ap (λ (b : Bool). cond b (Refuses Halted) (unless_full s.facts (comes_to side s call))) (sym halted)
+
+pub running-outcome : (side : Side) (s : DeskState) (call : Call) → s.halted ≡ false → unless_full s.facts (comes_to side s call) ≡ outcome side s call
+unfolding outcome
+running-outcome side s call running = ap (λ (b : Bool). cond b (Refuses Halted) (unless_full s.facts (comes_to side s call))) (sym running)
+
+-- what holds holds of a fault too
+pub if_failed : {X E : Type 0} {P : Type 0} (r : Result X E) → P → IfErr r (λ fault. P)
+if_failed (Ok x) p = tt
+if_failed (Err fault) p = p
+
+-- ---- a cycle's packets again
+
+pub resent-called : (side : Side) (s : DeskState) (call : Call) (history : List Fact) (saved : ℕ) (id : CycleId) (o : Outcome) → o ≡ resent history saved id → history ≡ s.facts → saved ≡ s.saved
+    → call ≡ Resend id → o ≡ comes_to side s call
+resent-called side s call history saved id o is facts_are saved_is call_is =
+    is ∙ (λ i. resent (facts_are i) (saved_is i) id) ∙ ap (comes_to side s) (sym call_is)

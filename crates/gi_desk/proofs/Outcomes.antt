@@ -1,0 +1,294 @@
+-- What a call comes to can follow the facts of a desk.
+use Rattle.std.proofs.Common.{arith, ◌≡◌, ◌<◌, ◌≤◌, ◌+◌, ℕ, List, length, Bool, true, false, cond, not, nat_eq, nat_le, nat_lt, Option, Some, None, Result, Ok, Err, refl, ap, subst}
+use Rattle.std.specs.Prelude.{slice_get}
+use Rattle.std.specs.Str.{bytes_eq}
+use Rattle.std.proofs.lemmas.Bool.{and_from}
+use Rattle.std.proofs.lemmas.Bool.Decides.{nat_tests}
+use Rattle.std.proofs.lemmas.Option.{slice_get_within}
+use Rattle.gi_day.specs.Cycles.{cycle_count}
+use Rattle.gi_pairs.specs.Limits.{most_processed_rows}
+use Rattle.gi_pairs.specs.Table.{TableContents, table_eq}
+use Rattle.gi_pairs.specs.declared.cycle_id.CycleId.{CycleId}
+use Rattle.gi_pairs.specs.declared.side.Side.{Side}
+use Rattle.gi_pairs.specs.declared.side.Side.TheVariants.{I, M}
+use Rattle.gi_lesser.specs.Lesser.{lesser_of}
+use Rattle.gi_messages.specs.Decoding.{decoded}
+use Rattle.gi_messages.specs.Grammar.{Fits, Spells}
+use Rattle.gi_messages.specs.declared.message.Message.{Message}
+use Rattle.gi_messages.specs.declared.message.Message.TheVariants as messages
+use Rattle.gi_messages.specs.declared.message.Nomint.{Nomint}
+use Rattle.gi_messages.specs.declared.message_fault.MessageFault.{MessageFault}
+use Rattle.gi_messages.proofs.MessageLemmas.{decoded_takes}
+use Rattle.gi_messages.proofs.WritingLemmas.{fits_from_writable}
+use Rattle.gi_nominations.specs.declared.verdict.Verdict.{Verdict}
+use Rattle.gi_nominations.specs.declared.verdict.Verdict.TheVariants as verdicts
+use Rattle.gi_processing.specs.Recording.{is_refused, notice_refusal}
+use Rattle.gi_processing.specs.declared.notice_fault.NoticeFault.{NoticeFault}
+use Rattle.gi_processing.specs.declared.notice_fault.NoticeFault.TheVariants as notices
+use Rattle.gi_cycles.specs.declared.cycle_state.CycleState.{CycleState}
+use Rattle.gi_cycles.specs.declared.cycle_state.CycleState.TheVariants.{Collecting, Frozen, Matched}
+use Rattle.gi_desk.specs.Deciding.{by_order, by_response, difference, met_again, same_hours, unless_differs}
+use Rattle.gi_desk.specs.History.{capacity_of, is_closed, last_closed, number_of, state_of}
+use Rattle.gi_desk.specs.Judging.{by_decision, by_verdict, closed, contracted, cycle_of, delivered, if_same, noticed, of_point, submitted, unless_fault, unless_later, verdict_on}
+use Rattle.gi_desk.specs.Kept.{CanFollow}
+use Rattle.gi_desk.specs.Machine.{DeskState, comes_to, is_record, most_facts, outcome, unless_full, would_record}
+use Rattle.gi_desk.specs.Same.{same_fact}
+use Rattle.gi_desk.specs.declared.call.Call.{Call}
+use Rattle.gi_desk.specs.declared.call.Call.TheVariants as calls
+use Rattle.gi_desk.specs.declared.decision.Decision.{Decision}
+use Rattle.gi_desk.specs.declared.decision.Decision.TheVariants as decisions
+use Rattle.gi_desk.specs.declared.fact.Fact.{Fact}
+use Rattle.gi_desk.specs.declared.fact.Fact.TheVariants as facts
+use Rattle.gi_desk.specs.declared.outcome.Outcome.{Outcome}
+use Rattle.gi_desk.specs.declared.outcome.Outcome.TheVariants.{Records, RepeatsNomination, RepeatsMeeting, Saves, Resends, Stops, Refuses}
+use Rattle.gi_desk.specs.declared.refusal.Refusal.TheVariants as refusals
+
+-- what a call that comes to an outcome by itself can be sure of
+abbrev pub IsSure : Side → DeskState → Outcome → Type 0
+IsSure side s (Records fact) = would_record side s.point s.facts fact ≡ true
+IsSure side s (RepeatsNomination n) = 1 ≤ n
+IsSure side s (RepeatsMeeting n) = 1 ≤ n
+IsSure side s (Saves n) = (n ≡ s.saved + 1) × (n ≤ length s.facts)
+IsSure side s (Resends id) = Unit {0}
+IsSure side s Stops = Unit {0}
+IsSure side s (Refuses refusal) = Unit {0}
+
+-- the outcome saves nothing, and records no fact but this one
+abbrev pub IsOf : Fact → Outcome → Type 0
+IsOf own (Records fact) = own ≡ fact
+IsOf own (RepeatsNomination n) = 1 ≤ n
+IsOf own (RepeatsMeeting n) = 1 ≤ n
+IsOf own (Saves n) = ⊥
+IsOf own (Resends id) = Unit {0}
+IsOf own Stops = Unit {0}
+IsOf own (Refuses refusal) = Unit {0}
+
+sure : (side : Side) (s : DeskState) (own : Fact) (o : Outcome) → IsOf own o → (is_record o ≡ true → would_record side s.point s.facts own ≡ true) → IsSure side s o
+sure side s own (Records fact) is recorded = subst (λ (f : Fact). would_record side s.point s.facts f ≡ true) is (recorded refl)
+sure side s own (RepeatsNomination n) is recorded = is
+sure side s own (RepeatsMeeting n) is recorded = is
+sure side s own (Saves n) is recorded = absurd is
+sure side s own (Resends id) is recorded = tt
+sure side s own Stops is recorded = tt
+sure side s own (Refuses refusal) is recorded = tt
+
+of_test : (own : Fact) (b : Bool) (o p : Outcome) → IsOf own o → IsOf own p → IsOf own (cond b o p)
+of_test own true o p first second = first
+of_test own false o p first second = second
+
+-- a number counts from 1
+numbered : (is : Fact → Bool) (history : List Fact) → 1 ≤ number_of is history
+unfolding number_of
+numbered is history = omega arith
+
+-- ---- notices and closings
+
+of_fault : (own : Fact) (o : Option NoticeFault) → IsOf own (unless_fault o (Records own))
+of_fault own None = refl
+of_fault own (Some notices.NoticeRange) = tt
+of_fault own (Some notices.PermilleRange) = tt
+of_fault own (Some notices.OutOfMemory) = tt
+
+of_last : (own : Fact) (cycle : ℕ) (last : Option ℕ) → IsOf own (unless_later cycle last (Records own))
+of_last own cycle None = refl
+of_last own cycle (Some last) = of_test own (nat_lt cycle last) (Refuses (refusals.OutOfOrder last)) (Records own) tt refl
+
+of_closing : (history : List Fact) (id : CycleId) → IsOf (facts.Closed id) (closed history id)
+of_closing history id =
+    let own = facts.Closed id in
+    let later = unless_later id.cycle (last_closed id.day history) (Records own) in
+    let unclosed = cond (is_closed id history) (Refuses refusals.AlreadyClosed) later in
+    of_test own (not (nat_lt id.cycle (cycle_count id.day))) (Refuses refusals.NoSuchCycle) unclosed tt
+    (of_test own (is_closed id history) (Refuses refusals.AlreadyClosed) later tt (of_last own id.cycle (last_closed id.day history)))
+
+-- ---- nominations
+
+sure_verdict : (side : Side) (s : DeskState) (document : Nomint) (v : Verdict) → verdict_on s.point s.facts document ≡ v → Fits (messages.Nomint document)
+    → IsSure side s (by_verdict s.facts document v)
+sure_verdict side s document verdicts.Recordable e fits =
+    let from = fits.from in
+    let to = fits.to in
+    and_from _ _ (and_from _ _ (ap (λ (v : Verdict). is_record (by_verdict s.facts document v)) e) (grind (arith, nat_tests))) (grind (arith, nat_tests))
+sure_verdict side s document verdicts.Repeat e fits = numbered _ s.facts
+sure_verdict side s document (verdicts.Refused fault) e fits = tt
+
+-- what is decoded can be written
+fits_decoded : (body : List ℕ) (m : Message) → decoded body ≡ Ok m → Fits m
+fits_decoded body m e = let spells : Spells body m = decoded_takes body m e in fits_from_writable m (spells.value, spells.stands)
+
+sure_submitted : (side : Side) (s : DeskState) (body : List ℕ) (r : Result Message MessageFault) → decoded body ≡ r → IsSure side s (submitted s.point s.facts r)
+sure_submitted side s body (Err fault) e = tt
+sure_submitted side s body (Ok (messages.Nomint document)) e = sure_verdict side s document (verdict_on s.point s.facts document) refl (fits_decoded body (messages.Nomint document) e)
+sure_submitted side s body (Ok (messages.Acknow message)) e = tt
+sure_submitted side s body (Ok (messages.Nomres message)) e = tt
+sure_submitted side s body (Ok (messages.Delord message)) e = tt
+sure_submitted side s body (Ok (messages.Delres message)) e = tt
+
+-- ---- meetings
+
+abbrev pub OnlyMeets : TableContents → Decision → Type 0
+OnlyMeets peer (decisions.Meet table) = peer ≡ table
+OnlyMeets peer decisions.Again = Unit {0}
+OnlyMeets peer (decisions.Refused refusal) = Unit {0}
+
+meets_test : (peer : TableContents) (b : Bool) (d e : Decision) → OnlyMeets peer d → OnlyMeets peer e → OnlyMeets peer (cond b d e)
+meets_test peer true d e first second = first
+meets_test peer false d e first second = second
+
+meets_again : (met peer : TableContents) → OnlyMeets peer (met_again met peer)
+meets_again met peer = meets_test peer (table_eq met peer) decisions.Again (decisions.Refused refusals.Conflict) tt tt
+
+meets_order : (peer : TableContents) (state : CycleState) → OnlyMeets peer (by_order peer state)
+meets_order peer (Collecting id) = tt
+meets_order peer (Frozen cycle) = meets_test peer (same_hours cycle.own peer) (decisions.Meet peer) (decisions.Refused refusals.ShapeDiffers) refl tt
+meets_order peer (Matched cycle) =
+    meets_test peer (same_hours cycle.own peer) (met_again cycle.peer peer) (decisions.Refused refusals.ShapeDiffers) (meets_again cycle.peer peer) tt
+
+meets_unless : (peer : TableContents) (o : Option ℕ) (d : Decision) → OnlyMeets peer d → OnlyMeets peer (unless_differs o d)
+meets_unless peer None d is = is
+meets_unless peer (Some row) d is = tt
+
+meets_response : (peer confirmed : TableContents) (state : CycleState) → OnlyMeets peer (by_response peer confirmed state)
+meets_response peer confirmed (Collecting id) = tt
+meets_response peer confirmed (Frozen cycle) =
+    let differs = difference confirmed.rows (lesser_of cycle.own peer).rows in
+    meets_test peer (same_hours cycle.own peer) (unless_differs differs (decisions.Meet peer)) (decisions.Refused refusals.ShapeDiffers)
+    (meets_unless peer differs (decisions.Meet peer) refl) tt
+meets_response peer confirmed (Matched cycle) =
+    let differs = difference confirmed.rows (lesser_of cycle.own peer).rows in
+    let again = met_again cycle.peer peer in
+    meets_test peer (same_hours cycle.own peer) (unless_differs differs again) (decisions.Refused refusals.ShapeDiffers)
+    (meets_unless peer differs again (meets_again cycle.peer peer)) tt
+
+of_decision : (history : List Fact) (id : CycleId) (peer : TableContents) (d : Decision) → OnlyMeets peer d → IsOf (facts.Met id peer) (by_decision history id d)
+of_decision history id peer (decisions.Meet table) is = ap (facts.Met id) is
+of_decision history id peer decisions.Again is = numbered _ history
+of_decision history id peer (decisions.Refused refusal) is = tt
+
+-- where a response meets, an order of the same table does
+again_never : (history : List Fact) (id : CycleId) (b : Bool) → is_record (by_decision history id (cond b decisions.Again (decisions.Refused refusals.Conflict))) ≡ true → ⊥
+again_never history id true e = cc
+again_never history id false e = cc
+
+never_unless : (history : List Fact) (id : CycleId) (o : Option ℕ) (d : Decision) → (is_record (by_decision history id d) ≡ true → ⊥)
+    → is_record (by_decision history id (unless_differs o d)) ≡ true → ⊥
+never_unless history id None d never e = never e
+never_unless history id (Some row) d never e = cc
+
+never_test : (history : List Fact) (id : CycleId) (b : Bool) (d : Decision) → (is_record (by_decision history id d) ≡ true → ⊥)
+    → is_record (by_decision history id (cond b d (decisions.Refused refusals.ShapeDiffers))) ≡ true → ⊥
+never_test history id true d never e = never e
+never_test history id false d never e = cc
+
+meets_too : (history : List Fact) (id : CycleId) (peer : TableContents) (b : Bool) (d : Decision) → is_record (by_decision history id (cond b d (decisions.Refused refusals.ShapeDiffers))) ≡ true
+    → is_record (by_decision history id (cond b (decisions.Meet peer) (decisions.Refused refusals.ShapeDiffers))) ≡ true
+meets_too history id peer true d e = refl
+meets_too history id peer false d e = absurd cc
+
+as_order : (history : List Fact) (id : CycleId) (peer confirmed : TableContents) (state : CycleState) → is_record (by_decision history id (by_response peer confirmed state)) ≡ true
+    → is_record (by_decision history id (by_order peer state)) ≡ true
+as_order history id peer confirmed (Collecting cycle) e = absurd cc
+as_order history id peer confirmed (Frozen cycle) e =
+    meets_too history id peer (same_hours cycle.own peer) (unless_differs (difference confirmed.rows (lesser_of cycle.own peer).rows) (decisions.Meet peer)) e
+as_order history id peer confirmed (Matched cycle) e =
+    let differs = difference confirmed.rows (lesser_of cycle.own peer).rows in
+    let again = met_again cycle.peer peer in
+    absurd
+    (never_test history id (same_hours cycle.own peer) (unless_differs differs again)
+    (never_unless history id differs again (again_never history id (table_eq cycle.peer peer))) e)
+
+recorded_here : (b : Bool) (o : Outcome) → is_record (cond b o (Refuses refusals.WrongPoint)) ≡ true → is_record o ≡ true
+recorded_here true o e = e
+recorded_here false o e = absurd cc
+
+-- a decision that meets only where an order of a short table does
+sure_decision : (side : Side) (s : DeskState) (point : List ℕ) (id : CycleId) (peer : TableContents) (d : Decision) → OnlyMeets peer d
+    → (is_record (by_decision s.facts id d) ≡ true → is_record (by_decision s.facts id (by_order peer (state_of side s.facts id))) ≡ true)
+    → length peer.rows ≤ most_processed_rows → IsSure side s (of_point point s.point (by_decision s.facts id d))
+sure_decision side s point id peer d meets ordered few =
+    let here = by_decision s.facts id d in
+    sure side s (facts.Met id peer) (of_point point s.point here)
+    (of_test (facts.Met id peer) (bytes_eq point s.point) here (Refuses refusals.WrongPoint) (of_decision s.facts id peer d meets) tt)
+    (λ e. and_from _ _ (ordered (recorded_here (bytes_eq point s.point) here e)) (grind (arith, nat_tests)))
+
+sure_delivered : (side : Side) (s : DeskState) (body : List ℕ) (r : Result Message MessageFault) → decoded body ≡ r → IsSure side s (delivered side s.point s.facts r)
+sure_delivered I s body (Err fault) e = tt
+sure_delivered M s body (Err fault) e = tt
+sure_delivered M s body (Ok (messages.Delord message)) e =
+    let fits = fits_decoded body (messages.Delord message) e in
+    let id = cycle_of message.day message.cycle in
+    let state = state_of M s.facts id in
+    sure_decision M s message.point id message.processed (by_order message.processed state) (meets_order message.processed state) (λ is. is) fits.few
+sure_delivered I s body (Ok (messages.Delres message)) e =
+    let fits = fits_decoded body (messages.Delres message) e in
+    let id = cycle_of message.day message.cycle in
+    let state = state_of I s.facts id in
+    sure_decision I s message.point id message.processed (by_response message.processed message.confirmed state) (meets_response message.processed message.confirmed state)
+    (as_order s.facts id message.processed message.confirmed state) fits.few
+sure_delivered I s body (Ok (messages.Delord message)) e = tt
+sure_delivered M s body (Ok (messages.Delres message)) e = tt
+sure_delivered I s body (Ok (messages.Nomint message)) e = tt
+sure_delivered M s body (Ok (messages.Nomint message)) e = tt
+sure_delivered I s body (Ok (messages.Acknow message)) e = tt
+sure_delivered M s body (Ok (messages.Acknow message)) e = tt
+sure_delivered I s body (Ok (messages.Nomres message)) e = tt
+sure_delivered M s body (Ok (messages.Nomres message)) e = tt
+
+-- ---- resendings and marks
+
+sure_resent : (side : Side) (s : DeskState) (id : CycleId) (b : Bool) → IsSure side s (cond b (Resends id) (Refuses refusals.NotClosed))
+sure_resent side s id true = tt
+sure_resent side s id false = tt
+
+sure_same : (side : Side) (s : DeskState) (n : ℕ) (b : Bool) → n ≡ s.saved + 1 → s.saved < length s.facts → IsSure side s (cond b (Saves n) (Refuses refusals.OtherFact))
+sure_same side s n true next below = (next, omega arith)
+sure_same side s n false next below = tt
+
+sure_if_same : (side : Side) (s : DeskState) (n : ℕ) (fact : Fact) (o : Option Fact) → slice_get s.facts s.saved ≡ o → n ≡ s.saved + 1 → IsSure side s (if_same n fact o)
+sure_if_same side s n fact None e next = tt
+sure_if_same side s n fact (Some found) e next = sure_same side s n (same_fact found fact) next (slice_get_within s.facts s.saved found e)
+
+sure_mark : (side : Side) (s : DeskState) (n : ℕ) (fact : Fact) (b : Bool) → nat_eq n (s.saved + 1) ≡ b
+    → IsSure side s (cond b (if_same n fact (slice_get s.facts s.saved)) (Refuses (refusals.NotNext (s.saved + 1))))
+sure_mark side s n fact true e = sure_if_same side s n fact (slice_get s.facts s.saved) refl (grind (arith, nat_tests))
+sure_mark side s n fact false e = tt
+
+-- ---- all calls
+
+sure_comes : (side : Side) (s : DeskState) (call : Call) → IsSure side s (comes_to side s call)
+sure_comes side s (calls.Contract contract) =
+    let own = facts.Contracted contract in
+    sure side s own (contracted s.facts contract)
+    (of_test own (is_refused contract (capacity_of s.facts).contracts) (Refuses refusals.TooManyPortfolios) (Records own) tt refl) (λ e. e)
+sure_comes side s (calls.Notice notice) = sure side s (facts.Noticed notice) (noticed notice) (of_fault (facts.Noticed notice) (notice_refusal notice)) (λ e. e)
+sure_comes side s (calls.Submit body) = sure_submitted side s body (decoded body) refl
+sure_comes side s (calls.Close id) = sure side s (facts.Closed id) (closed s.facts id) (of_closing s.facts id) (λ e. e)
+sure_comes side s (calls.Deliver body) = sure_delivered side s body (decoded body) refl
+sure_comes side s (calls.Resend id) = sure_resent side s id (nat_le (number_of _ s.facts) s.saved)
+sure_comes side s (calls.MarkSaved n fact) = sure_mark side s n fact (nat_eq n (s.saved + 1)) refl
+sure_comes side s calls.Halt = tt
+
+-- a desk that is not full has room
+room : (side : Side) (s : DeskState) (fact : Fact) (b : Bool) → nat_le most_facts (length s.facts) ≡ b → would_record side s.point s.facts fact ≡ true
+    → CanFollow side s (cond b (Refuses refusals.Full) (Records fact))
+room side s fact true e is = tt
+room side s fact false e is = (is, grind (arith, nat_tests))
+
+follows_unless : (side : Side) (s : DeskState) (o : Outcome) → IsSure side s o → CanFollow side s (unless_full s.facts o)
+follows_unless side s (Records fact) is = room side s fact (nat_le most_facts (length s.facts)) refl is
+follows_unless side s (RepeatsNomination n) is = is
+follows_unless side s (RepeatsMeeting n) is = is
+follows_unless side s (Saves n) is = is
+follows_unless side s (Resends id) is = tt
+follows_unless side s Stops is = tt
+follows_unless side s (Refuses refusal) is = tt
+
+follows_test : (side : Side) (s : DeskState) (b : Bool) (o : Outcome) → CanFollow side s o → CanFollow side s (cond b (Refuses refusals.Halted) o)
+follows_test side s true o is = tt
+follows_test side s false o is = is
+
+-- what a call comes to can follow
+pub can_follow : (side : Side) (s : DeskState) (call : Call) → CanFollow side s (outcome side s call)
+unfolding outcome
+can_follow side s call =
+    follows_test side s s.halted (unless_full s.facts (comes_to side s call)) (follows_unless side s (comes_to side s call) (sure_comes side s call))

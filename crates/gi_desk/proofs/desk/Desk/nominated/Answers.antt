@@ -1,0 +1,9 @@
+use Rattle.std.proofs.Common.{◌≤◌, List, length, sym, subst}
+use Rattle.gi_desk.specs.Machine.{most_facts}
+use Rattle.gi_desk.specs.declared.fact.Fact.{Fact}
+use Rattle.gi_desk.proofs.Legality.{legal-few}
+use Rattle.gi_desk.proofs.desk.Desk.nominated.Goals as goal
+
+pub nominated-requires-clause-few : goal.nominated-requires-clause-few
+nominated-requires-clause-few g c =
+    subst (λ (facts : List Fact). length facts ≤ most_facts) (sym c.deref.ensures.value) (legal-few _ _ _ c.self.invariant.legal)

@@ -1,0 +1,28 @@
+use Rattle.std.proofs.Common.{◌≡◌, sym, subst, ap, ◌∙◌, rules}
+use Rattle.std.specs.Prelude.{IsTrue}
+use Rattle.gi_desk.specs.Kept.{CanFollow}
+use Rattle.gi_desk.specs.Machine.{answer_of, may_want, out_of, outcome, reply}
+use Rattle.gi_desk.proofs.Outcomes.{can_follow}
+use Rattle.gi_desk.proofs.StepLaws.{may_grow}
+use Rattle.gi_desk.proofs.desk.Desk.try_foresee.Goals as goal
+
+pub returns-in_err-out-clause-short : goal.returns-in_err-out-clause-short
+returns-in_err-out-clause-short g c =
+    let short : IsTrue (may_want g.R.Role.SIDE c.args.self.now c.args.call.now) =
+    may_grow g.R.Role.SIDE c.args.self.now c.args.call.now c.in_ok-outcome.outcome c.in_ok-outcome.ensures.value c.in_err-out.ensures.short in
+    search (rules, short)
+
+pub returns-clause-reply : goal.returns-clause-reply
+unfolding reply
+returns-clause-reply g c =
+    let side = g.R.Role.SIDE in
+    let s = c.args.self.now in
+    let is : c.in_ok-outcome.outcome ≡ outcome side s c.args.call.now = c.in_ok-outcome.ensures.value in
+    let answer : c.answer.result ≡ answer_of s (outcome side s c.args.call.now) = c.answer.ensures ∙ ap (answer_of s) is in
+    let out : c.from.result ≡ out_of side s (outcome side s c.args.call.now) = c.from.ensures ∙ c.in_ok-out.ensures.value ∙ ap (out_of side s) is in
+    λ t. record { answer = answer t; out = out t }
+
+pub out-requires : goal.out-requires
+out-requires g c =
+    let side = g.R.Role.SIDE in
+    subst (CanFollow side c.args.self.now) (sym c.in_ok-outcome.ensures.value) (can_follow side c.args.self.now c.args.call.now)

@@ -1,0 +1,67 @@
+-- What a desk keeps beside its facts.
+use Rattle.std.specs.Prelude.{◌≡◌, ◌<◌, ◌≤◌, ◌+◌, ℕ, List, length, map, Bool, true, false, Option, Some, None, if◌then◌else◌}
+use Rattle.gi_pairs.specs.declared.cycle_id.CycleId.{CycleId}
+use Rattle.gi_pairs.specs.declared.side.Side.{Side}
+use Rattle.gi_cycles.specs.declared.cycle_state.CycleState.{CycleState}
+use Rattle.gi_cycles.specs.declared.cycle_state.CycleState.TheVariants.{Collecting, Frozen, Matched}
+use Rattle.gi_desk.specs.History.{closings, is_closed, state_of}
+use Rattle.gi_desk.specs.Machine.{DeskState, bad_fact, can_be_read, most_facts, would_record}
+use Rattle.gi_desk.specs.Same.{same_cycle}
+use Rattle.gi_desk.specs.declared.call.Call.{Call}
+use Rattle.gi_desk.specs.declared.call.Call.TheVariants.{Contract, Notice, Submit, Close, Deliver, Resend, MarkSaved, Halt}
+use Rattle.gi_desk.specs.declared.fact.Fact.{Fact}
+use Rattle.gi_desk.specs.declared.fact.Fact.TheVariants.{Contracted, Noticed, Nominated, Closed, Met}
+use Rattle.gi_desk.specs.declared.outcome.Outcome.{Outcome}
+use Rattle.gi_desk.specs.declared.outcome.Outcome.TheVariants.{Records, RepeatsNomination, RepeatsMeeting, Saves, Resends, Stops, Refuses}
+
+-- which cycle a state is of
+abbrev pub id_of : CycleState → CycleId
+id_of (Collecting id) = id
+id_of (Frozen cycle) = cycle.id
+id_of (Matched cycle) = cycle.id
+
+abbrev pub is_state_of : CycleId → CycleState → Bool
+is_state_of id state = same_cycle (id_of state) id
+
+-- how far each closed cycle is, in the order of their closings
+unfoldable pub states_of : Side → List Fact → List CycleState
+states_of side facts = map (state_of side facts) (closings facts)
+
+-- how far a cycle is, once it is closed
+abbrev pub closed_state : Side → List Fact → CycleId → Option CycleState
+closed_state side facts id = if is_closed id facts then Some (state_of side facts id) else None
+
+-- what holds of all that a desk keeps: each fact is one that it would record after those before it
+pub record IsKept (side : Side) (point : List ℕ) (facts : List Fact) (states : List CycleState) (saved : ℕ) : Type 0 where
+  pub legal : bad_fact side point facts ≡ None
+  pub stages : states ≡ states_of side facts
+  pub within : saved ≤ length facts
+
+-- what a call that comes to an outcome can be sure of
+abbrev pub CanFollow : Side → DeskState → Outcome → Type 0
+CanFollow side s (Records fact) = (would_record side s.point s.facts fact ≡ true) × (length s.facts < most_facts)
+CanFollow side s (RepeatsNomination n) = 1 ≤ n
+CanFollow side s (RepeatsMeeting n) = 1 ≤ n
+CanFollow side s (Saves n) = (n ≡ s.saved + 1) × (n ≤ length s.facts)
+CanFollow side s (Resends id) = Unit {0}
+CanFollow side s Stops = Unit {0}
+CanFollow side s (Refuses refusal) = Unit {0}
+
+-- the calls whose refusals may want memory to be learnt: of the contracts, of the book, or of a message
+abbrev pub learns_with_memory : Call → Bool
+learns_with_memory (Contract contract) = true
+learns_with_memory (Notice notice) = false
+learns_with_memory (Submit body) = can_be_read body
+learns_with_memory (Close id) = false
+learns_with_memory (Deliver body) = can_be_read body
+learns_with_memory (Resend id) = false
+learns_with_memory (MarkSaved n fact) = false
+learns_with_memory Halt = false
+
+-- the facts that change how far a cycle is
+abbrev pub changes_cycle : Fact → Bool
+changes_cycle (Contracted contract) = false
+changes_cycle (Noticed notice) = false
+changes_cycle (Nominated document) = false
+changes_cycle (Closed id) = true
+changes_cycle (Met id peer) = true

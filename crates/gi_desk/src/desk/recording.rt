@@ -1,0 +1,92 @@
+//! How a fact is recorded: what belongs together is grown before any of it is changed.
+
+ghost use Rattle.std.specs.Prelude.{◌≡◌, ◌<◌, ◌≤◌, ◌++◌, ◌∷◌, [], IfOk, OnErr, OnOk, false, length, true};
+ghost use Rattle.gi_day.specs.Cycles.{IsCycle};
+ghost use Rattle.gi_pairs.specs.Limits.{most_processed_rows};
+ghost use Rattle.gi_processing.specs.Processing.{processed as processed_of};
+ghost use Rattle.gi_desk.specs.History.{capacity_of, documents_of};
+ghost use Rattle.gi_desk.specs.Kept.{changes_cycle};
+ghost use Rattle.gi_desk.specs.Machine.{most_facts, would_record};
+ghost use Rattle.gi_desk.specs.declared.fact.Fact.TheVariants.{Closed, Met};
+
+use crate::desk::Desk;
+use crate::fact::Fact;
+use crate::role::Role;
+use crate::stages::meet;
+use gi_cycles::{Collecting, CycleState};
+use gi_pairs::{CycleId, Table};
+use gi_processing::processed;
+use std::alloc::AllocError;
+
+impl<R: Role> Desk<R> {
+    /// What is processed of the nominations in force, for a cycle of its gas day.
+    fn processed(&self, id: &CycleId) -> Result<Table, AllocError>
+        requires { IsCycle id.now.day id.now.cycle }
+        ensures value { IfOk result (λ table. table ≡ processed_of (capacity_of self.now.facts) (documents_of self.now.facts) R.SIDE id.now.day id.now.cycle) }
+        ensures few { IfOk result (λ table. length table.rows ≤ most_processed_rows) }
+    {
+        let frame = self.calendar.frame(id.day).unwrap();
+        let book = self.book()?;
+        let contracts = self.contracts()?;
+        processed(self.alloc, &book, &contracts, R::SIDE, &frame, id.cycle)
+    }
+
+    /// Records the closing of a cycle: its table is frozen.
+    fn freeze(&mut self, id: &CycleId) -> Result<(), AllocError>
+        requires recorded { would_record R.SIDE self.now.point self.now.facts (Closed id.now) ≡ true }
+        requires room { length self.now.facts < most_facts }
+        ensures next { OnOk result (self.new ≡ record self.old { facts = self.old.facts ++ Closed id.now ∷ [] }) }
+        ensures kept { OnErr result (self.new ≡ self.old) }
+    {
+        let own = self.processed(id)?;
+        self.states.reserve(1)?;
+        self.facts.reserve(1)?;
+        self.states
+            .push_reserved(CycleState::Frozen(Collecting::new(*id).close(own)));
+        self.facts.push_reserved(Fact::Closed(*id));
+        Ok(())
+    }
+
+    /// Records that a cycle met the peer's table.
+    fn meet(&mut self, id: &CycleId, peer: Table) -> Result<(), AllocError>
+        requires recorded { would_record R.SIDE self.now.point self.now.facts (Met id.now peer) ≡ true }
+        requires room { length self.now.facts < most_facts }
+        ensures next { OnOk result (self.new ≡ record self.old { facts = self.old.facts ++ Met id.now peer ∷ [] }) }
+        ensures kept { OnErr result (self.new ≡ self.old) }
+    {
+        let fact = Fact::Met {
+            id: *id,
+            peer: peer.copy()?,
+        };
+        self.facts.reserve(1)?;
+        meet(self.alloc, &mut self.states, id, peer)?;
+        self.facts.push_reserved(fact);
+        Ok(())
+    }
+
+    /// Records a fact that changes no cycle.
+    fn add(&mut self, fact: Fact) -> Result<(), AllocError>
+        requires recorded { would_record R.SIDE self.now.point self.now.facts fact ≡ true }
+        requires room { length self.now.facts < most_facts }
+        requires other { changes_cycle fact ≡ false }
+        ensures next { OnOk result (self.new ≡ record self.old { facts = self.old.facts ++ fact ∷ [] }) }
+        ensures kept { OnErr result (self.new ≡ self.old) }
+    {
+        self.facts.push(fact)?;
+        Ok(())
+    }
+
+    /// Records a fact, which some call would record.
+    pub(super) fn record(&mut self, fact: Fact) -> Result<(), AllocError>
+        requires recorded { would_record R.SIDE self.now.point self.now.facts fact ≡ true }
+        requires room { length self.now.facts < most_facts }
+        ensures next { OnOk result (self.new ≡ record self.old { facts = self.old.facts ++ fact ∷ [] }) }
+        ensures kept { OnErr result (self.new ≡ self.old) }
+    {
+        match fact {
+            Fact::Closed(id) => self.freeze(&id),
+            Fact::Met { id, peer } => self.meet(&id, peer),
+            other => self.add(other),
+        }
+    }
+}

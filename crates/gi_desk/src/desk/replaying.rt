@@ -1,0 +1,64 @@
+//! A desk from its saved facts.
+
+ghost use Rattle.std.specs.Prelude.{◌≡◌, ◌+◌, ◌++◌, ◌∷◌, [], Err, IfOk, OnOk, ℕ, false, length, true};
+ghost use Rattle.gi_desk.specs.Machine.{IsReplayed, may_follow};
+ghost use Rattle.gi_desk.specs.declared.replay_fault.ReplayFault.TheVariants.{BadFact};
+
+use crate::desk::Desk;
+use crate::fact::Fact;
+use crate::judging::MOST_FACTS;
+use crate::replay_fault::ReplayFault;
+use crate::role::Role;
+use gi_day::Calendar;
+use gi_pairs::Code;
+use std::alloc::Global;
+use std::marker::PhantomData;
+
+impl<R: Role> Desk<R> {
+    /// A desk without facts.
+    fn empty(alloc: Global, calendar: Calendar, point: Code) -> Desk<R>
+        ensures { result ≡ record { point = point; facts = []; saved = 0; halted = false } }
+    {
+        Desk {
+            alloc,
+            calendar,
+            point,
+            facts: Vec::new(alloc),
+            states: Vec::new(alloc),
+            saved: 0,
+            halted: false,
+            role: PhantomData,
+        }
+    }
+
+    /// Records a fact again, where it may come after those before it.
+    fn record_again(&mut self, fact: Fact) -> Result<(), ReplayFault>
+        ensures may { IfOk result (λ _. may_follow R.SIDE self.old.point self.old.facts fact ≡ true) }
+        ensures next { OnOk result (self.new ≡ record self.old { facts = self.old.facts ++ fact ∷ [] }) }
+        ensures refused { (n : ℕ) → result ≡ Err (BadFact n) → (n ≡ length self.old.facts + 1) × (may_follow R.SIDE self.old.point self.old.facts fact ≡ false) }
+    {
+        if self.facts.len() >= MOST_FACTS || !self.would_record(&fact)? {
+            return Err(ReplayFault::BadFact(self.len() + 1));
+        }
+        Ok(self.record(fact)?)
+    }
+
+    /// The desk of these facts, all of which are saved; it is not halted. `BadFact` for the first
+    /// fact that no call would record after those before it, and for the 1,000,001st; then
+    /// `OutOfMemory`.
+    pub fn replay(
+        alloc: Global,
+        calendar: Calendar,
+        point: Code,
+        facts: Vec<Fact>,
+    ) -> Result<Desk<R>, ReplayFault>
+        ensures { IsReplayed R.SIDE point facts.items result }
+    {
+        let mut desk = Desk::empty(alloc, calendar, point);
+        for fact in facts {
+            desk.record_again(fact)?;
+        }
+        desk.saved = desk.facts.len() as u32;
+        Ok(desk)
+    }
+}

@@ -1,0 +1,109 @@
+//! One step: what the call comes to, what that lets out, and then the change.
+
+ghost use Rattle.std.specs.Prelude.{◌≡◌, IfErr, IfOk, IsTrue, OnErr, OnOk};
+ghost use Rattle.gi_desk.specs.Kept.{CanFollow};
+ghost use Rattle.gi_desk.specs.Machine.{IsForeseen, IsStep, after, answer_of, grows, may_want, next_of, out_of_memory, outcome as outcome_of, reply as reply_of};
+
+use crate::answer::Answer;
+use crate::call::Call;
+use crate::desk::Desk;
+use crate::outcome::Outcome;
+use crate::packets::Packets;
+use crate::refusal::Refusal;
+use crate::reply::Reply;
+use crate::role::Role;
+use std::alloc::{AllocError, Global};
+
+/// The reply where memory runs out.
+fn short_of_memory(alloc: Global) -> Reply
+    ensures { result ≡ out_of_memory }
+{
+    Reply {
+        answer: Answer::Refused(Refusal::OutOfMemory),
+        out: Packets::from(Vec::new(alloc)),
+    }
+}
+
+impl<R: Role> Desk<R> {
+    /// What is answered to a call that comes to this.
+    fn answer(&self, outcome: &Outcome) -> Answer
+        ensures { result ≡ answer_of self.now outcome.now }
+    {
+        match outcome {
+            Outcome::Records(_) => Answer::Recorded {
+                n: self.facts.len() as u32 + 1,
+            },
+            Outcome::RepeatsNomination { n } => Answer::Repeat { n: *n },
+            Outcome::RepeatsMeeting { n } => Answer::Repeat { n: *n },
+            Outcome::Saves { n } => Answer::Saved { n: *n },
+            Outcome::Resends(_) => Answer::Resent,
+            Outcome::Stops => Answer::Stopped,
+            Outcome::Refuses(refusal) => Answer::Refused(*refusal),
+        }
+    }
+
+    /// Makes the change that it comes to.
+    fn apply(&mut self, outcome: Outcome) -> Result<(), AllocError>
+        requires { CanFollow R.SIDE self.now outcome }
+        ensures next { OnOk result (self.new ≡ next_of self.old outcome) }
+        ensures kept { OnErr result (self.new ≡ self.old) }
+        ensures short { IfErr result (λ _. IsTrue (grows outcome)) }
+    {
+        match outcome {
+            Outcome::Records(fact) => return self.record(fact),
+            Outcome::Saves { n } => self.saved = n,
+            Outcome::Stops => self.halted = true,
+            _ => {}
+        }
+        Ok(())
+    }
+
+    /// What the call comes to, and the reply to it.
+    fn try_foresee(&self, call: &Call) -> Result<(Outcome, Reply), AllocError>
+        ensures outcome { IfOk result (λ both. both.0 ≡ outcome_of R.SIDE self.now call.now) }
+        ensures reply { IfOk result (λ both. both.1 ≡ reply_of R.SIDE self.now call.now) }
+        ensures short { IfErr result (λ _. IsTrue (may_want R.SIDE self.now call.now)) }
+    {
+        let outcome = self.outcome(call)?;
+        let reply = Reply {
+            answer: self.answer(&outcome),
+            out: Packets::from(self.out(&outcome)?),
+        };
+        Ok((outcome, reply))
+    }
+
+    /// The reply to the call, whose change is made.
+    fn try_step(&mut self, call: &Call) -> Result<Reply, AllocError>
+        ensures reply { IfOk result (λ reply. reply ≡ reply_of R.SIDE self.old call.now) }
+        ensures next { OnOk result (self.new ≡ after R.SIDE self.old call.now) }
+        ensures kept { OnErr result (self.new ≡ self.old) }
+        ensures short { IfErr result (λ _. IsTrue (may_want R.SIDE self.old call.now)) }
+    {
+        let (outcome, reply) = self.try_foresee(call)?;
+        self.apply(outcome)?;
+        Ok(reply)
+    }
+
+    /// What `step` would reply, with nothing changed.
+    pub fn foresee(&self, call: &Call) -> Reply
+        ensures { IsForeseen R.SIDE self.now call.now result }
+    {
+        match self.try_foresee(call) {
+            Ok((_, reply)) => reply,
+            Err(_) => short_of_memory(self.alloc),
+        }
+    }
+
+    /// Takes a call: answers it, makes its change and gives what it lets out. A refused call
+    /// changes nothing. The refusals, in their order, are `Halted`, the call's own, `Full` and
+    /// `OutOfMemory`; the last never comes for `Halt`, on a halted desk, or for a refused notice,
+    /// closing, resending or mark. No packet leaves of a fact that is not saved.
+    pub fn step(&mut self, call: &Call) -> Reply
+        ensures { IsStep R.SIDE self.old call.now result self.new }
+    {
+        match self.try_step(call) {
+            Ok(reply) => reply,
+            Err(_) => short_of_memory(self.alloc),
+        }
+    }
+}

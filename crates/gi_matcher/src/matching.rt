@@ -1,0 +1,37 @@
+use crate::order::take_order;
+use crate::response::response_for;
+use gi_cycles::{CycleState, Frozen, Matched};
+use gi_desk::{Decision, Refusal, Role};
+use gi_messages::Message;
+use gi_pairs::{Code, Side};
+use std::alloc::{AllocError, Global};
+
+/// The matching operator: it takes the order, and sends the response.
+pub struct Matching;
+
+impl Role for Matching {
+    ghost use Rattle.gi_pairs.specs.declared.side.Side.TheVariants.{M};
+
+    ghost SIDE = { M };
+
+    const SIDE: Side = Side::M;
+
+    fn decide(alloc: Global, state: &CycleState, message: &Message) -> Decision {
+        match message {
+            Message::Delord(order) => take_order(alloc, state, order),
+            _ => Decision::Refused(Refusal::WrongKind),
+        }
+    }
+
+    fn on_closed(
+        _alloc: Global,
+        _point: Code,
+        _cycle: &Frozen,
+    ) -> Result<Option<Message>, AllocError> {
+        Ok(None)
+    }
+
+    fn on_met(alloc: Global, point: Code, cycle: &Matched) -> Result<Option<Message>, AllocError> {
+        Ok(Some(Message::Delres(response_for(alloc, point, cycle)?)))
+    }
+}
