@@ -105,6 +105,13 @@ impl GasDay {
     {
         self.date
     }
+
+    /// Every gas day lies in the years 2000 to 2199.
+    pub fn in_range(self)
+        ensures { IsGasYear self.year }
+    {
+        let _ = self.date();
+    }
 }
 
 impl fmt::Display for GasDay {

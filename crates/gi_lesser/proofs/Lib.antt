@@ -1,2 +1,3 @@
-pub mod Laws
+pub mod LesserLaws
+mod BothWays
 mod Rows

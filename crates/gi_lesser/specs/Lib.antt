@@ -1,1 +1,2 @@
 pub mod Lesser
+pub mod Laws

@@ -1,8 +1,10 @@
 //! The lesser rule: where two tables differ, the lower quantity is confirmed.
 #![tactic(auto)]
 
+mod laws;
 mod lesser_rule;
 
+pub use laws::lessens_both_ways;
 pub use lesser_rule::lesser;
 
 #[cfg(test)]

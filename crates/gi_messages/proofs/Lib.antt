@@ -14,3 +14,5 @@ pub mod MessageLemmas
 pub mod WrittenParts
 pub mod WrittenKinds
 pub mod WritingLemmas
+pub mod Lengths
+pub mod ShortTexts

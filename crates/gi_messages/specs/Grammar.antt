@@ -225,3 +225,12 @@ Fits (messages.Acknow m) = FitsAcknow m
 Fits (messages.Nomres m) = FitsNomres m
 Fits (messages.Delord m) = FitsDelord m
 Fits (messages.Delres m) = FitsDelres m
+
+-- A message with no more lines than a table has rows at most. Each line of a nomination, which could have any number of quantities, has no more than the
+-- longest gas day has hours.
+abbrev pub HasFewLines : Message → Type 0
+HasFewLines (messages.Nomint m) = (length m.lines ≤ most_rows) × All (λ l. length l.hours ≤ last_hour) m.lines
+HasFewLines (messages.Acknow m) = Unit {0}
+HasFewLines (messages.Nomres m) = length m.lines ≤ most_rows
+HasFewLines (messages.Delord m) = Unit {0}
+HasFewLines (messages.Delres m) = Unit {0}

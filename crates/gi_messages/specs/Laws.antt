@@ -4,7 +4,7 @@ use Rattle.serde_json.specs.Data.{Data}
 use Rattle.gi_messages.specs.declared.message.Message.{Message}
 use Rattle.gi_messages.specs.Limits.{most_bytes}
 use Rattle.gi_messages.specs.Decoding.{decoded}
-use Rattle.gi_messages.specs.Grammar.{IsMessage, IsWritable, Fits, Spells}
+use Rattle.gi_messages.specs.Grammar.{IsMessage, IsWritable, Fits, HasFewLines, Spells}
 use Rattle.gi_messages.specs.Writing.{data_of, text_of}
 
 -- a value stands for one message at most
@@ -26,3 +26,7 @@ WritesMessage = (m : Message) → IsWritable m → IsMessage (data_of m) m
 -- a message that is written is read back, where its text is not too large
 abbrev pub RoundTrips : Type 0
 RoundTrips = (m : Message) → IsWritable m → length (text_of m) ≤ most_bytes → decoded (text_of m) ≡ Ok m
+
+-- the text of a message that can be written is not too large, where the message has few lines
+abbrev pub TextsAreShort : Type 0
+TextsAreShort = (m : Message) → IsWritable m → HasFewLines m → length (text_of m) ≤ most_bytes

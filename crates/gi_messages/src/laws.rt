@@ -1,6 +1,6 @@
 //! What holds of all messages. These functions do nothing; their clauses are the laws.
 
-ghost use Rattle.gi_messages.specs.Laws.{IsOneMessage, ReadsSpelling, IsWritableExactly, WritesMessage, RoundTrips};
+ghost use Rattle.gi_messages.specs.Laws.{IsOneMessage, ReadsSpelling, IsWritableExactly, WritesMessage, RoundTrips, TextsAreShort};
 
 /// A JSON value stands for one message at most.
 pub fn one_message()
@@ -28,4 +28,10 @@ pub fn writes_message()
 /// A message that is written is read back, where its text is not too large.
 pub fn round_trip()
     ensures { RoundTrips }
+{}
+
+/// A message that can be written, with no more lines than a table has rows, and each line of a
+/// nomination with at most 25 quantities, has a text of at most 16 MiB.
+pub fn texts_are_short()
+    ensures { TextsAreShort }
 {}

@@ -21,7 +21,9 @@ mod rows;
 pub use decoding::decode;
 pub use encoding::encode;
 pub use key::Key;
-pub use laws::{one_message, reads_spelling, round_trip, writable_exactly, writes_message};
+pub use laws::{
+    one_message, reads_spelling, round_trip, texts_are_short, writable_exactly, writes_message,
+};
 pub use line::Line;
 pub use lines::Lines;
 pub use message::{

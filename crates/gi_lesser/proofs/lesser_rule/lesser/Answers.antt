@@ -5,7 +5,7 @@ use Rattle.gi_pairs.specs.Table.{IsTable, TableContents, built, keys_of}
 use Rattle.gi_pairs.specs.declared.table.TableFault.{TableFault}
 use Rattle.gi_pairs.specs.declared.row.Row.{Row}
 use Rattle.gi_lesser.specs.Lesser.{HasShapeOf, IsLesser, keys_of_both, lacks, lesser_of, lesser_row}
-use Rattle.gi_lesser.proofs.Laws.{AreMatched, built-lesser, lesser_of-IsLesser}
+use Rattle.gi_lesser.proofs.LesserLaws.{AreMatched, built-lesser, lesser_of-IsLesser}
 use Rattle.gi_lesser.proofs.lesser_rule.lesser.Goals as goal
 
 matched : (own peer : TableContents) → IsTable own → IsTable peer → HasShapeOf own peer → length own.rows ≤ most_processed_rows → length peer.rows ≤ most_processed_rows → AreMatched own peer

@@ -1,6 +1,7 @@
 -- The lesser of two tables is one, and has their rows and the lower of their readings.
 use Rattle.std.proofs.Common.{◌≡◌, ℕ, zero, suc, ◌-◌, ◌≤◌, ◌&&◌, ◌==◌, ◌⊎◌, inl, inr, List, [], ◌∷◌, length, map, filter, find, slice_index, min, not, nat_lt, nat_le, true, false, Bool, Ok, Option, Some, None, is_some, All, refl, sym, ap, ◌∙◌, arith, subst, if◌then◌else◌}
 use Rattle.std.specs.List.{range_with_len}
+use Rattle.std.specs.List.Sorted.{IsStrictlySortedBy}
 use Rattle.std.specs.Ordering.{is_eq}
 use Rattle.std.proofs.lemmas.Bool.Decides.{nat_tests, Decides-eqb}
 use Rattle.std.proofs.lemmas.List.{length-append, length-map}
@@ -136,6 +137,14 @@ both-few own peer a b =
 hours-fit : (t : TableContents) → IsTable t → is_hour_range t.first t.last ≡ true
 hours-fit t table = grind (arith, nat_tests, table.begins, table.ordered, table.ends)
 
+rows-distinct : (own peer : TableContents) → IsTable own → IsTable peer → repeats (keys_of (map (lesser_row own peer) (keys_of_both own peer))) ≡ false
+rows-distinct own peer a b = ap repeats (keys_of-rows own peer (keys_of_both own peer)) ∙ both-distinct own peer a b
+
+-- the rows of the lesser are in table order
+pub rows-sorted : (own peer : TableContents) → IsTable own → IsTable peer → IsStrictlySortedBy key_cmp (keys_of (lesser_of own peer).rows)
+unfolding lesser_of
+rows-sorted own peer a b = in_order-sorted (map (lesser_row own peer) (keys_of_both own peer)) (rows-distinct own peer a b)
+
 -- what is asked of two tables whose lesser is made
 pub record AreMatched (own peer : TableContents) : Type 0 where
   pub own_table : IsTable own
@@ -148,17 +157,15 @@ pub record AreMatched (own peer : TableContents) : Type 0 where
 pub built-lesser : (own peer : TableContents) → AreMatched own peer → built own.first own.last (map (lesser_row own peer) (keys_of_both own peer)) ≡ Ok (lesser_of own peer)
 unfolding lesser_of
 built-lesser own peer m =
-    let distinct : repeats (keys_of (map (lesser_row own peer) (keys_of_both own peer))) ≡ false = ap repeats (keys_of-rows own peer (keys_of_both own peer)) ∙ both-distinct own peer m.own_table m.peer_table in
-    sym (accepted own.first own.last (map (lesser_row own peer) (keys_of_both own peer)) (hours-fit own m.own_table) (both-few own peer m.own_few m.peer_few) (rows-whole own peer (keys_of_both own peer)) distinct)
+    sym (accepted own.first own.last (map (lesser_row own peer) (keys_of_both own peer)) (hours-fit own m.own_table) (both-few own peer m.own_few m.peer_few) (rows-whole own peer (keys_of_both own peer)) (rows-distinct own peer m.own_table m.peer_table))
 
 -- the lesser is a table
 pub lesser_of-is_table : (own peer : TableContents) → AreMatched own peer → IsTable (lesser_of own peer)
 unfolding lesser_of
 lesser_of-is_table own peer m =
-    let distinct : repeats (keys_of (map (lesser_row own peer) (keys_of_both own peer))) ≡ false = ap repeats (keys_of-rows own peer (keys_of_both own peer)) ∙ both-distinct own peer m.own_table m.peer_table in
     is_table own.first own.last (map (lesser_row own peer) (keys_of_both own peer)) (in_order (map (lesser_row own peer) (keys_of_both own peer))) (hours-fit own m.own_table) (both-few own peer m.own_few m.peer_few) (rows-whole own peer (keys_of_both own peer))
     (rows-known own peer (keys_of_both own peer) m.own_table (λ key h. both-known own peer key m.own_table m.peer_table h)) (in_order-permutation (map (lesser_row own peer) (keys_of_both own peer)))
-    (in_order-sorted (map (lesser_row own peer) (keys_of_both own peer)) distinct)
+    (rows-sorted own peer m.own_table m.peer_table)
 
 -- ---- what the lesser reads
 
@@ -184,14 +191,14 @@ pub key_in_lesser : (own peer : TableContents) (key : Key) → In key (keys_of_b
 key_in_lesser own peer key h =
     subst (λ (k : Key). In k (keys_of (lesser_of own peer).rows)) (key_of-lesser_row own peer key) (in_map key_of (lesser_row own peer key) (lesser_of own peer).rows (in_lesser own peer key h))
 
-both_from_own : (own peer : TableContents) (key : Key) → In key (keys_of own.rows) → In key (keys_of_both own peer)
+pub both_from_own : (own peer : TableContents) (key : Key) → In key (keys_of own.rows) → In key (keys_of_both own peer)
 both_from_own own peer key h = in_append_left key (keys_of own.rows) (filter (lacks own) (keys_of peer.rows)) h
 
 row_found : (t : TableContents) (key : Key) (o : Option Row) → find (is_at key) t.rows ≡ o → is_some o ≡ true → In key (keys_of t.rows)
 row_found t key None e some = cc
 row_found t key (Some row) e some = let found = found_is t.rows key row e in subst (λ (k : Key). In k (keys_of t.rows)) found.1 (in_map key_of row t.rows found.0)
 
-both_from_peer : (own peer : TableContents) (key : Key) → In key (keys_of peer.rows) → In key (keys_of_both own peer)
+pub both_from_peer : (own peer : TableContents) (key : Key) → In key (keys_of peer.rows) → In key (keys_of_both own peer)
 both_from_peer own peer key h = by_own (has_row own key) refl
   where
     by_own : (b : Bool) → has_row own key ≡ b → In key (keys_of_both own peer)
