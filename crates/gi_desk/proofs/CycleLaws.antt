@@ -1,5 +1,5 @@
 -- Of legal facts one at most closes a cycle, and one at most meets it, after its closing.
-use Rattle.std.proofs.Common.{◌≡◌, ◌≤◌, ℕ, List, [], ◌∷◌, ◌++◌, length, Bool, true, false, cond, not, ◌&&◌, ◌||◌, nat_eq, nat_le, nat_lt, Option, Some, None, Decides, filter_map, slice_get, refl, sym, ap, ◌∙◌, subst, eqb-true, eq-eqb, leb-true}
+use Rattle.std.proofs.Common.{◌≡◌, ◌<◌, ◌≤◌, ℕ, List, [], ◌∷◌, ◌++◌, length, Bool, true, false, cond, not, ◌&&◌, ◌||◌, nat_eq, nat_le, nat_lt, Option, Some, None, Decides, filter_map, slice_get, refl, sym, ap, ◌∙◌, subst, eqb-true, eq-eqb, leb-true, ltb-true}
 use Rattle.std.specs.List.{list_any, cons_option}
 use Rattle.std.proofs.lemmas.Bool.{and_from, and_parts, both_ways, false_from_ne_true, or_from, or_right}
 use Rattle.std.proofs.lemmas.List.{append_assoc}
@@ -61,6 +61,14 @@ closing_by false false next e = refl
 pub recorded-closing : (side : Side) (point : List ℕ) (before : List Fact) (id : CycleId) → would_record side point before (Closed id) ≡ true → is_closed id before ≡ false
 recorded-closing side point before id e =
     closing_by (not (nat_lt id.cycle (cycle_count id.day))) (is_closed id before) (unless_later id.cycle (last_closed id.day before) (Records (Closed id))) e
+
+below_by : (b : Bool) (next : Outcome) → is_record (cond (not b) (Refuses NoSuchCycle) next) ≡ true → b ≡ true
+below_by true next e = refl
+below_by false next e = absurd cc
+
+-- which its gas day has
+pub recorded-below : (side : Side) (point : List ℕ) (before : List Fact) (id : CycleId) → would_record side point before (Closed id) ≡ true → id.cycle < cycle_count id.day
+recorded-below side point before id e = ltb-true id.cycle (cycle_count id.day) (below_by (nat_lt id.cycle (cycle_count id.day)) _ e)
 
 meeting_hours : (before : List Fact) (id : CycleId) (own peer : TableContents) (first last : Bool) → nat_eq own.first peer.first ≡ first → nat_eq own.last peer.last ≡ last
     → is_record (by_decision before id (cond (first && last) (Meet peer) (Refused ShapeDiffers))) ≡ true → HasShapeOf own peer

@@ -144,7 +144,7 @@ front facts n fact is =
     ap (λ (m : ℕ). take m facts) next ∙ one_more facts (n - 1) fact (omega (arith, from, to)) is.2
 
 -- what it lets out is said by the facts up to it
-let_out-is : (side : Side) (point : List ℕ) (facts : List Fact) (n : ℕ) (fact : Fact) → IsFact facts n fact → let_out side point facts n ≡ packets_of side point (take n facts) fact
+pub let_out-is : (side : Side) (point : List ℕ) (facts : List Fact) (n : ℕ) (fact : Fact) → IsFact facts n fact → let_out side point facts n ≡ packets_of side point (take n facts) fact
 unfolding let_out
 let_out-is side point facts n fact is =
     let from = is.0 in

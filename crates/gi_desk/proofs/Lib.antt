@@ -1,16 +1,19 @@
 mod Called
-mod Confirmed
-mod CycleLaws
+pub mod Confirmed
+pub mod CycleLaws
 mod Decoded
 mod Differing
-mod HistoryLaws
+pub mod Fitting
+pub mod HistoryLaws
 mod KeptLaws
-mod Legality
-mod LettingOut
+pub mod Legality
+pub mod LettingOut
 mod Outcomes
+pub mod ReadableLaws
+mod RecordingCalls
 mod Replaying
-mod StageLaws
-mod StateLaws
-mod StepFacts
+pub mod StageLaws
+pub mod StateLaws
+pub mod StepFacts
 mod StepLaws
 mod Told

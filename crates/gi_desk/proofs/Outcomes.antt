@@ -72,7 +72,7 @@ sure side s own (Resends id) is recorded = tt
 sure side s own Stops is recorded = tt
 sure side s own (Refuses refusal) is recorded = tt
 
-of_test : (own : Fact) (b : Bool) (o p : Outcome) → IsOf own o → IsOf own p → IsOf own (cond b o p)
+pub of_test : (own : Fact) (b : Bool) (o p : Outcome) → IsOf own o → IsOf own p → IsOf own (cond b o p)
 of_test own true o p first second = first
 of_test own false o p first second = second
 
@@ -83,7 +83,7 @@ numbered is history = omega arith
 
 -- ---- notices and closings
 
-of_fault : (own : Fact) (o : Option NoticeFault) → IsOf own (unless_fault o (Records own))
+pub of_fault : (own : Fact) (o : Option NoticeFault) → IsOf own (unless_fault o (Records own))
 of_fault own None = refl
 of_fault own (Some notices.NoticeRange) = tt
 of_fault own (Some notices.PermilleRange) = tt
@@ -93,7 +93,7 @@ of_last : (own : Fact) (cycle : ℕ) (last : Option ℕ) → IsOf own (unless_la
 of_last own cycle None = refl
 of_last own cycle (Some last) = of_test own (nat_lt cycle last) (Refuses (refusals.OutOfOrder last)) (Records own) tt refl
 
-of_closing : (history : List Fact) (id : CycleId) → IsOf (facts.Closed id) (closed history id)
+pub of_closing : (history : List Fact) (id : CycleId) → IsOf (facts.Closed id) (closed history id)
 of_closing history id =
     let own = facts.Closed id in
     let later = unless_later id.cycle (last_closed id.day history) (Records own) in
@@ -138,7 +138,7 @@ meets_test peer false d e first second = second
 meets_again : (met peer : TableContents) → OnlyMeets peer (met_again met peer)
 meets_again met peer = meets_test peer (table_eq met peer) decisions.Again (decisions.Refused refusals.Conflict) tt tt
 
-meets_order : (peer : TableContents) (state : CycleState) → OnlyMeets peer (by_order peer state)
+pub meets_order : (peer : TableContents) (state : CycleState) → OnlyMeets peer (by_order peer state)
 meets_order peer (Collecting id) = tt
 meets_order peer (Frozen cycle) = meets_test peer (same_hours cycle.own peer) (decisions.Meet peer) (decisions.Refused refusals.ShapeDiffers) refl tt
 meets_order peer (Matched cycle) =
@@ -160,7 +160,7 @@ meets_response peer confirmed (Matched cycle) =
     meets_test peer (same_hours cycle.own peer) (unless_differs differs again) (decisions.Refused refusals.ShapeDiffers)
     (meets_unless peer differs again (meets_again cycle.peer peer)) tt
 
-of_decision : (history : List Fact) (id : CycleId) (peer : TableContents) (d : Decision) → OnlyMeets peer d → IsOf (facts.Met id peer) (by_decision history id d)
+pub of_decision : (history : List Fact) (id : CycleId) (peer : TableContents) (d : Decision) → OnlyMeets peer d → IsOf (facts.Met id peer) (by_decision history id d)
 of_decision history id peer (decisions.Meet table) is = ap (facts.Met id) is
 of_decision history id peer decisions.Again is = numbered _ history
 of_decision history id peer (decisions.Refused refusal) is = tt
@@ -255,7 +255,7 @@ sure_mark side s n fact false e = tt
 
 -- ---- all calls
 
-sure_comes : (side : Side) (s : DeskState) (call : Call) → IsSure side s (comes_to side s call)
+pub sure_comes : (side : Side) (s : DeskState) (call : Call) → IsSure side s (comes_to side s call)
 sure_comes side s (calls.Contract contract) =
     let own = facts.Contracted contract in
     sure side s own (contracted s.facts contract)

@@ -171,14 +171,15 @@ is_more : (old new : List Fact) → HasOneMoreAtMost old new → IsMore old new
 is_more old new (inl same) = ([], same ∙ sym (append-nil old))
 is_more old new (inr (fact, longer)) = (fact ∷ [], longer)
 
--- the first facts of more begin with the first facts
+-- more of the first facts begin with fewer of them, also where further facts come after
+front-longer : (facts : List Fact) (m n : ℕ) → m ≤ n → IsMore (take m facts) (take n facts)
+front-longer facts m n below =
+    let rest = drop m (take n facts) in
+    (rest, sym (take-append-drop m (take n facts)) ∙ ap (λ (front : List Fact). front ++ rest) (take-take m n facts below))
+
 front-more : (facts more : List Fact) (m n : ℕ) → m ≤ n → m ≤ length facts → IsMore (take m facts) (take n (facts ++ more))
 front-more facts more m n below within =
-    let rest = drop m (take n (facts ++ more)) in (
-      rest,
-      sym (take-append-drop m (take n (facts ++ more)))
-          ∙ ap (λ (front : List Fact). front ++ rest) (take-take m n (facts ++ more) below ∙ take-append-le m facts more within),
-    )
+    subst (λ (front : List Fact). IsMore front (take n (facts ++ more))) (take-append-le m facts more within) (front-longer (facts ++ more) m n below)
 
 told_by : (own : TableContents) (o : Option TableContents) (table : TableContents) → option_map (lesser_of own) o ≡ Some table
     → (peer : TableContents) × (o ≡ Some peer) × (Some (lesser_of own peer) ≡ Some table)
@@ -210,3 +211,24 @@ pub confirms-for-good : (side : Side) (s : DeskState) (call : Call) (id : CycleI
 confirms-for-good side s call id table legal within told =
     let grown = only-appends side s call in
     confirmed_more side s (after side s call) id table legal within (is_more s.facts (after side s call).facts grown.0) grown.1 told
+
+-- ---- a restart with the saved facts
+
+-- the first facts tell the frozen quantities of a cycle that fewer of them close
+frozen_front : (side : Side) (facts : List Fact) (m n : ℕ) (id : CycleId) → m ≤ n → is_closed id (take m facts) ≡ true
+    → frozen_table side (take n facts) id ≡ frozen_table side facts id
+frozen_front side facts m n id below closed =
+    let longer = front-longer facts m n below in
+    ap (λ (all : List Fact). frozen_table side all id) longer.1 ∙ frozen_table-more side (take m facts) longer.0 id closed
+    ∙ sym (frozen_table-more side (take m facts) (drop m facts) id closed) ∙ ap (λ (all : List Fact). frozen_table side all id) (take-append-drop m facts)
+
+-- what is confirmed stays so where the saved facts are among the first ones that are kept
+pub confirms-through-restarts : (side : Side) (s : DeskState) (n : ℕ) (id : CycleId) (table : TableContents) → bad_fact side s.point s.facts ≡ None → s.saved ≤ n
+    → confirmed side s id ≡ Some table → confirmed side (record { point = s.point; facts = take n s.facts; saved = n; halted = false }) id ≡ Some table
+unfolding confirmed
+confirms-through-restarts side s n id table legal below told =
+    let peer = told_by (frozen_table side s.facts id) (peer_of id (take s.saved s.facts)) table told in
+    let closed = met_closed side s.point (take s.saved s.facts) id peer.0 (legal-front side s.point s.facts s.saved legal) peer.1 in
+    let frozen = frozen_front side s.facts s.saved n id below closed in
+    let met = ap (peer_of id) (take-take n n s.facts (omega arith)) ∙ front_met (take s.saved s.facts) (take n s.facts) id peer.0 (front-longer s.facts s.saved n below) peer.1 in
+    (λ t. option_map (lesser_of (frozen t)) (met t)) ∙ peer.2

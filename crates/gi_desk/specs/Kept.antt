@@ -1,11 +1,11 @@
 -- What a desk keeps beside its facts.
-use Rattle.std.specs.Prelude.{◌≡◌, ◌<◌, ◌≤◌, ◌+◌, ℕ, List, length, map, Bool, true, false, Option, Some, None, if◌then◌else◌}
+use Rattle.std.specs.Prelude.{◌≡◌, ◌<◌, ◌≤◌, ◌+◌, List, length, map, Bool, true, false, Option, Some, None, if◌then◌else◌}
 use Rattle.gi_pairs.specs.declared.cycle_id.CycleId.{CycleId}
 use Rattle.gi_pairs.specs.declared.side.Side.{Side}
 use Rattle.gi_cycles.specs.declared.cycle_state.CycleState.{CycleState}
 use Rattle.gi_cycles.specs.declared.cycle_state.CycleState.TheVariants.{Collecting, Frozen, Matched}
 use Rattle.gi_desk.specs.History.{closings, is_closed, state_of}
-use Rattle.gi_desk.specs.Machine.{DeskState, bad_fact, can_be_read, most_facts, would_record}
+use Rattle.gi_desk.specs.Machine.{DeskState, can_be_read, most_facts, would_record}
 use Rattle.gi_desk.specs.Same.{same_cycle}
 use Rattle.gi_desk.specs.declared.call.Call.{Call}
 use Rattle.gi_desk.specs.declared.call.Call.TheVariants.{Contract, Notice, Submit, Close, Deliver, Resend, MarkSaved, Halt}
@@ -30,12 +30,6 @@ states_of side facts = map (state_of side facts) (closings facts)
 -- how far a cycle is, once it is closed
 abbrev pub closed_state : Side → List Fact → CycleId → Option CycleState
 closed_state side facts id = if is_closed id facts then Some (state_of side facts id) else None
-
--- what holds of all that a desk keeps: each fact is one that it would record after those before it
-pub record IsKept (side : Side) (point : List ℕ) (facts : List Fact) (states : List CycleState) (saved : ℕ) : Type 0 where
-  pub legal : bad_fact side point facts ≡ None
-  pub stages : states ≡ states_of side facts
-  pub within : saved ≤ length facts
 
 -- what a call that comes to an outcome can be sure of
 abbrev pub CanFollow : Side → DeskState → Outcome → Type 0

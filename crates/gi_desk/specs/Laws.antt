@@ -1,17 +1,19 @@
 -- What holds of all histories of a desk.
-use Rattle.std.specs.Prelude.{◌≡◌, ℕ, ◌+◌, ◌≤◌, List, [], ◌∷◌, ◌++◌, length, take, Contains, ◌⊎◌, Some, None, true, false}
+use Rattle.std.specs.Prelude.{◌≡◌, ◌↔◌, ℕ, ◌+◌, ◌≤◌, List, [], ◌∷◌, ◌++◌, length, take, All, Contains, ◌⊎◌, Some, None, true, false}
 use Rattle.gi_pairs.specs.Table.{TableContents}
 use Rattle.gi_pairs.specs.declared.cycle_id.CycleId.{CycleId}
 use Rattle.gi_pairs.specs.declared.side.Side.{Side}
 use Rattle.gi_desk.specs.History.{frozen_table, is_closed, peer_of, state_of}
 use Rattle.gi_desk.specs.Kept.{changes_cycle}
 use Rattle.gi_desk.specs.LetOut.{let_out, packets_of}
-use Rattle.gi_desk.specs.Machine.{DeskState, after as state_after, bad_fact, is_for_peer, reply}
+use Rattle.gi_desk.specs.Machine.{DeskState, after as state_after, bad_fact, comes_to, is_for_peer, reply, would_record}
 use Rattle.gi_desk.specs.Queries.{confirmed}
+use Rattle.gi_desk.specs.Writable.{FitsDesk, FitsFact, IsReadable}
 use Rattle.gi_desk.specs.declared.answer.Answer.TheVariants as answers
 use Rattle.gi_desk.specs.declared.call.Call.{Call}
 use Rattle.gi_desk.specs.declared.fact.Fact.{Fact}
 use Rattle.gi_desk.specs.declared.fact.Fact.TheVariants.{Closed, Met}
+use Rattle.gi_desk.specs.declared.outcome.Outcome.TheVariants.{Records}
 use Rattle.gi_desk.specs.declared.packet.Packet.{Packet}
 use Rattle.gi_desk.specs.declared.refusal.Refusal.{Refusal}
 
@@ -88,3 +90,21 @@ abbrev pub ConfirmsForGood : Type 0
 ConfirmsForGood =
     (side : Side) (s : DeskState) (call : Call) (id : CycleId) (table : TableContents) → bad_fact side s.point s.facts ≡ None → s.saved ≤ length s.facts
     → confirmed side s id ≡ Some table → confirmed side (state_after side s call) id ≡ Some table
+
+-- What is once confirmed of a cycle no restart changes that keeps the saved facts.
+abbrev pub ConfirmsThroughRestarts : Type 0
+ConfirmsThroughRestarts =
+    (side : Side) (s : DeskState) (n : ℕ) (id : CycleId) (table : TableContents) → bad_fact side s.point s.facts ≡ None → s.saved ≤ n
+    → confirmed side s id ≡ Some table → confirmed side (record { point = s.point; facts = take n s.facts; saved = n; halted = false }) id ≡ Some table
+
+-- Where all of a desk can be written, and a fact too, the fact may come next exactly where some call records it.
+abbrev pub RecordsWhatCallsRecord : Type 0
+RecordsWhatCallsRecord =
+    (side : Side) (s : DeskState) (fact : Fact) → FitsDesk side s.point s.facts → FitsFact fact
+    → (would_record side s.point s.facts fact ≡ true) ↔ ((call : Call) × (comes_to side s call ≡ Records fact))
+
+-- Every packet that a fact of a desk lets out is the text of a message that can be written, and not too large.
+abbrev pub WritesMessages : Type 0
+WritesMessages =
+    (side : Side) (point : List ℕ) (facts : List Fact) (n : ℕ) → bad_fact side point facts ≡ None → FitsDesk side point facts
+    → All IsReadable (let_out side point facts n)

@@ -7,5 +7,7 @@ pub mod Judging
 pub mod Machine
 pub mod Kept
 pub mod Queries
+pub mod Writable
+pub mod DeskKept
 pub mod FaultText
 pub mod Laws

@@ -3,6 +3,7 @@ ghost use Rattle.std.specs.Option.{option_copied, option_map};
 ghost use Rattle.gi_desk.specs.History.{is_meeting, number_of, state_of};
 ghost use Rattle.gi_desk.specs.Machine.{bad_fact};
 ghost use Rattle.gi_desk.specs.Queries.{acknowledged as is_acknowledged, confirmed as confirmed_of, fact_at, stage_of, table_in, unsaved as next_unsaved};
+ghost use Rattle.gi_desk.specs.Writable.{FitsDesk};
 
 mod judging;
 mod letting_out;
@@ -38,7 +39,7 @@ pub struct Desk<R: Role> {
 }
 
 impl<R: Role> Model for Desk<R> {
-    ghost use Rattle.gi_desk.specs.Kept.{IsKept};
+    ghost use Rattle.gi_desk.specs.DeskKept.{IsKept};
     ghost use Rattle.gi_desk.specs.Machine.{DeskState};
 
     ghost Value = { DeskState };
@@ -61,10 +62,13 @@ impl<R: Role> Desk<R> {
         self.point
     }
 
-    /// How many facts it has. Each is one that it would record after those before it.
+    /// How many facts it has. Each is one that it would record after those before it. The point, the
+    /// facts and how far each closed cycle is can be written: their codes, gas days, numbers and
+    /// tables are in their ranges.
     pub fn len(&self) -> u32
         ensures value { result ≡ length self.now.facts }
         ensures legal { bad_fact R.SIDE self.now.point self.now.facts ≡ None }
+        ensures fits { FitsDesk R.SIDE self.now.point self.now.facts }
     {
         self.facts.len() as u32
     }

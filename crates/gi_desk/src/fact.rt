@@ -1,5 +1,10 @@
-ghost use Rattle.std.specs.Prelude.{◌≡◌, IfOk};
+ghost use Rattle.std.specs.Prelude.{◌≡◌, IfOk, List, true, ℕ};
+ghost use Rattle.gi_pairs.specs.declared.side.Side.{Side};
+ghost use Rattle.gi_desk.specs.Machine.{would_record};
+ghost use Rattle.gi_desk.specs.Writable.{FitsDesk, FitsFact};
+ghost use Rattle.gi_desk.specs.declared.fact.Fact.{Fact};
 
+use crate::ranges::{contract_in_range, lines_in_range};
 use gi_messages::Nomint;
 use gi_pairs::{CycleId, Table};
 use gi_processing::{Contract, Notice};
@@ -35,6 +40,27 @@ impl Fact {
                 peer: peer.copy()?,
             },
         })
+    }
+
+    /// Every fact that a desk would record can be written.
+    pub(crate) fn in_range(&self)
+        requires { (side : Side) × (point : List ℕ) × (before : List Fact) × FitsDesk side point before × (would_record side point before self.now ≡ true) }
+        ensures { FitsFact self.now }
+    {
+        match self {
+            Fact::Contracted(contract) => contract_in_range(contract),
+            Fact::Noticed(notice) => notice.day.in_range(),
+            Fact::Nominated(document) => {
+                let _ = document.point.as_str();
+                let _ = document.portfolio.as_str();
+                document.day.in_range();
+                lines_in_range(document.lines.as_slice());
+            }
+            Fact::Closed(id) => id.day.in_range(),
+            Fact::Met { peer, .. } => {
+                let _ = peer.rows();
+            }
+        }
     }
 }
 

@@ -1,6 +1,6 @@
 //! What holds of all histories of a desk. These functions do nothing; their clauses are the laws.
 
-ghost use Rattle.gi_desk.specs.Laws.{ClosesOnce, ConfirmsForGood, FreezesForGood, FrontsAreLegal, LetsOutForGood, MatchesForGood, MeetsOnce, OnlyAppends, OrdersOnlyOfCycles, RefusalsChangeNothing, SaysOnlyWhatIsSaved, StaysLegal};
+ghost use Rattle.gi_desk.specs.Laws.{ClosesOnce, ConfirmsForGood, ConfirmsThroughRestarts, FreezesForGood, FrontsAreLegal, LetsOutForGood, MatchesForGood, MeetsOnce, OnlyAppends, OrdersOnlyOfCycles, RecordsWhatCallsRecord, RefusalsChangeNothing, SaysOnlyWhatIsSaved, StaysLegal, WritesMessages};
 
 /// No later fact changes what a fact lets out.
 pub fn lets_out_for_good()
@@ -60,4 +60,19 @@ pub fn fronts_are_legal()
 /// What is once confirmed of a cycle no call changes.
 pub fn confirms_for_good()
     ensures { ConfirmsForGood }
+{}
+
+/// What is once confirmed of a cycle no restart changes that keeps the saved facts.
+pub fn confirms_through_restarts()
+    ensures { ConfirmsThroughRestarts }
+{}
+
+/// A fact may come next exactly where some call records it.
+pub fn records_what_calls_record()
+    ensures { RecordsWhatCallsRecord }
+{}
+
+/// Every packet that a fact lets out is the text of a message that can be written, in at most 16 MiB.
+pub fn writes_messages()
+    ensures { WritesMessages }
 {}

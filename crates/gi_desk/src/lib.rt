@@ -15,6 +15,7 @@ mod letting_out;
 mod outcome;
 mod packet;
 mod packets;
+mod ranges;
 mod recipient;
 mod refusal;
 mod replay_fault;
@@ -34,10 +35,12 @@ pub use desk::Desk;
 pub use fact::Fact;
 pub use judging::MOST_FACTS;
 pub use laws::{
-    closes_once, confirms_for_good, freezes_for_good, fronts_are_legal, lets_out_for_good,
-    matches_for_good, meets_once, only_appends, orders_only_of_cycles, refusals_change_nothing,
-    says_only_what_is_saved, stays_legal,
+    closes_once, confirms_for_good, confirms_through_restarts, freezes_for_good, fronts_are_legal,
+    lets_out_for_good, matches_for_good, meets_once, only_appends, orders_only_of_cycles,
+    records_what_calls_record, refusals_change_nothing, says_only_what_is_saved, stays_legal,
+    writes_messages,
 };
+pub use outcome::Outcome;
 pub use packet::Packet;
 pub use packets::Packets;
 pub use recipient::Recipient;

@@ -4,7 +4,7 @@ use gi_pairs::CycleId;
 
 /// What a call comes to.
 #[derive(Debug, Drop)]
-pub(crate) enum Outcome {
+pub enum Outcome {
     /// A new fact is recorded.
     Records(Fact),
     /// It repeats the nomination that fact number `n` records.

@@ -3,10 +3,12 @@
 ghost use Rattle.std.specs.Prelude.{◌≡◌, ◌<◌, ◌≤◌, ◌++◌, ◌∷◌, [], IfOk, OnErr, OnOk, false, length, true};
 ghost use Rattle.gi_day.specs.Cycles.{IsCycle};
 ghost use Rattle.gi_pairs.specs.Limits.{most_processed_rows};
+ghost use Rattle.gi_pairs.specs.Table.{IsTable};
 ghost use Rattle.gi_processing.specs.Processing.{processed as processed_of};
 ghost use Rattle.gi_desk.specs.History.{capacity_of, documents_of};
 ghost use Rattle.gi_desk.specs.Kept.{changes_cycle};
 ghost use Rattle.gi_desk.specs.Machine.{most_facts, would_record};
+ghost use Rattle.gi_desk.specs.Writable.{FitsFact};
 ghost use Rattle.gi_desk.specs.declared.fact.Fact.TheVariants.{Closed, Met};
 
 use crate::desk::Desk;
@@ -24,6 +26,7 @@ impl<R: Role> Desk<R> {
         requires { IsCycle id.now.day id.now.cycle }
         ensures value { IfOk result (λ table. table ≡ processed_of (capacity_of self.now.facts) (documents_of self.now.facts) R.SIDE id.now.day id.now.cycle) }
         ensures few { IfOk result (λ table. length table.rows ≤ most_processed_rows) }
+        ensures table { IfOk result IsTable }
     {
         let frame = self.calendar.frame(id.day).unwrap();
         let book = self.book()?;
@@ -35,6 +38,7 @@ impl<R: Role> Desk<R> {
     fn freeze(&mut self, id: &CycleId) -> Result<(), AllocError>
         requires recorded { would_record R.SIDE self.now.point self.now.facts (Closed id.now) ≡ true }
         requires room { length self.now.facts < most_facts }
+        requires fits { FitsFact (Closed id.now) }
         ensures next { OnOk result (self.new ≡ record self.old { facts = self.old.facts ++ Closed id.now ∷ [] }) }
         ensures kept { OnErr result (self.new ≡ self.old) }
     {
@@ -51,6 +55,7 @@ impl<R: Role> Desk<R> {
     fn meet(&mut self, id: &CycleId, peer: Table) -> Result<(), AllocError>
         requires recorded { would_record R.SIDE self.now.point self.now.facts (Met id.now peer) ≡ true }
         requires room { length self.now.facts < most_facts }
+        requires fits { FitsFact (Met id.now peer) }
         ensures next { OnOk result (self.new ≡ record self.old { facts = self.old.facts ++ Met id.now peer ∷ [] }) }
         ensures kept { OnErr result (self.new ≡ self.old) }
     {
@@ -69,11 +74,27 @@ impl<R: Role> Desk<R> {
         requires recorded { would_record R.SIDE self.now.point self.now.facts fact ≡ true }
         requires room { length self.now.facts < most_facts }
         requires other { changes_cycle fact ≡ false }
+        requires fits { FitsFact fact }
         ensures next { OnOk result (self.new ≡ record self.old { facts = self.old.facts ++ fact ∷ [] }) }
         ensures kept { OnErr result (self.new ≡ self.old) }
     {
         self.facts.push(fact)?;
         Ok(())
+    }
+
+    /// Records a fact that can be written.
+    fn put(&mut self, fact: Fact) -> Result<(), AllocError>
+        requires recorded { would_record R.SIDE self.now.point self.now.facts fact ≡ true }
+        requires room { length self.now.facts < most_facts }
+        requires fits { FitsFact fact }
+        ensures next { OnOk result (self.new ≡ record self.old { facts = self.old.facts ++ fact ∷ [] }) }
+        ensures kept { OnErr result (self.new ≡ self.old) }
+    {
+        match fact {
+            Fact::Closed(id) => self.freeze(&id),
+            Fact::Met { id, peer } => self.meet(&id, peer),
+            other => self.add(other),
+        }
     }
 
     /// Records a fact, which some call would record.
@@ -83,10 +104,9 @@ impl<R: Role> Desk<R> {
         ensures next { OnOk result (self.new ≡ record self.old { facts = self.old.facts ++ fact ∷ [] }) }
         ensures kept { OnErr result (self.new ≡ self.old) }
     {
-        match fact {
-            Fact::Closed(id) => self.freeze(&id),
-            Fact::Met { id, peer } => self.meet(&id, peer),
-            other => self.add(other),
-        }
+        // All that is recorded can be written, and so the fact that comes next.
+        let _ = self.len();
+        fact.in_range();
+        self.put(fact)
     }
 }

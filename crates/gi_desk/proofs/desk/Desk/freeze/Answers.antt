@@ -1,4 +1,6 @@
-use Rattle.std.proofs.Common.{◌≡◌, ◌++◌, ◌∷◌, [], sym, ap, ◌∙◌, List}
+use Rattle.std.proofs.Common.{◌≡◌, ◌≤◌, ◌++◌, ◌∷◌, [], sym, ap, ◌∙◌, subst, List, length}
+use Rattle.gi_pairs.specs.Limits.{most_processed_rows}
+use Rattle.gi_pairs.specs.Table.{IsTable, TableContents}
 use Rattle.gi_cycles.specs.declared.cycle_state.CycleState.{CycleState}
 use Rattle.gi_cycles.specs.declared.cycle_state.CycleState.TheVariants.{Frozen}
 use Rattle.gi_desk.specs.Machine.{DeskState}
@@ -20,6 +22,8 @@ invariant_of-self-2 g c =
     c.push_reserved-2.ensures.items ∙ ap (λ (fs : List Fact). fs ++ Closed id ∷ []) c.in_ok-reserve-2.ensures.items in
     let states : c.push_reserved.new.self.items ≡ inside.states.items ++ Frozen c.close.result ∷ [] =
     c.push_reserved.ensures.items ∙ ap (λ (ss : List CycleState). ss ++ Frozen c.close.result ∷ []) c.in_ok-reserve.ensures.items in
+    let table = subst IsTable (sym c.close.ensures.own) c.in_ok-own.ensures.table in
+    let few = subst (λ (t : TableContents). length t.rows ≤ most_processed_rows) (sym c.close.ensures.own) c.in_ok-own.ensures.few in
     kept-closed side inside.point inside.facts.items inside.states.items inside.saved c.args.self.now id c.close.result c.push_reserved-2.new.self.items c.push_reserved.new.self.items
     c.self.invariant (ap (λ (s : DeskState). s.point) view) (ap (λ (s : DeskState). s.facts) view) c.requires.recorded c.requires.room
-    (c.close.ensures.id ∙ c.new.ensures) (c.close.ensures.own ∙ c.in_ok-own.ensures.value) facts states
+    c.requires.fits (record { table = table; few = few }) (c.close.ensures.id ∙ c.new.ensures) (c.close.ensures.own ∙ c.in_ok-own.ensures.value) facts states

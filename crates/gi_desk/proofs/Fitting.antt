@@ -1,0 +1,147 @@
+-- Which facts and states can be written.
+use Rattle.std.proofs.Common.{◌≡◌, ℕ, List, [], ◌∷◌, ◌++◌, Bool, true, false, cond, not, leb-true, All, Some, None, refl, sym, ap, ◌∙◌, subst, arith}
+use Rattle.std.specs.Int.{IsInRange}
+use Rattle.std.proofs.lemmas.Bool.{and_parts}
+use Rattle.std.proofs.lemmas.Bool.Decides.{nat_tests}
+use Rattle.std.proofs.lemmas.List.Elements.{All-nil, All-push, All-set}
+use Rattle.gi_day.specs.Cycles.{cycle_count, hour_count}
+use Rattle.gi_day.specs.Day.{IsGasYear}
+use Rattle.gi_day.proofs.DayFacts.{day_facts}
+use Rattle.gi_pairs.specs.Code.{IsCode}
+use Rattle.gi_pairs.specs.Table.{IsTable, TableContents}
+use Rattle.gi_pairs.specs.declared.cycle_id.CycleId.{CycleId}
+use Rattle.gi_pairs.specs.declared.side.Side.{Side}
+use Rattle.gi_pairs.proofs.Reading.{find_all}
+use Rattle.gi_lesser.specs.Lesser.{HasShapeOf, lesser_of}
+use Rattle.gi_lesser.proofs.LesserLaws.{AreMatched, lesser_of-is_table}
+use Rattle.gi_messages.specs.Grammar.{FitsLine, FitsNomint}
+use Rattle.gi_messages.specs.Limits.{last_version}
+use Rattle.gi_messages.specs.declared.message.Nomint.{Nomint}
+use Rattle.gi_processing.specs.Processing.{processed}
+use Rattle.gi_processing.specs.Recording.{has_hours, is_over, notice_refusal}
+use Rattle.gi_processing.specs.declared.notice.Notice.{Notice}
+use Rattle.gi_processing.specs.declared.notice_fault.NoticeFault.TheVariants.{NoticeRange, PermilleRange}
+use Rattle.gi_cycles.specs.States.{FrozenCycle, matched_of}
+use Rattle.gi_cycles.specs.declared.cycle_state.CycleState.{CycleState}
+use Rattle.gi_cycles.specs.declared.cycle_state.CycleState.TheVariants.{Frozen, Matched}
+use Rattle.gi_desk.specs.History.{capacity_of, closings, documents_of, frozen_cycle, is_closed, state_of}
+use Rattle.gi_desk.specs.Kept.{changes_cycle, is_state_of, states_of}
+use Rattle.gi_desk.specs.Machine.{bad_fact, would_record}
+use Rattle.gi_desk.specs.Writable.{FitsCycle, FitsDesk, FitsFact, FitsFrozen, FitsMatched, FitsNotice, FitsProcessed, FitsState}
+use Rattle.gi_desk.specs.declared.fact.Fact.{Fact}
+use Rattle.gi_desk.specs.declared.fact.Fact.TheVariants.{Noticed, Nominated, Closed, Met}
+use Rattle.gi_desk.proofs.CycleLaws.{IsMeeting, recorded-below, recorded-meeting}
+use Rattle.gi_desk.proofs.Legality.{legal-recorded, recorded-notice}
+use Rattle.gi_desk.proofs.StageLaws.{found, place_of, state-meeting, states-closed, states-met, states-other}
+
+-- ---- the state of a closed cycle
+
+pub state-fits : (side : Side) (facts : List Fact) (id : CycleId) → All FitsState (states_of side facts) → is_closed id facts ≡ true → FitsState (state_of side facts id)
+state-fits side facts id all closed =
+    find_all FitsState (is_state_of id) (states_of side facts) (state_of side facts id) all
+    (found side facts id ∙ ap (λ (b : Bool). cond b (Some (state_of side facts id)) None) closed)
+
+-- a cycle that would meet the peer's table is frozen
+meeting-fits : (side : Side) (facts : List Fact) (id : CycleId) (peer : TableContents) → All FitsState (states_of side facts) → IsMeeting side facts id peer
+    → FitsFrozen (frozen_cycle side facts id)
+meeting-fits side facts id peer all meeting = subst FitsState (state-meeting side facts id peer meeting) (state-fits side facts id all meeting.closed)
+
+-- ---- a fact that would be recorded
+
+notice_by : (a b : Bool) → cond (not a) (Some NoticeRange) (cond b (Some PermilleRange) None) ≡ None → (a ≡ true) × (b ≡ false)
+notice_by true true e = absurd cc
+notice_by true false e = (refl, refl)
+notice_by false b e = absurd cc
+
+unrefused : (notice : Notice) → notice_refusal notice ≡ None → (has_hours (hour_count notice.day) notice ≡ true) × (is_over notice ≡ false)
+unfolding notice_refusal
+unrefused notice e = notice_by (has_hours (hour_count notice.day) notice) (is_over notice) e
+
+pub notice-fits : (side : Side) (point : List ℕ) (before : List Fact) (notice : Notice) → would_record side point before (Noticed notice) ≡ true → IsGasYear notice.day.year → FitsNotice notice
+notice-fits side point before notice e day =
+    let none = unrefused notice (recorded-notice side point before notice e) in
+    let hours = none.0 in
+    let over = none.1 in
+    let longest : IsInRange 23 25 (hour_count notice.day) = (day_facts notice.day).hours_in in
+    record {
+      day = day;
+      begins = grind (arith, nat_tests, hours);
+      ordered = grind (arith, nat_tests, hours);
+      ends = grind (arith, nat_tests, hours, longest);
+      firm = grind (arith, nat_tests, over);
+      interruptible = grind (arith, nat_tests, over);
+    }
+
+pub nomination-fits : (side : Side) (point : List ℕ) (before : List Fact) (document : Nomint) → would_record side point before (Nominated document) ≡ true → IsCode document.point
+    → IsCode document.portfolio → IsGasYear document.day.year → All FitsLine document.lines → FitsNomint document
+nomination-fits side point before document e of_point portfolio day lines =
+    let to = and_parts _ _ e in
+    let from = and_parts _ _ to.0 in
+    record {
+      point = of_point;
+      portfolio = portfolio;
+      day = day;
+      from = leb-true 1 document.version from.1;
+      to = leb-true document.version last_version to.1;
+      lines = lines;
+    }
+
+pub closing-fits : (side : Side) (point : List ℕ) (before : List Fact) (id : CycleId) → would_record side point before (Closed id) ≡ true → IsGasYear id.day.year → FitsCycle id
+closing-fits side point before id e day =
+    let below = recorded-below side point before id e in
+    let few : IsInRange 35 37 (cycle_count id.day) = (day_facts id.day).count_in in
+    record { day = day; cycle = omega (arith, below, few) }
+
+pub meeting_fact-fits : (side : Side) (point : List ℕ) (before : List Fact) (id : CycleId) (peer : TableContents) → FitsDesk side point before → would_record side point before (Met id peer) ≡ true
+    → IsTable peer → FitsFact (Met id peer)
+meeting_fact-fits side point before id peer desk e table =
+    let meeting = recorded-meeting side point before id peer e in
+    let frozen = meeting-fits side before id peer desk.states meeting in
+    (frozen.id, record { table = table; few = meeting.few })
+
+-- ---- the states after one more fact
+
+pub states_fit-other : (side : Side) (facts : List Fact) (fact : Fact) → changes_cycle fact ≡ false → All FitsState (states_of side facts) → All FitsState (states_of side (facts ++ fact ∷ []))
+states_fit-other side facts fact other all = subst (λ (states : List CycleState). All FitsState states) (sym (states-other side facts fact other)) all
+
+pub states_fit-closed : (side : Side) (point : List ℕ) (facts : List Fact) (id : CycleId) → bad_fact side point (facts ++ Closed id ∷ []) ≡ None → All FitsState (states_of side facts)
+    → FitsCycle id → FitsProcessed (processed (capacity_of facts) (documents_of facts) side id.day id.cycle) → All FitsState (states_of side (facts ++ Closed id ∷ []))
+states_fit-closed side point facts id legal all cycle own =
+    let frozen : FrozenCycle = record { id = id; own = processed (capacity_of facts) (documents_of facts) side id.day id.cycle } in
+    let fits : FitsFrozen frozen = record { id = cycle; own = own } in
+    subst (λ (states : List CycleState). All FitsState states) (sym (states-closed side point facts id legal))
+    (All-push FitsState (states_of side facts) (Frozen frozen) all fits)
+
+matched-fits : (cycle : FrozenCycle) (peer : TableContents) → FitsFrozen cycle → FitsProcessed peer → HasShapeOf cycle.own peer → FitsMatched (matched_of cycle peer)
+unfolding lesser_of
+matched-fits cycle peer frozen met shape =
+    let both : AreMatched cycle.own peer =
+    record { own_table = frozen.own.table; peer_table = met.table; shape = shape; own_few = frozen.own.few; peer_few = met.few } in
+    record {
+      id = frozen.id;
+      own = frozen.own;
+      peer = met;
+      confirmed = lesser_of-is_table cycle.own peer both;
+      begins = refl;
+      ends = refl;
+    }
+
+pub states_fit-met : (side : Side) (point : List ℕ) (facts : List Fact) (id : CycleId) (peer : TableContents) → bad_fact side point (facts ++ Met id peer ∷ []) ≡ None
+    → All FitsState (states_of side facts) → FitsFact (Met id peer) → All FitsState (states_of side (facts ++ Met id peer ∷ []))
+states_fit-met side point facts id peer legal all fact =
+    let meeting = recorded-meeting side point facts id peer (legal-recorded side point facts (Met id peer) [] legal) in
+    let frozen = meeting-fits side facts id peer all meeting in
+    let cycle = frozen_cycle side facts id in
+    let fits : FitsMatched (matched_of cycle peer) = matched-fits cycle peer frozen fact.1 meeting.same_hours in
+    subst (λ (states : List CycleState). All FitsState states) (sym (states-met side point facts id peer legal))
+    (All-set FitsState (states_of side facts) (place_of side facts id) (Matched (matched_of cycle peer)) fits all)
+
+-- ---- a desk
+
+pub fits-none : (side : Side) (point : List ℕ) → IsCode point → FitsDesk side point []
+unfolding states_of closings
+fits-none side point code = record { point = code; facts = All-nil FitsFact; states = All-nil FitsState }
+
+pub fits-more : (side : Side) (point : List ℕ) (facts : List Fact) (fact : Fact) → FitsDesk side point facts → FitsFact fact → All FitsState (states_of side (facts ++ fact ∷ []))
+    → FitsDesk side point (facts ++ fact ∷ [])
+fits-more side point facts fact desk fits states = record { point = desk.point; facts = All-push FitsFact facts fact desk.facts fits; states = states }

@@ -1,0 +1,221 @@
+-- What a desk lets out can be written and read.
+use Rattle.std.proofs.Common.{arith, ◌≡◌, ◌<◌, ◌≤◌, ◌-◌, ℕ, List, [], ◌∷◌, length, take, filter, map, Bool, true, false, cond, All, Option, Some, None, refl, sym, ap, ◌∙◌, subst}
+use Rattle.std.specs.Prelude.{is_some, slice_get}
+use Rattle.std.specs.Ordering.{is_lt}
+use Rattle.std.specs.Str.{bytes_eq}
+use Rattle.std.proofs.lemmas.List.{get_or-take, length-map, length-take}
+use Rattle.std.proofs.lemmas.List.Elements.{All-append, All-cons, All-filter, All-get_or, All-head, All-map, All-nil, All-tail, All-weaker}
+use Rattle.std.proofs.lemmas.Option.{get_or_from_slice_get, slice_get_within}
+use Rattle.gi_pairs.specs.Code.{IsCode}
+use Rattle.gi_pairs.specs.Key.{code_cmp}
+use Rattle.gi_pairs.specs.Limits.{last_hour, most_rows}
+use Rattle.gi_pairs.specs.Row.{IsRow}
+use Rattle.gi_pairs.specs.Table.{TableContents, covered}
+use Rattle.gi_pairs.specs.declared.cycle_id.CycleId.{CycleId}
+use Rattle.gi_pairs.specs.declared.row.Row.{Row}
+use Rattle.gi_pairs.specs.declared.side.Side.{Side}
+use Rattle.gi_pairs.specs.declared.side.Side.TheVariants.{I, M}
+use Rattle.gi_messages.specs.Grammar.{Fits, FitsAcknow, FitsDelord, FitsDelres, FitsLine, FitsNomint, FitsNomres, HasFewLines}
+use Rattle.gi_messages.specs.Writing.{text_of}
+use Rattle.gi_messages.specs.declared.line.Line.{Line}
+use Rattle.gi_messages.specs.declared.message.Message.{Message}
+use Rattle.gi_messages.specs.declared.message.Message.TheVariants.{Nomint, Acknow, Nomres, Delord, Delres}
+use Rattle.gi_messages.specs.declared.message.Nomint.{Nomint as NomintOf}
+use Rattle.gi_messages.proofs.ShortTexts.{texts_are_short}
+use Rattle.gi_messages.proofs.WritingLemmas.{writable_from_fits}
+use Rattle.gi_cycles.specs.States.{FrozenCycle, MatchedCycle}
+use Rattle.gi_cycles.specs.declared.cycle_state.CycleState.{CycleState}
+use Rattle.gi_cycles.specs.declared.cycle_state.CycleState.TheVariants.{Collecting, Frozen, Matched}
+use Rattle.gi_desk.specs.History.{state_of}
+use Rattle.gi_desk.specs.LetOut.{IsFact, frozen_of, if_fact, let_out, let_out_on_closing, sent}
+use Rattle.gi_desk.specs.Machine.{bad_fact}
+use Rattle.gi_desk.specs.Messages.{acknow_of, is_row_of, line_of, on_closed, on_met, order_of, own_of, portfolios_in, response_of, to_peer, to_user, told_of, told_packets, with_code}
+use Rattle.gi_desk.specs.Writable.{FitsDesk, FitsFact, FitsFrozen, FitsMatched, FitsState, IsReadable}
+use Rattle.gi_desk.specs.declared.fact.Fact.{Fact}
+use Rattle.gi_desk.specs.declared.fact.Fact.TheVariants.{Contracted, Noticed, Nominated, Closed, Met}
+use Rattle.gi_desk.specs.declared.packet.Packet.{Packet}
+use Rattle.gi_desk.specs.declared.recipient.Recipient.{Recipient}
+use Rattle.gi_desk.specs.declared.recipient.Recipient.TheVariants.{Peer, User}
+use Rattle.gi_desk.proofs.Fitting.{state-fits}
+use Rattle.gi_desk.proofs.LettingOut.{closing_lets_out, fact_closes, fact_meets, is_matched, let_out-is, meeting_lets_out}
+
+-- ---- texts
+
+readable : (m : Message) → Fits m → HasFewLines m → (to : Recipient) → IsReadable (record { to = to; body = text_of m })
+readable m fits few to = let writable = writable_from_fits m fits in (m, writable, refl, texts_are_short m writable few)
+
+-- ---- messages
+
+acknow-fits : (document : NomintOf) → FitsNomint document → FitsAcknow (acknow_of document)
+acknow-fits document fits = record { point = fits.point; portfolio = fits.portfolio; day = fits.day; from = fits.from; to = fits.to }
+
+order-fits : (point : List ℕ) (cycle : FrozenCycle) → IsCode point → FitsFrozen cycle → FitsDelord (order_of point cycle)
+order-fits point cycle code fits = record { point = code; day = fits.id.day; cycle = fits.id.cycle; processed = fits.own.table; few = fits.own.few }
+
+response-fits : (point : List ℕ) (cycle : MatchedCycle) → IsCode point → FitsMatched cycle → FitsDelres (response_of point cycle)
+response-fits point cycle code fits = record {
+  point = code;
+  day = fits.id.day;
+  cycle = fits.id.cycle;
+  processed = fits.own.table;
+  few = fits.own.few;
+  confirmed = fits.confirmed;
+  begins = fits.begins;
+  ends = fits.ends;
+}
+
+line-fits : (side : Side) (row : Row) → IsRow row → FitsLine (line_of side row)
+line-fits I row is = record { counterparty = is.key.matching; quantities = is.quantities }
+line-fits M row is = record { counterparty = is.key.initiating; quantities = is.quantities }
+
+own_code : (side : Side) (row : Row) → IsRow row → IsCode (own_of side row.pair)
+own_code I row is = is.key.initiating
+own_code M row is = is.key.matching
+
+told-fits : (side : Side) (point : List ℕ) (cycle : MatchedCycle) (portfolio : List ℕ) → IsCode point → FitsMatched cycle → IsCode portfolio → FitsNomres (told_of side point cycle portfolio)
+told-fits side point cycle portfolio code fits own =
+    let table = cycle.confirmed in
+    let is = fits.confirmed in
+    let rows = filter (is_row_of side portfolio) table.rows in
+    let known = All-filter (is_row_of side portfolio) IsRow table.rows is.all in
+    let whole = All-filter (is_row_of side portfolio) (λ (row : Row). length row.hours ≡ covered table.first table.last) table.rows is.whole in
+    record {
+      point = code;
+      portfolio = own;
+      day = fits.id.day;
+      cycle = fits.id.cycle;
+      begins = is.begins;
+      ordered = is.ordered;
+      ends = is.ends;
+      lines = All-map FitsLine (line_of side) rows (All-weaker IsRow (λ (row : Row). FitsLine (line_of side row)) (line-fits side) rows known);
+      whole = All-map (λ (line : Line). length line.hours ≡ covered table.first table.last) (line_of side) rows whole;
+    }
+
+kept_by : {X : Type 0} (b : Bool) (x : X) (some all : List X) → length some ≤ length all → length (cond b (x ∷ some) some) ≤ length (x ∷ all)
+kept_by true x some all within = omega (arith, within)
+kept_by false x some all within = omega (arith, within)
+
+some_of : {X : Type 0} (p : X → Bool) (xs : List X) → length (filter p xs) ≤ length xs
+some_of p [] = omega arith
+some_of p (x ∷ xs) = kept_by (p x) x (filter p xs) xs (some_of p xs)
+
+told-few : (side : Side) (point : List ℕ) (cycle : MatchedCycle) (portfolio : List ℕ) → FitsMatched cycle → HasFewLines (Nomres (told_of side point cycle portfolio))
+told-few side point cycle portfolio fits =
+    let table = cycle.confirmed in
+    let rows = filter (is_row_of side portfolio) table.rows in
+    let many : length (map (line_of side) rows) ≡ length rows = length-map rows (line_of side) in
+    let within : length rows ≤ length table.rows = some_of (is_row_of side portfolio) table.rows in
+    let few = fits.confirmed.few in
+    omega (arith, many, within, few)
+
+-- ---- packets
+
+closed-readable : (side : Side) (point : List ℕ) (cycle : FrozenCycle) → IsCode point → FitsFrozen cycle → All IsReadable (sent (on_closed side point cycle))
+closed-readable I point cycle code fits =
+    let message = Delord (order_of point cycle) in
+    All-cons IsReadable (to_peer message) [] (readable message (order-fits point cycle code fits) tt Peer) (All-nil IsReadable)
+closed-readable M point cycle code fits = All-nil IsReadable
+
+met-readable : (side : Side) (point : List ℕ) (cycle : MatchedCycle) → IsCode point → FitsMatched cycle → All IsReadable (sent (on_met side point cycle))
+met-readable I point cycle code fits = All-nil IsReadable
+met-readable M point cycle code fits =
+    let message = Delres (response_of point cycle) in
+    All-cons IsReadable (to_peer message) [] (readable message (response-fits point cycle code fits) tt Peer) (All-nil IsReadable)
+
+-- the portfolios in rows are codes
+coded_by : (b c : Bool) (code x : List ℕ) (xs later : List (List ℕ)) → IsCode code → IsCode x → All IsCode xs → All IsCode later
+    → All IsCode (cond b (x ∷ xs) (cond c (code ∷ x ∷ xs) (x ∷ later)))
+coded_by true c code x xs later here first rest more = All-cons IsCode x xs first rest
+coded_by false true code x xs later here first rest more = All-cons IsCode code (x ∷ xs) here (All-cons IsCode x xs first rest)
+coded_by false false code x xs later here first rest more = All-cons IsCode x later first more
+
+coded : (code : List ℕ) (codes : List (List ℕ)) → IsCode code → All IsCode codes → All IsCode (with_code code codes)
+coded code [] here all = All-cons IsCode code [] here (All-nil IsCode)
+coded code (x ∷ xs) here all =
+    let first = All-head IsCode x xs all in
+    let rest = All-tail IsCode x xs all in
+    coded_by (bytes_eq code x) (is_lt (code_cmp code x)) code x xs (with_code code xs) here first rest (coded code xs here rest)
+
+portfolios_coded : (side : Side) (rows : List Row) → All IsRow rows → All IsCode (portfolios_in side rows)
+portfolios_coded side [] all = All-nil IsCode
+portfolios_coded side (row ∷ rows) all =
+    coded (own_of side row.pair) (portfolios_in side rows) (own_code side row (All-head IsRow row rows all)) (portfolios_coded side rows (All-tail IsRow row rows all))
+
+told-readable : (side : Side) (point : List ℕ) (cycle : MatchedCycle) → IsCode point → FitsMatched cycle → All IsReadable (told_packets side point cycle)
+unfolding told_packets
+told-readable side point cycle code fits =
+    let portfolios = portfolios_in side cycle.confirmed.rows in
+    let packet : List ℕ → Packet = λ portfolio. to_user portfolio (Nomres (told_of side point cycle portfolio)) in
+    All-map IsReadable packet portfolios
+    (All-weaker IsCode (λ (portfolio : List ℕ). IsReadable (packet portfolio))
+    (λ portfolio own.
+    readable (Nomres (told_of side point cycle portfolio)) (told-fits side point cycle portfolio code fits own) (told-few side point cycle portfolio fits) (User portfolio))
+    portfolios (portfolios_coded side cycle.confirmed.rows fits.confirmed.all))
+
+-- ---- what each kind of fact lets out
+
+frozen_again : (cycle : MatchedCycle) → FitsMatched cycle → FitsFrozen (frozen_of cycle)
+frozen_again cycle fits = record { id = fits.id; own = fits.own }
+
+on_closing-readable : (side : Side) (point : List ℕ) (state : CycleState) → IsCode point → FitsState state → All IsReadable (let_out_on_closing side point state)
+on_closing-readable side point (Collecting id) code fits = All-nil IsReadable
+on_closing-readable side point (Frozen cycle) code fits = closed-readable side point cycle code fits
+on_closing-readable side point (Matched cycle) code fits = closed-readable side point (frozen_of cycle) code (frozen_again cycle fits)
+
+closing-readable : (side : Side) (point : List ℕ) (facts : List Fact) (n : ℕ) (id : CycleId) → FitsDesk side point facts → IsFact facts n (Closed id)
+    → All IsReadable (let_out side point facts n)
+closing-readable side point facts n id desk is =
+    subst (λ (packets : List Packet). All IsReadable packets) (closing_lets_out side point facts n id is)
+    (on_closing-readable side point (state_of side facts id) desk.point (state-fits side facts id desk.states (fact_closes facts n id is)))
+
+meeting-readable : (side : Side) (point : List ℕ) (facts : List Fact) (n : ℕ) (id : CycleId) (peer : TableContents) → bad_fact side point facts ≡ None
+    → FitsDesk side point facts → IsFact facts n (Met id peer) → All IsReadable (let_out side point facts n)
+meeting-readable side point facts n id peer legal desk is =
+    let met = fact_meets side point facts n id peer legal is in
+    let matched = is_matched side facts id met.0 (ap is_some met.1) in
+    let fits : FitsMatched matched.0 = subst FitsState matched.1 (state-fits side facts id desk.states met.0) in
+    subst (λ (packets : List Packet). All IsReadable packets) (meeting_lets_out side point facts n id peer matched.0 legal is (sym matched.1))
+    (All-append IsReadable (sent (on_met side point matched.0)) (told_packets side point matched.0)
+    (met-readable side point matched.0 desk.point fits) (told-readable side point matched.0 desk.point fits))
+
+fact_fits : (side : Side) (point : List ℕ) (facts : List Fact) (n : ℕ) (fact : Fact) → FitsDesk side point facts → IsFact facts n fact → FitsFact fact
+fact_fits side point facts n fact desk is =
+    let from = is.0 in
+    let to = is.1 in
+    subst FitsFact (sym is.2) (All-get_or FitsFact facts (n - 1) fact (omega (arith, from, to)) desk.facts)
+
+fact-readable : (side : Side) (point : List ℕ) (facts : List Fact) (n : ℕ) (fact : Fact) → bad_fact side point facts ≡ None → FitsDesk side point facts
+    → IsFact facts n fact → All IsReadable (let_out side point facts n)
+fact-readable side point facts n (Contracted contract) legal desk is =
+    subst (λ (packets : List Packet). All IsReadable packets) (sym (let_out-is side point facts n (Contracted contract) is)) (All-nil IsReadable)
+fact-readable side point facts n (Noticed notice) legal desk is =
+    subst (λ (packets : List Packet). All IsReadable packets) (sym (let_out-is side point facts n (Noticed notice) is)) (All-nil IsReadable)
+fact-readable side point facts n (Nominated document) legal desk is =
+    let fits : FitsNomint document = fact_fits side point facts n (Nominated document) desk is in
+    let packet = to_user document.portfolio (Acknow (acknow_of document)) in
+    subst (λ (packets : List Packet). All IsReadable packets) (sym (let_out-is side point facts n (Nominated document) is))
+    (All-cons IsReadable packet [] (readable (Acknow (acknow_of document)) (acknow-fits document fits) tt (User document.portfolio)) (All-nil IsReadable))
+fact-readable side point facts n (Closed id) legal desk is = closing-readable side point facts n id desk is
+fact-readable side point facts n (Met id peer) legal desk is = meeting-readable side point facts n id peer legal desk is
+
+-- ---- what a number lets out
+
+is_fact : (facts : List Fact) (n : ℕ) (fact : Fact) → slice_get (take n facts) (n - 1) ≡ Some fact → IsFact facts n fact
+is_fact facts n fact found =
+    let within = slice_get_within (take n facts) (n - 1) fact found in
+    let taken = length-take n facts in
+    let from : 1 ≤ n = grind (arith, within, taken) in
+    let to : n ≤ length facts = grind (arith, within, taken) in
+    let below : n - 1 < n = omega (arith, from) in
+    (from, to, sym (get_or_from_slice_get (take n facts) (n - 1) fact fact found) ∙ get_or-take n facts (n - 1) fact below)
+
+found_by : (side : Side) (point : List ℕ) (facts : List Fact) (n : ℕ) (found : Option Fact) → bad_fact side point facts ≡ None → FitsDesk side point facts
+    → slice_get (take n facts) (n - 1) ≡ found → All IsReadable (let_out side point facts n)
+unfolding let_out
+found_by side point facts n None legal desk found =
+    subst (λ (packets : List Packet). All IsReadable packets) (ap (if_fact side point (take n facts)) (sym found)) (All-nil IsReadable)
+found_by side point facts n (Some fact) legal desk found = fact-readable side point facts n fact legal desk (is_fact facts n fact found)
+
+pub writes-messages : (side : Side) (point : List ℕ) (facts : List Fact) (n : ℕ) → bad_fact side point facts ≡ None → FitsDesk side point facts
+    → All IsReadable (let_out side point facts n)
+writes-messages side point facts n legal desk = found_by side point facts n (slice_get (take n facts) (n - 1)) legal desk refl

@@ -1,0 +1,15 @@
+-- What holds of all that a desk keeps.
+use Rattle.std.specs.Prelude.{◌≡◌, ◌≤◌, ℕ, List, length, None}
+use Rattle.gi_pairs.specs.declared.side.Side.{Side}
+use Rattle.gi_cycles.specs.declared.cycle_state.CycleState.{CycleState}
+use Rattle.gi_desk.specs.Kept.{states_of}
+use Rattle.gi_desk.specs.Machine.{bad_fact}
+use Rattle.gi_desk.specs.Writable.{FitsDesk}
+use Rattle.gi_desk.specs.declared.fact.Fact.{Fact}
+
+-- each fact is one that it would record after those before it, and all of it can be written
+pub record IsKept (side : Side) (point : List ℕ) (facts : List Fact) (states : List CycleState) (saved : ℕ) : Type 0 where
+  pub legal : bad_fact side point facts ≡ None
+  pub stages : states ≡ states_of side facts
+  pub within : saved ≤ length facts
+  pub fits : FitsDesk side point facts
