@@ -1,0 +1,16 @@
+mod Agreeing
+mod ConfirmedLaws
+mod DeliveredPackets
+mod FirstFacts
+mod Fronts
+mod FrozenTables
+mod HistoryLaws
+mod Meetings
+mod Opening
+mod Recorded
+mod RunLaws
+mod SameTables
+mod SentPackets
+mod Soundness
+mod StationLemmas
+mod StepKeeping

@@ -1,0 +1,63 @@
+//! Which packets of a reply a station keeps: those for the peer, and those that tell.
+
+ghost use Rattle.std.specs.Prelude.{◌≡◌, IfOk, filter};
+ghost use Rattle.gi_desk.specs.Machine.{is_for_peer as is_for_peer_of};
+ghost use Rattle.gi_world.specs.World.{tells as tells_of};
+
+use gi_desk::{Packet, Recipient};
+use gi_messages::{Message, MessageFault, decode};
+use std::alloc::{AllocError, Global};
+
+/// Whether the packet goes to the other operator.
+fn is_for_peer(packet: &Packet) -> bool
+    ensures { result ≡ is_for_peer_of packet.now }
+{
+    packet.to == Recipient::Peer
+}
+
+/// Whether it tells a portfolio its confirmed quantities.
+fn tells(alloc: Global, packet: &Packet) -> Result<bool, AllocError>
+    ensures { IfOk result (λ tells. tells ≡ tells_of packet.now) }
+{
+    match decode(alloc, packet.body.as_slice()) {
+        Ok(message) => Ok(matches!(message, Message::Nomres(_))),
+        Err(MessageFault::OutOfMemory) => Err(AllocError),
+        Err(_) => Ok(false),
+    }
+}
+
+/// An equal packet.
+fn copy_of(packet: &Packet) -> Result<Packet, AllocError>
+    ensures { IfOk result (λ copy. copy ≡ packet.now) }
+{
+    Ok(Packet {
+        to: packet.to,
+        body: packet.body.copy()?,
+    })
+}
+
+/// Copies of the packets for the other operator.
+pub(crate) fn for_peer(alloc: Global, packets: &[Packet]) -> Result<Vec<Packet>, AllocError>
+    ensures { IfOk result (λ kept. kept.items ≡ filter is_for_peer_of packets.now) }
+{
+    let mut kept = Vec::new(alloc);
+    for packet in packets {
+        if is_for_peer(packet) {
+            kept.push(copy_of(packet)?)?;
+        }
+    }
+    Ok(kept)
+}
+
+/// Copies of those that tell.
+pub(crate) fn telling(alloc: Global, packets: &[Packet]) -> Result<Vec<Packet>, AllocError>
+    ensures { IfOk result (λ kept. kept.items ≡ filter tells_of packets.now) }
+{
+    let mut kept = Vec::new(alloc);
+    for packet in packets {
+        if tells(alloc, packet)? {
+            kept.push(copy_of(packet)?)?;
+        }
+    }
+    Ok(kept)
+}

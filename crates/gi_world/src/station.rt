@@ -1,0 +1,141 @@
+//! One operator: its desk, and what it let out.
+
+ghost use Rattle.std.specs.Prelude.{◌≡◌, ◌≤◌, IfOk, None, OnErr, OnOk, false, length, take};
+ghost use Rattle.gi_desk.specs.Machine.{bad_fact, reply as reply_of};
+ghost use Rattle.gi_world.specs.World.{after_call, after_restart, new_station};
+
+use crate::passing::{for_peer, telling};
+use gi_day::Calendar;
+use gi_desk::{
+    Answer, Call, Desk, Fact, Packet, Refusal, ReplayFault, Reply, Role, fronts_are_legal,
+    refusals_change_nothing,
+};
+use gi_pairs::Code;
+use std::alloc::{AllocError, Global};
+use std::marker::Model;
+
+/// One operator's desk, the packets that it let out to its peer, and those that told its
+/// portfolios, in order.
+#[derive(Drop)]
+pub(crate) struct Station<R: Role> {
+    alloc: Global,
+    desk: Desk<R>,
+    sent: Vec<Packet>,
+    told: Vec<Packet>,
+}
+
+impl<R: Role> Model for Station<R> {
+    ghost use Rattle.gi_world.specs.World.{StationState};
+
+    ghost Value = { StationState };
+
+    ghost view = { λ s. record { desk = s.desk; sent = s.sent.items; told = s.told.items } };
+}
+
+impl<R: Role> Station<R> {
+    /// A station without facts, at the interconnection point.
+    pub(crate) fn open(alloc: Global, calendar: Calendar, point: Code) -> Station<R>
+        ensures { result ≡ new_station point }
+    {
+        Station {
+            alloc,
+            desk: Desk::replay(alloc, calendar, point, Vec::new(alloc)).unwrap(),
+            sent: Vec::new(alloc),
+            told: Vec::new(alloc),
+        }
+    }
+
+    /// Its desk.
+    pub(crate) fn desk(&self) -> &Desk<R>
+        ensures { result.now ≡ self.now.desk }
+    {
+        &self.desk
+    }
+
+    /// The packets that it let out to its peer, in order.
+    pub(crate) fn sent(&self) -> &[Packet]
+        ensures { result.now ≡ self.now.sent }
+    {
+        &self.sent
+    }
+
+    /// The packets that told its portfolios, in order.
+    pub(crate) fn told(&self) -> &[Packet]
+        ensures { result.now ≡ self.now.told }
+    {
+        &self.told
+    }
+
+    /// What the desk would reply.
+    fn foresee(&self, call: &Call) -> Result<Reply, AllocError>
+        ensures { IfOk result (λ reply. reply ≡ reply_of R.SIDE self.now.desk call.now) }
+    {
+        let reply = self.desk.foresee(call);
+        if reply.answer == Answer::Refused(Refusal::OutOfMemory) {
+            return Err(AllocError);
+        }
+        Ok(reply)
+    }
+
+    /// Takes a call: what the desk lets out is kept. The copies are made, and their places grown,
+    /// before anything changes.
+    #[tactic(auto, unfolding(crate::specs::World::after_call))]
+    pub(crate) fn take(&mut self, call: &Call) -> Result<Reply, AllocError>
+        ensures reply { IfOk result (λ reply. reply ≡ reply_of R.SIDE self.old.desk call.now) }
+        ensures next { OnOk result (self.new ≡ after_call R.SIDE self.old call.now) }
+        ensures kept { OnErr result (self.new ≡ self.old) }
+    {
+        refusals_change_nothing();
+        let foreseen = self.foresee(call)?;
+        let mut sent = for_peer(self.alloc, foreseen.out.as_slice())?;
+        let mut told = telling(self.alloc, foreseen.out.as_slice())?;
+        self.sent.reserve(sent.len())?;
+        self.told.reserve(told.len())?;
+        let reply = self.desk.step(call);
+        if reply.answer == Answer::Refused(Refusal::OutOfMemory) {
+            return Err(AllocError);
+        }
+        self.sent.append(&mut sent).unwrap();
+        self.told.append(&mut told).unwrap();
+        Ok(reply)
+    }
+
+    /// Copies of the first `keep` facts.
+    fn front(&self, keep: u32) -> Result<Vec<Fact>, AllocError>
+        requires { keep ≤ length self.now.desk.facts }
+        ensures { IfOk result (λ facts. facts.items ≡ take keep self.now.desk.facts) }
+    {
+        let mut facts = Vec::with_capacity(self.alloc, keep as usize)?;
+        for before in 0..keep {
+            facts.push(self.desk.fact(before + 1).unwrap().copy()?)?;
+        }
+        Ok(facts)
+    }
+
+    /// The desk of these facts, all saved.
+    fn replay(&self, facts: Vec<Fact>) -> Result<Desk<R>, AllocError>
+        requires { bad_fact R.SIDE self.now.desk.point facts.items ≡ None }
+        ensures { IfOk result (λ desk. desk ≡ record { point = self.now.desk.point; facts = facts.items; saved = length facts.items; halted = false }) }
+    {
+        let calendar = self.desk.calendar().copy().unwrap();
+        match Desk::replay(self.alloc, calendar, self.desk.point(), facts) {
+            Ok(desk) => Ok(desk),
+            Err(ReplayFault::OutOfMemory) => Err(AllocError),
+            Err(ReplayFault::BadFact(_)) => unreachable!(),
+        }
+    }
+
+    /// Starts the desk again from its first `keep` facts, which are then saved.
+    #[tactic(auto, unfolding(crate::specs::World::after_restart))]
+    pub(crate) fn restart(&mut self, keep: u32) -> Result<(), AllocError>
+        requires { keep ≤ length self.now.desk.facts }
+        ensures next { OnOk result (self.new ≡ after_restart self.old keep) }
+        ensures kept { OnErr result (self.new ≡ self.old) }
+    {
+        fronts_are_legal();
+        let _ = self.desk.len();
+        let facts = self.front(keep)?;
+        self.desk = self.replay(facts)?;
+        Ok(())
+    }
+}

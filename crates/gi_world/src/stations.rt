@@ -1,0 +1,186 @@
+//! Both stations: what a step makes of them.
+
+ghost use Rattle.std.specs.Prelude.{◌≡◌, ◌≤◌, IfOk, OnErr, OnOk, length};
+ghost use Rattle.std.specs.Option.{option_copied};
+ghost use Rattle.gi_desk.specs.Machine.{reply as reply_of};
+ghost use Rattle.gi_world.specs.Agreement.{FitsWorld};
+ghost use Rattle.gi_world.specs.World.{IsStep, after_call, after_restart, delivery as delivery_of, new_world, station_of, with_station};
+ghost use Rattle.gi_world.specs.declared.step.Step.TheVariants as steps;
+
+use crate::station::Station;
+use crate::step::Step;
+use crate::world_fault::WorldFault;
+use crate::world_reply::WorldReply;
+use gi_day::Calendar;
+use gi_desk::{Call, Desk, Packet, Reply};
+use gi_initiator::Initiating;
+use gi_matcher::Matching;
+use gi_pairs::{Code, Side};
+use std::alloc::{AllocError, Global};
+use std::marker::Model;
+
+/// Both operators' stations.
+#[derive(Drop)]
+pub(crate) struct Stations {
+    initiating: Station<Initiating>,
+    matching: Station<Matching>,
+}
+
+impl Model for Stations {
+    ghost use Rattle.gi_world.specs.World.{WorldState};
+
+    ghost Value = { WorldState };
+
+    ghost view = { λ s. record { initiating = s.initiating; matching = s.matching } };
+}
+
+impl Stations {
+    /// Both without facts, at the interconnection point.
+    pub(crate) fn open(alloc: Global, calendar: Calendar, copy: Calendar, point: Code) -> Stations
+        ensures { result ≡ new_world point }
+    {
+        Stations {
+            initiating: Station::open(alloc, calendar, point),
+            matching: Station::open(alloc, copy, point),
+        }
+    }
+
+    /// The initiating operator's desk.
+    pub(crate) fn initiating(&self) -> &Desk<Initiating>
+        ensures { result.now ≡ self.now.initiating.desk }
+    {
+        self.initiating.desk()
+    }
+
+    /// The matching operator's desk.
+    pub(crate) fn matching(&self) -> &Desk<Matching>
+        ensures { result.now ≡ self.now.matching.desk }
+    {
+        self.matching.desk()
+    }
+
+    /// Both desks can be written.
+    pub(crate) fn fits(&self)
+        ensures { FitsWorld self.now }
+    {
+        let _ = self.initiating.desk().len();
+        let _ = self.matching.desk().len();
+    }
+
+    /// The packets that a side let out to the other operator, in order.
+    pub(crate) fn sent(&self, side: Side) -> &[Packet]
+        ensures { result.now ≡ (station_of side self.now).sent }
+    {
+        match side {
+            Side::I => self.initiating.sent(),
+            Side::M => self.matching.sent(),
+        }
+    }
+
+    /// The packets that told a side's portfolios, in order.
+    pub(crate) fn told(&self, side: Side) -> &[Packet]
+        ensures { result.now ≡ (station_of side self.now).told }
+    {
+        match side {
+            Side::I => self.initiating.told(),
+            Side::M => self.matching.told(),
+        }
+    }
+
+    /// A side takes a call.
+    fn take(&mut self, side: Side, call: &Call) -> Result<Reply, AllocError>
+        ensures reply { IfOk result (λ reply. reply ≡ reply_of side (station_of side self.old).desk call.now) }
+        ensures next { OnOk result (self.new ≡ with_station side (after_call side (station_of side self.old) call.now) self.old) }
+        ensures kept { OnErr result (self.new ≡ self.old) }
+    {
+        match side {
+            Side::I => self.initiating.take(call),
+            Side::M => self.matching.take(call),
+        }
+    }
+
+    /// A side's desk starts again.
+    fn start_again(&mut self, side: Side, keep: u32) -> Result<(), AllocError>
+        requires { keep ≤ length (station_of side self.now).desk.facts }
+        ensures next { OnOk result (self.new ≡ with_station side (after_restart (station_of side self.old) keep) self.old) }
+        ensures kept { OnErr result (self.new ≡ self.old) }
+    {
+        match side {
+            Side::I => self.initiating.restart(keep),
+            Side::M => self.matching.restart(keep),
+        }
+    }
+
+    /// How many facts a side has saved, and how many it has.
+    fn counts(&self, side: Side) -> (u32, u32)
+        ensures saved { result.0 ≡ (station_of side self.now).desk.saved }
+        ensures len { result.1 ≡ length (station_of side self.now).desk.facts }
+    {
+        match side {
+            Side::I => (self.initiating.desk().saved(), self.initiating.desk().len()),
+            Side::M => (self.matching.desk().saved(), self.matching.desk().len()),
+        }
+    }
+
+    /// The packet of that number, from 1, that the other side let out to this one.
+    fn delivery(&self, side: Side, packet: u64) -> Option<&Packet>
+        ensures { option_copied result ≡ delivery_of self.now side packet }
+    {
+        let sent = match side {
+            Side::I => self.matching.sent(),
+            Side::M => self.initiating.sent(),
+        };
+        let before = packet.checked_sub(1)?;
+        sent.get(before as usize)
+    }
+
+    /// A side is asked.
+    #[tactic(auto, unfolding(crate::specs::World::outcome, crate::specs::World::after))]
+    fn call(&mut self, side: Side, call: &Call) -> Result<WorldReply, WorldFault>
+        ensures { IsStep self.old (steps.Local side call.now) result self.new }
+    {
+        if let Call::Deliver(_) = call {
+            return Err(WorldFault::NotLocal);
+        }
+        Ok(WorldReply::Desk(self.take(side, call)?))
+    }
+
+    /// A side gets a packet of the other one.
+    #[tactic(auto, unfolding(crate::specs::World::outcome, crate::specs::World::after))]
+    fn deliver(&mut self, side: Side, packet: u64) -> Result<WorldReply, WorldFault>
+        ensures { IsStep self.old (steps.Deliver side packet) result self.new }
+    {
+        let Some(packet) = self.delivery(side, packet) else {
+            return Err(WorldFault::NoSuchPacket);
+        };
+        let call = Call::Deliver(packet.body.copy()?);
+        Ok(WorldReply::Desk(self.take(side, &call)?))
+    }
+
+    /// A side's desk starts again from its first `keep` facts.
+    #[tactic(auto, unfolding(crate::specs::World::outcome, crate::specs::World::after))]
+    fn restart(&mut self, side: Side, keep: u32) -> Result<WorldReply, WorldFault>
+        ensures { IsStep self.old (steps.Restart side keep) result self.new }
+    {
+        let (saved, len) = self.counts(side);
+        if keep < saved {
+            return Err(WorldFault::KeepsTooFew { saved });
+        }
+        if len < keep {
+            return Err(WorldFault::KeepsTooMany { len });
+        }
+        self.start_again(side, keep)?;
+        Ok(WorldReply::Restarted { saved: keep })
+    }
+
+    /// Makes a step.
+    pub(crate) fn step(&mut self, step: &Step) -> Result<WorldReply, WorldFault>
+        ensures { IsStep self.old step.now result self.new }
+    {
+        match step {
+            Step::Local { side, call } => self.call(*side, call),
+            Step::Deliver { side, packet } => self.deliver(*side, *packet),
+            Step::Restart { side, keep } => self.restart(*side, *keep),
+        }
+    }
+}

@@ -1,0 +1,111 @@
+ghost use Rattle.std.specs.Prelude.{◌≡◌, All, Ok, OnErr};
+ghost use Rattle.gi_world.specs.Agreement.{Agrees, Carries};
+ghost use Rattle.gi_world.specs.Confirming.{ConfirmsAtBoth, ConfirmsTheLower};
+ghost use Rattle.gi_world.specs.Keeping.{KeepsConfirmed, OnlyAppends};
+ghost use Rattle.gi_world.specs.World.{IsStep, new_world, station_of};
+
+use crate::start_fault::StartFault;
+use crate::stations::Stations;
+use crate::step::Step;
+use crate::world_fault::WorldFault;
+use crate::world_reply::WorldReply;
+use gi_day::Calendar;
+use gi_desk::{Desk, Packet};
+use gi_initiator::Initiating;
+use gi_lesser::lessens_both_ways;
+use gi_matcher::Matching;
+use gi_pairs::{Code, Side};
+use std::alloc::Global;
+use std::marker::Model;
+
+/// Both operators' desks, and what each let out. What is delivered was let out by the other side,
+/// and a restart keeps at least what is saved.
+#[derive(Drop)]
+pub struct World {
+    stations: Stations,
+}
+
+impl Model for World {
+    ghost use Rattle.gi_world.specs.Agreement.{IsSound};
+    ghost use Rattle.gi_world.specs.World.{WorldState};
+
+    ghost Value = { WorldState };
+
+    ghost view = { λ w. w.stations };
+
+    ghost invariant = { λ w. IsSound w.stations };
+}
+
+impl World {
+    /// Both desks without facts, at the interconnection point. It is never refused.
+    pub fn new(alloc: Global, point: Code) -> Result<World, StartFault>
+        ensures { result ≡ Ok (new_world point) }
+    {
+        let calendar = Calendar::new()?;
+        let copy = calendar.copy()?;
+        Ok(World {
+            stations: Stations::open(alloc, calendar, copy, point),
+        })
+    }
+
+    /// The initiating operator's desk.
+    pub fn initiating(&self) -> &Desk<Initiating>
+        ensures { result.now ≡ self.now.initiating.desk }
+    {
+        self.stations.initiating()
+    }
+
+    /// The matching operator's desk.
+    pub fn matching(&self) -> &Desk<Matching>
+        ensures { result.now ≡ self.now.matching.desk }
+    {
+        self.stations.matching()
+    }
+
+    /// The packets that a side let out to the other operator, in order: orders, each with the frozen
+    /// table of a cycle whose closing the initiating side has saved; and responses, each with the
+    /// frozen and the confirmed table of a cycle whose meeting the matching side has saved.
+    pub fn sent(&self, side: Side) -> &[Packet]
+        ensures value { result.now ≡ (station_of side self.now).sent }
+        ensures carries { All (Carries side self.now) result.now }
+    {
+        self.stations.fits();
+        self.stations.sent(side)
+    }
+
+    /// The confirmations that a side let out to its portfolios, in order.
+    pub fn told(&self, side: Side) -> &[Packet]
+        ensures { result.now ≡ (station_of side self.now).told }
+    {
+        self.stations.told(side)
+    }
+
+    /// Makes a step: the desk's reply, or with how many facts it started again. `NotLocal`,
+    /// `NoSuchPacket`, `KeepsTooFew` and `KeepsTooMany` come whatever memory there is, and
+    /// `OutOfMemory` where memory runs out, also where the desk answers it. A refused step leaves
+    /// the world as it was.
+    pub fn step(&mut self, step: &Step) -> Result<WorldReply, WorldFault>
+        ensures meaning { IsStep self.old step.now result self.new }
+        ensures refused { OnErr result (self.new ≡ self.old) }
+        ensures appends { OnlyAppends self.old self.new }
+        ensures confirms { KeepsConfirmed self.old self.new }
+        ensures agrees { Agrees step.now result }
+        ensures lower { ConfirmsTheLower self.new }
+        ensures both { ConfirmsAtBoth self.new }
+    {
+        lessens_both_ways();
+        self.stations.fits();
+        let outcome = self.stations.step(step);
+        self.stations.fits();
+        outcome
+    }
+
+    /// What either side has confirmed is the lower of what both froze, and what the initiating side
+    /// has confirmed, the matching side has.
+    pub(crate) fn confirms_the_lower(&self)
+        ensures lower { ConfirmsTheLower self.now }
+        ensures both { ConfirmsAtBoth self.now }
+    {
+        self.stations.fits();
+    }
+}
