@@ -15,5 +15,5 @@ mod Replaying
 pub mod StageLaws
 pub mod StateLaws
 pub mod StepFacts
-mod StepLaws
+pub mod StepLaws
 mod Told

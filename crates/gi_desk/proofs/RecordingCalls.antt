@@ -1,5 +1,5 @@
 -- Each fact that may come next is recorded by a call, which the fact names.
-use Rattle.std.proofs.Common.{arith, ◌≡◌, ◌≤◌, ◌↔◌, ℕ, List, [], ◌∷◌, length, All, Bool, true, cond, ◌&&◌, nat_eq, Some, None, Ok, eq-eqb, refl, sym, ap, ◌∙◌, subst}
+use Rattle.std.proofs.Common.{arith, ◌≡◌, ◌≤◌, ℕ, List, [], ◌∷◌, length, All, Bool, true, cond, ◌&&◌, nat_eq, Some, None, Ok, eq-eqb, refl, sym, ap, ◌∙◌, subst}
 use Rattle.std.specs.Str.{bytes_eq}
 use Rattle.std.proofs.lemmas.Bool.{and_from, and_parts}
 use Rattle.std.proofs.lemmas.Bool.Decides.{Decides-eqb}
@@ -226,7 +226,8 @@ called side s (Closed id) desk fits e = closing_called side s id e
 called M s (Met id peer) desk fits e = order_called s id peer desk fits.0 fits.1 e
 called I s (Met id peer) desk fits e = response_called s id peer desk fits.0 fits.1 e
 
--- a fact may come next exactly where some call would record it
-pub records-what-calls-record : (side : Side) (s : DeskState) (fact : Fact) → FitsDesk side s.point s.facts → FitsFact fact
-    → (would_record side s.point s.facts fact ≡ true) ↔ ((call : Call) × (comes_to side s call ≡ Records fact))
-records-what-calls-record side s fact desk fits = (called side s fact desk fits, λ call. subst (IsSure side s) call.1 (sure_comes side s call.0))
+-- what a call records may come next, and some call records what may come next
+pub records-what-calls-record : (side : Side) (s : DeskState) (fact : Fact)
+    → ((call : Call) → comes_to side s call ≡ Records fact → would_record side s.point s.facts fact ≡ true)
+    × (FitsDesk side s.point s.facts → FitsFact fact → would_record side s.point s.facts fact ≡ true → (call : Call) × (comes_to side s call ≡ Records fact))
+records-what-calls-record side s fact = (λ call is. subst (IsSure side s) is (sure_comes side s call), λ desk fits e. called side s fact desk fits e)

@@ -1,5 +1,5 @@
 -- What holds of all histories of a desk.
-use Rattle.std.specs.Prelude.{◌≡◌, ◌↔◌, ℕ, ◌+◌, ◌≤◌, List, [], ◌∷◌, ◌++◌, length, take, All, Contains, ◌⊎◌, Some, None, true, false}
+use Rattle.std.specs.Prelude.{◌≡◌, ℕ, ◌+◌, ◌≤◌, List, [], ◌∷◌, ◌++◌, length, take, All, Contains, ◌⊎◌, Some, None, true, false}
 use Rattle.gi_pairs.specs.Table.{TableContents}
 use Rattle.gi_pairs.specs.declared.cycle_id.CycleId.{CycleId}
 use Rattle.gi_pairs.specs.declared.side.Side.{Side}
@@ -97,11 +97,13 @@ ConfirmsThroughRestarts =
     (side : Side) (s : DeskState) (n : ℕ) (id : CycleId) (table : TableContents) → bad_fact side s.point s.facts ≡ None → s.saved ≤ n
     → confirmed side s id ≡ Some table → confirmed side (record { point = s.point; facts = take n s.facts; saved = n; halted = false }) id ≡ Some table
 
--- Where all of a desk can be written, and a fact too, the fact may come next exactly where some call records it.
+-- What a call records may come next; and where all of a desk can be written, and a fact too, some call records the fact
+-- that may come next.
 abbrev pub RecordsWhatCallsRecord : Type 0
 RecordsWhatCallsRecord =
-    (side : Side) (s : DeskState) (fact : Fact) → FitsDesk side s.point s.facts → FitsFact fact
-    → (would_record side s.point s.facts fact ≡ true) ↔ ((call : Call) × (comes_to side s call ≡ Records fact))
+    (side : Side) (s : DeskState) (fact : Fact)
+    → ((call : Call) → comes_to side s call ≡ Records fact → would_record side s.point s.facts fact ≡ true)
+    × (FitsDesk side s.point s.facts → FitsFact fact → would_record side s.point s.facts fact ≡ true → (call : Call) × (comes_to side s call ≡ Records fact))
 
 -- Every packet that a fact of a desk lets out is the text of a message that can be written, and not too large.
 abbrev pub WritesMessages : Type 0

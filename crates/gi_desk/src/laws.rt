@@ -67,7 +67,8 @@ pub fn confirms_through_restarts()
     ensures { ConfirmsThroughRestarts }
 {}
 
-/// A fact may come next exactly where some call records it.
+/// What a call records may come next; where all of a desk can be written, and a fact too, some call
+/// records the fact that may come next.
 pub fn records_what_calls_record()
     ensures { RecordsWhatCallsRecord }
 {}
