@@ -31,7 +31,7 @@ wanted_ok key (Some y) x e = cc
 wanted_ok key None x e = absurd cc
 
 -- a field, from its value
-Reads-field : {X : Type 0} (key : Key) (read : Data → Read X) (Stands : Data → X → Type 0) → Reads read Stands → Reads (λ d. member_at key d >>= read) (Has Stands key)
+pub Reads-field : {X : Type 0} (key : Key) (read : Data → Read X) (Stands : Data → X → Type 0) → Reads read Stands → Reads (λ d. member_at key d >>= read) (Has Stands key)
 Reads-field key read Stands r = record {
   takes = λ d x e.
       let b = bind_ok (member_at key d) read x e in
@@ -80,7 +80,7 @@ as_text (array ds) s e = absurd cc
 as_text (object ms) s e = absurd cc
 
 -- what a text at a key names
-Reads-named : {X : Type 0} (key : Key) (of_text : List ℕ → Option X) (Names : List ℕ → X → Type 0) → ((text : List ℕ) (x : X) → of_text text ≡ Some x → Names text x) → ((text : List ℕ) (x : X) → Names text x → of_text text ≡ Some x)
+pub Reads-named : {X : Type 0} (key : Key) (of_text : List ℕ → Option X) (Names : List ℕ → X → Type 0) → ((text : List ℕ) (x : X) → of_text text ≡ Some x → Names text x) → ((text : List ℕ) (x : X) → Names text x → of_text text ≡ Some x)
     → Reads (λ d. reading.text key d >>= λ name. wanted key (of_text name)) (Has (IsText Names) key)
 unfolding reading.text
 Reads-named key of_text Names takes again = record {

@@ -54,11 +54,11 @@ array_within f most xs h = record { within = omega (arith, items_le f most false
 pub none_within : AreWithin 1 no_members
 none_within = record { within = omega arith }
 
--- a member whose key has at most twelve characters
-pub member_within : (k : List ℕ) (d : Data) (ms : Members) (value rest : ℕ) → length k ≤ 12 → IsWithin value d → AreWithin rest ms → AreWithin (value + rest + 76) (member k d ms)
+-- a member whose key has at most thirteen characters
+pub member_within : (k : List ℕ) (d : Data) (ms : Members) (value rest : ℕ) → length k ≤ 13 → IsWithin value d → AreWithin rest ms → AreWithin (value + rest + 82) (member k d ms)
 member_within k d ms value rest short here there =
     let text = compact_text d ++ members_text true ms in
-    record { within = omega (arith, length-append (quoted k) (58 ∷ text), length-append (compact_text d) (members_text true ms), quoted_le 12 k short, here.within, there.within) }
+    record { within = omega (arith, length-append (quoted k) (58 ∷ text), length-append (compact_text d) (members_text true ms), quoted_le 13 k short, here.within, there.within) }
 
 without_comma : (ms : Members) → length (members_text false ms) ≤ length (members_text true ms)
 without_comma no_members = omega arith

@@ -49,7 +49,7 @@ here_or_later : {X : Type 0} (p : X → Bool) (x y : X) (rest : Option X) (b : B
 here_or_later p x y rest true is later e = ap p (sym (same_Some y x e)) ∙ is
 here_or_later p x y rest false is later e = later e
 
-found_passes : {X : Type 0} (p : X → Bool) (xs : List X) (x : X) → find p xs ≡ Some x → p x ≡ true
+pub found_passes : {X : Type 0} (p : X → Bool) (xs : List X) (x : X) → find p xs ≡ Some x → p x ≡ true
 found_passes p [] x e = absurd cc
 found_passes p (y ∷ ys) x e = here_or_later p x y (find p ys) (p y) refl (found_passes p ys x) e
 
@@ -57,7 +57,7 @@ kind_takes : (text : List ℕ) (kind : Kind) → kind_named text ≡ Some kind �
 unfolding kind_named
 kind_takes text kind e = (bytes_eq-Decides text (kind_text kind)).0 (found_passes (λ k. bytes_eq text (kind_text k)) kinds_of_messages kind e)
 
-kind_of-takes : (kind : Kind) (d : Data) → kind_of d ≡ Some kind → IsOfKind kind d
+pub kind_of-takes : (kind : Kind) (d : Data) → kind_of d ≡ Some kind → IsOfKind kind d
 unfolding kind_of
 kind_of-takes kind d e =
     option_and_then_some kind_named (option_and_then as_str (get (key_text keys.Kind) d)) kind e (λ text named is.

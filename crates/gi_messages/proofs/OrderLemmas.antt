@@ -16,7 +16,7 @@ use Rattle.gi_messages.proofs.HoursLemmas.{ok_is}
 use Rattle.gi_messages.proofs.TableLemmas.{table_takes, table_again}
 
 -- what holds of the hours that were read holds of the table's
-for_its_hours : (P : ℕ → ℕ → Type 0) (first last : ℕ) (t : TableContents) → t.first ≡ first → t.last ≡ last → P first last → P t.first t.last
+pub for_its_hours : (P : ℕ → ℕ → Type 0) (first last : ℕ) (t : TableContents) → t.first ≡ first → t.last ≡ last → P first last → P t.first t.last
 for_its_hours P first last t begins ends h = subst (λ n. P t.first n) (sym ends) (subst (λ n. P n last) (sym begins) h)
 
 made_delord : List ℕ → Date → ℕ → TableContents → Delord

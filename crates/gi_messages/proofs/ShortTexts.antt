@@ -66,7 +66,7 @@ quantity_within n small = record { within = length-decimal-le 12 n (omega arith)
 number_within : (n : ℕ) → IsQuantity n → IsWithin 98 (whole n)
 number_within n small = wider _ 12 98 (quantity_within n small) (omega arith)
 
-key_le : (key : Key) → length (key_text key) ≤ 12
+key_le : (key : Key) → length (key_text key) ≤ 13
 key_le keys.Kind = omega arith
 key_le keys.Point = omega arith
 key_le keys.Portfolio = omega arith
@@ -83,8 +83,13 @@ key_le keys.Initiating = omega arith
 key_le keys.Matching = omega arith
 key_le keys.Direction = omega arith
 key_le keys.Hours = omega arith
+key_le keys.Fact = omega arith
+key_le keys.Nomint = omega arith
+key_le keys.Firm = omega arith
+key_le keys.Interruptible = omega arith
+key_le keys.Peer = omega arith
 
-with_key : (key : Key) (d : Data) (ms : Members) (value rest : ℕ) → IsWithin value d → AreWithin rest ms → AreWithin (value + rest + 76) (member (key_text key) d ms)
+with_key : (key : Key) (d : Data) (ms : Members) (value rest : ℕ) → IsWithin value d → AreWithin rest ms → AreWithin (value + rest + 82) (member (key_text key) d ms)
 with_key key d ms value rest = member_within (key_text key) d ms value rest (key_le key)
 
 -- ---- rows and lines

@@ -24,7 +24,7 @@ use Rattle.gi_pairs.proofs.CodeLaws.{code-ascii}
 use Rattle.gi_messages.specs.declared.key.Key.{Key}
 use Rattle.gi_messages.specs.declared.key.Key.TheVariants as keys
 use Rattle.gi_messages.specs.declared.line.Line.{Line}
-use Rattle.gi_messages.specs.Grammar.{Has, IsText, NamesCode, NamesDay, IsWhole, Each, AreElements, IsRowFor, HasTable, IsLine, IsLineFor, FitsLine}
+use Rattle.gi_messages.specs.Grammar.{Has, IsText, NamesCode, NamesDay, NamesDirection, IsWhole, Each, AreElements, IsRowFor, HasTable, IsLine, IsLineFor, FitsLine}
 use Rattle.gi_messages.specs.Key.{key_text}
 use Rattle.gi_messages.specs.Writing.{whole, row_data, rows_data, line_data, lines_data}
 use Rattle.gi_messages.proofs.FieldLemmas.{all_of_each}
@@ -77,7 +77,7 @@ depth-lines ls = each_two_deep line_data depth-line ls
 
 -- ---- rows
 
-direction_utf8 : (d : Direction) → IsUtf8 (direction_text d)
+pub direction_utf8 : (d : Direction) → IsUtf8 (direction_text d)
 direction_utf8 IM = IsUtf8-are_ascii (direction_text IM) refl
 direction_utf8 MI = IsUtf8-are_ascii (direction_text MI) refl
 
@@ -169,6 +169,9 @@ stands_code key d c code found = record { value = string c; found = found; stand
 
 pub stands_day : (key : Key) (d : Data) (day : Date) → IsGasYear day.year → get (key_text key) d ≡ Some (string (day_text day)) → Has (IsText NamesDay) key d day
 stands_day key d day range found = record { value = string (day_text day); found = found; stands = record { text = day_text day; written = refl; names = (range, is_text day range) } }
+
+pub stands_direction : (key : Key) (d : Data) (direction : Direction) → get (key_text key) d ≡ Some (string (direction_text direction)) → Has (IsText NamesDirection) key d direction
+stands_direction key d direction found = record { value = string (direction_text direction); found = found; stands = record { text = direction_text direction; written = refl; names = refl } }
 
 pub stands_number : (key : Key) (d : Data) (low high n : ℕ) → low ≤ n → n ≤ high → get (key_text key) d ≡ Some (whole n) → Has (IsWhole low high) key d n
 stands_number key d low high n from to found = record { value = whole n; found = found; stands = record { written = refl; from = from; to = to } }

@@ -34,7 +34,7 @@ fn version(object: &Value) -> Result<u32, Key>
 
 /// The NOMINT that an object is.
 #[tactic(auto, unfolding(crate::specs::Decoding::nomint))]
-fn nomint(alloc: Global, object: &Value) -> Result<Nomint, FieldFault>
+pub fn nomint(alloc: Global, object: &Value) -> Result<Nomint, FieldFault>
     ensures { reading.Gives (λ found. found) result (nomint (view object.now)) }
 {
     let point = code(object, Key::Point)?;
@@ -164,7 +164,7 @@ fn of_kind(alloc: Global, kind: Kind, object: &Value) -> Result<Message, FieldFa
 
 /// The kind that an object names.
 #[tactic(auto, unfolding(crate::specs::Decoding::kind_of))]
-fn kind_of(object: &Value) -> Option<Kind>
+pub fn kind_of(object: &Value) -> Option<Kind>
     ensures { result ≡ kind_of (view object.now) }
 {
     kind_named(object.get(Key::Kind.text())?.as_str()?)

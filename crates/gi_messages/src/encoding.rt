@@ -40,7 +40,7 @@ fn row_value(alloc: Global, row: &Row) -> Result<Value, AllocError>
 }
 
 /// The JSON array of the rows, in their order.
-fn rows_value(alloc: Global, rows: &[Row]) -> Result<Value, AllocError>
+pub fn rows_value(alloc: Global, rows: &[Row]) -> Result<Value, AllocError>
     ensures { IfOk result (λ value. view value ≡ rows_data rows.now) }
 {
     let mut values = Vec::with_capacity(alloc, rows.len())?;
@@ -76,7 +76,7 @@ fn lines_value(alloc: Global, lines: &[Line]) -> Result<Value, AllocError>
 
 /// The object of a NOMINT.
 #[tactic(auto, unfolding(crate::specs::Writing::nomint_data))]
-fn nomint_value(alloc: Global, message: &Nomint) -> Result<Value, AllocError>
+pub fn nomint_value(alloc: Global, message: &Nomint) -> Result<Value, AllocError>
     ensures { IfOk result (λ value. view value ≡ nomint_data message.now) }
 {
     let day = message.day.to_string(alloc)?;

@@ -3,7 +3,7 @@ ghost use Rattle.gi_messages.specs.Key.{key_text};
 
 use std::fmt;
 
-/// A key of a message's JSON object, or of an object inside it.
+/// A key of the JSON object of a message or of a fact, or of an object inside it.
 #[derive(Clone, Copy, Debug, PartialEq, Eq)]
 pub enum Key {
     Kind,
@@ -22,6 +22,11 @@ pub enum Key {
     Matching,
     Direction,
     Hours,
+    Fact,
+    Nomint,
+    Firm,
+    Interruptible,
+    Peer,
 }
 
 impl Key {
@@ -46,6 +51,11 @@ impl Key {
             Key::Matching => "matching",
             Key::Direction => "direction",
             Key::Hours => "hours",
+            Key::Fact => "fact",
+            Key::Nomint => "nomint",
+            Key::Firm => "firm",
+            Key::Interruptible => "interruptible",
+            Key::Peer => "peer",
         }
     }
 }

@@ -15,6 +15,7 @@ mod lines;
 mod message;
 mod message_fault;
 mod names;
+pub mod parts;
 mod quantities;
 mod rows;
 
