@@ -21,7 +21,7 @@ use Rattle.gi_desk.specs.declared.call.Call.{Call}
 use Rattle.gi_desk.specs.declared.call.Call.TheVariants.{Contract, Notice, Submit, Close, Deliver, Resend, MarkSaved, Halt}
 use Rattle.gi_desk.specs.declared.decision.Decision.{Decision}
 use Rattle.gi_desk.specs.declared.decision.Decision.TheVariants.{Refused}
-use Rattle.gi_desk.specs.declared.fact.Fact.{Fact}
+use Rattle.gi_facts.specs.declared.fact.Fact.{Fact}
 use Rattle.gi_desk.specs.declared.outcome.Outcome.{Outcome}
 use Rattle.gi_desk.specs.declared.outcome.Outcome.TheVariants.{Refuses}
 use Rattle.gi_desk.specs.declared.refusal.Refusal.TheVariants.{Halted, OutOfMemory, WrongPoint}

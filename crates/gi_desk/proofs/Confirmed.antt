@@ -21,9 +21,9 @@ use Rattle.gi_desk.specs.Judging.{by_decision}
 use Rattle.gi_desk.specs.Kept.{closed_state}
 use Rattle.gi_desk.specs.Machine.{DeskState, bad_fact, bad_from, is_record, most_facts, would_record}
 use Rattle.gi_desk.specs.Queries.{confirmed, stage_of, table_in}
-use Rattle.gi_desk.specs.Same.{same_cycle}
-use Rattle.gi_desk.specs.declared.fact.Fact.{Fact}
-use Rattle.gi_desk.specs.declared.fact.Fact.TheVariants.{Contracted, Noticed, Nominated, Closed, Met}
+use Rattle.gi_facts.specs.Same.{same_cycle}
+use Rattle.gi_facts.specs.declared.fact.Fact.{Fact}
+use Rattle.gi_facts.specs.declared.fact.Fact.TheVariants.{Contracted, Noticed, Nominated, Closed, Met}
 use Rattle.gi_desk.specs.declared.stage_name.StageName.TheVariants as stages
 use Rattle.gi_desk.proofs.Legality.{legal-first}
 use Rattle.gi_desk.proofs.StateLaws.{is_closed-more}

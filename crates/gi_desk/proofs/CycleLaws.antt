@@ -1,13 +1,11 @@
 -- Of legal facts one at most closes a cycle, and one at most meets it, after its closing.
-use Rattle.std.proofs.Common.{◌≡◌, ◌<◌, ◌≤◌, ℕ, List, [], ◌∷◌, ◌++◌, length, Bool, true, false, cond, not, ◌&&◌, ◌||◌, nat_eq, nat_le, nat_lt, Option, Some, None, Decides, filter_map, slice_get, refl, sym, ap, ◌∙◌, subst, eqb-true, eq-eqb, leb-true, ltb-true}
+use Rattle.std.proofs.Common.{◌≡◌, ◌<◌, ◌≤◌, ℕ, List, [], ◌∷◌, ◌++◌, length, Bool, true, false, cond, not, ◌&&◌, ◌||◌, nat_eq, nat_le, nat_lt, Option, Some, None, filter_map, slice_get, refl, sym, ap, ◌∙◌, subst, eqb-true, leb-true, ltb-true}
 use Rattle.std.specs.List.{list_any, cons_option}
-use Rattle.std.proofs.lemmas.Bool.{and_from, and_parts, both_ways, false_from_ne_true, or_from, or_right}
+use Rattle.std.proofs.lemmas.Bool.{and_parts, both_ways, false_from_ne_true, or_from, or_right}
 use Rattle.std.proofs.lemmas.List.{append_assoc}
 use Rattle.std.proofs.lemmas.List.Elements.{filter_map-append}
 use Rattle.std.proofs.lemmas.List.Folds.{list_any-append}
 use Rattle.gi_day.specs.Cycles.{cycle_count}
-use Rattle.gi_day.specs.SameDay.{same_day}
-use Rattle.gi_day.proofs.DayLaws.{same_day-Decides}
 use Rattle.gi_pairs.specs.Limits.{most_processed_rows}
 use Rattle.gi_pairs.specs.Table.{TableContents, table_eq}
 use Rattle.gi_pairs.specs.declared.cycle_id.CycleId.{CycleId}
@@ -20,35 +18,16 @@ use Rattle.gi_desk.specs.Deciding.{by_order, same_hours}
 use Rattle.gi_desk.specs.History.{frozen_cycle, frozen_table, is_closed, is_closing, last_closed, met_by, peer_in, peer_of, state_of}
 use Rattle.gi_desk.specs.Judging.{by_decision, unless_later}
 use Rattle.gi_desk.specs.Machine.{bad_fact, bad_from, is_record, most_facts, would_record}
-use Rattle.gi_desk.specs.Same.{same_cycle}
+use Rattle.gi_facts.specs.Same.{same_cycle}
 use Rattle.gi_desk.specs.declared.decision.Decision.TheVariants.{Meet, Again, Refused}
-use Rattle.gi_desk.specs.declared.fact.Fact.{Fact}
-use Rattle.gi_desk.specs.declared.fact.Fact.TheVariants.{Contracted, Noticed, Nominated, Closed, Met}
+use Rattle.gi_facts.specs.declared.fact.Fact.{Fact}
+use Rattle.gi_facts.specs.declared.fact.Fact.TheVariants.{Contracted, Noticed, Nominated, Closed, Met}
+use Rattle.gi_facts.proofs.SameLemmas.{same_cycle-is, same_cycle-self}
 use Rattle.gi_desk.specs.declared.outcome.Outcome.{Outcome}
 use Rattle.gi_desk.specs.declared.outcome.Outcome.TheVariants.{Records, Refuses}
 use Rattle.gi_desk.specs.declared.refusal.Refusal.TheVariants.{AlreadyClosed, Conflict, NoSuchCycle, ShapeDiffers}
 use Rattle.gi_desk.proofs.Legality.{legal-first, legal-parts, legal-recorded}
 use Rattle.gi_desk.proofs.StateLaws.{is_closed-more, peer_of-more}
-
--- ---- two names of one cycle
-
-pub same_cycle-Decides : (a b : CycleId) → Decides (same_cycle a b) (a ≡ b)
-same_cycle-Decides a b = (
-  λ is.
-      let parts = and_parts (same_day a.day b.day) (nat_eq a.cycle b.cycle) is in
-      let day = (same_day-Decides a.day b.day).0 parts.0 in
-      let cycle = eqb-true a.cycle b.cycle parts.1 in
-      λ i. record { day = day i; cycle = cycle i },
-  λ same.
-      and_from (same_day a.day b.day) (nat_eq a.cycle b.cycle) ((same_day-Decides a.day b.day).1 (ap (λ (id : CycleId). id.day) same))
-      (eq-eqb a.cycle b.cycle (ap (λ (id : CycleId). id.cycle) same)),
-)
-
-pub same_cycle-is : (a b : CycleId) → same_cycle a b ≡ true → a ≡ b
-same_cycle-is a b is = (same_cycle-Decides a b).0 is
-
-pub same_cycle-self : (a : CycleId) → same_cycle a a ≡ true
-same_cycle-self a = (same_cycle-Decides a a).1 refl
 
 -- ---- what is known of a closing and of a meeting that would be recorded
 

@@ -1,9 +1,10 @@
 -- Which facts and states can be written.
-use Rattle.std.proofs.Common.{◌≡◌, ℕ, List, [], ◌∷◌, ◌++◌, Bool, true, false, cond, not, leb-true, All, Some, None, refl, sym, ap, ◌∙◌, subst, arith}
+use Rattle.std.proofs.Common.{◌≡◌, ℕ, zero, suc, List, [], ◌∷◌, ◌++◌, Bool, true, false, cond, not, leb-true, All, Some, None, refl, sym, ap, ◌∙◌, subst, arith}
 use Rattle.std.specs.Int.{IsInRange}
+use Rattle.std.specs.Prelude.{slice_get}
 use Rattle.std.proofs.lemmas.Bool.{and_parts}
 use Rattle.std.proofs.lemmas.Bool.Decides.{nat_tests}
-use Rattle.std.proofs.lemmas.List.Elements.{All-nil, All-push, All-set}
+use Rattle.std.proofs.lemmas.List.Elements.{All-head, All-nil, All-push, All-set, All-tail}
 use Rattle.gi_day.specs.Cycles.{cycle_count, hour_count}
 use Rattle.gi_day.specs.Day.{IsGasYear}
 use Rattle.gi_day.proofs.DayFacts.{day_facts}
@@ -27,9 +28,12 @@ use Rattle.gi_cycles.specs.declared.cycle_state.CycleState.TheVariants.{Frozen, 
 use Rattle.gi_desk.specs.History.{capacity_of, closings, documents_of, frozen_cycle, is_closed, state_of}
 use Rattle.gi_desk.specs.Kept.{changes_cycle, is_state_of, states_of}
 use Rattle.gi_desk.specs.Machine.{bad_fact, would_record}
-use Rattle.gi_desk.specs.Writable.{FitsCycle, FitsDesk, FitsFact, FitsFrozen, FitsMatched, FitsNotice, FitsProcessed, FitsState}
-use Rattle.gi_desk.specs.declared.fact.Fact.{Fact}
-use Rattle.gi_desk.specs.declared.fact.Fact.TheVariants.{Noticed, Nominated, Closed, Met}
+use Rattle.gi_desk.specs.Writable.{FitsDesk, FitsFrozen, FitsMatched, FitsState}
+use Rattle.gi_facts.specs.Writable.{FitsCycle, FitsFact, FitsNotice, FitsProcessed}
+use Rattle.gi_facts.specs.Grammar.{IsWritable}
+use Rattle.gi_facts.proofs.WritingLemmas.{writable_from_fits}
+use Rattle.gi_facts.specs.declared.fact.Fact.{Fact}
+use Rattle.gi_facts.specs.declared.fact.Fact.TheVariants.{Noticed, Nominated, Closed, Met}
 use Rattle.gi_desk.proofs.CycleLaws.{IsMeeting, recorded-below, recorded-meeting}
 use Rattle.gi_desk.proofs.Legality.{legal-recorded, recorded-notice}
 use Rattle.gi_desk.proofs.StageLaws.{found, place_of, state-meeting, states-closed, states-met, states-other}
@@ -145,3 +149,13 @@ fits-none side point code = record { point = code; facts = All-nil FitsFact; sta
 pub fits-more : (side : Side) (point : List ℕ) (facts : List Fact) (fact : Fact) → FitsDesk side point facts → FitsFact fact → All FitsState (states_of side (facts ++ fact ∷ []))
     → FitsDesk side point (facts ++ fact ∷ [])
 fits-more side point facts fact desk fits states = record { point = desk.point; facts = All-push FitsFact facts fact desk.facts fits; states = states }
+
+-- ---- a fact of a desk
+
+fits_at : (facts : List Fact) (i : ℕ) (fact : Fact) → All FitsFact facts → slice_get facts i ≡ Some fact → FitsFact fact
+fits_at [] i fact all e = absurd cc
+fits_at (first ∷ facts) zero fact all e = let same : first ≡ fact = cc in subst FitsFact same (All-head FitsFact first facts all)
+fits_at (first ∷ facts) (suc i) fact all e = fits_at facts i fact (All-tail FitsFact first facts all) e
+
+pub writable_at : (facts : List Fact) (i : ℕ) (fact : Fact) → All FitsFact facts → slice_get facts i ≡ Some fact → IsWritable fact
+writable_at facts i fact all e = writable_from_fits fact (fits_at facts i fact all e)

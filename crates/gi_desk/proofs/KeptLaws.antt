@@ -17,9 +17,10 @@ use Rattle.gi_desk.specs.History.{capacity_of, closings, documents_of}
 use Rattle.gi_desk.specs.DeskKept.{IsKept}
 use Rattle.gi_desk.specs.Kept.{states_of}
 use Rattle.gi_desk.specs.Machine.{DeskState, bad_fact, most_facts, would_record}
-use Rattle.gi_desk.specs.Writable.{FitsCycle, FitsDesk, FitsFact, FitsProcessed, FitsState}
-use Rattle.gi_desk.specs.declared.fact.Fact.{Fact}
-use Rattle.gi_desk.specs.declared.fact.Fact.TheVariants.{Closed}
+use Rattle.gi_desk.specs.Writable.{FitsDesk, FitsState}
+use Rattle.gi_facts.specs.Writable.{FitsCycle, FitsFact, FitsProcessed}
+use Rattle.gi_facts.specs.declared.fact.Fact.{Fact}
+use Rattle.gi_facts.specs.declared.fact.Fact.TheVariants.{Closed}
 use Rattle.gi_desk.proofs.CycleLaws.{recorded-below}
 use Rattle.gi_desk.proofs.Fitting.{fits-more, fits-none, states_fit-closed}
 use Rattle.gi_desk.proofs.Legality.{legal-more, legal-sound}

@@ -23,8 +23,8 @@ use Rattle.gi_desk.specs.History.{capacity_of, documents_of}
 use Rattle.gi_desk.specs.Judging.{by_verdict, setting_of, unless_fault, verdict_on}
 use Rattle.gi_desk.specs.declared.outcome.Outcome.TheVariants.{Records, Refuses}
 use Rattle.gi_desk.specs.Machine.{bad_fact, bad_from, is_record, may_follow, most_facts, would_record}
-use Rattle.gi_desk.specs.declared.fact.Fact.{Fact}
-use Rattle.gi_desk.specs.declared.fact.Fact.TheVariants.{Contracted, Noticed, Nominated, Closed, Met}
+use Rattle.gi_facts.specs.declared.fact.Fact.{Fact}
+use Rattle.gi_facts.specs.declared.fact.Fact.TheVariants.{Contracted, Noticed, Nominated, Closed, Met}
 use Rattle.gi_desk.specs.declared.refusal.Refusal.TheVariants as refusals
 use Rattle.gi_desk.proofs.HistoryLaws.{capacity_more, documents_more, one_more}
 

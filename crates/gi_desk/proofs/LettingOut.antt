@@ -1,5 +1,5 @@
 -- What is let out, and to whom.
-use Rattle.std.proofs.Common.{arith, nat_lt, nat_eq, ltb-false, eq-eqb, ◌≡◌, ◌<◌, ◌≤◌, ◌+◌, ◌-◌, ℕ, suc, List, [], ◌∷◌, ◌++◌, length, take, drop, get_or, filter, filter_map, map, Bool, true, false, not, cond, ◌||◌, Option, Some, None, refl, sym, ap, ◌∙◌, subst}
+use Rattle.std.proofs.Common.{arith, nat_lt, ltb-false, ◌≡◌, ◌<◌, ◌≤◌, ◌+◌, ◌-◌, ℕ, suc, List, [], ◌∷◌, ◌++◌, length, take, drop, get_or, filter, filter_map, map, Bool, true, false, not, cond, ◌||◌, Option, Some, None, refl, sym, ap, ◌∙◌, subst}
 use Rattle.std.specs.Prelude.{is_some, slice_get}
 use Rattle.std.specs.List.{cons_option, insert, list_any, position_or_len}
 use Rattle.std.specs.Option.{unwrap_or}
@@ -8,15 +8,13 @@ use Rattle.std.specs.Str.{bytes_eq}
 use Rattle.std.specs.declared.cmp.Ordering.{Ordering}
 use Rattle.std.specs.declared.cmp.Ordering.TheVariants.{Less, Equal, Greater}
 use Rattle.std.proofs.Math.ListN.{drop_of_length-le}
-use Rattle.std.proofs.lemmas.Bool.{and_from, and_parts}
+use Rattle.std.proofs.lemmas.Bool.{and_parts}
 use Rattle.std.proofs.lemmas.List.{append-nil, drop_more, get_or-take, length-take, take-append-drop}
 use Rattle.std.proofs.lemmas.List.Elements.{filter-append, filter_map-append}
 use Rattle.std.proofs.lemmas.List.Folds.{list_any-append}
 use Rattle.std.proofs.lemmas.List.Sums.{passes_at_first, prefix_len-le-length}
 use Rattle.std.proofs.lemmas.Map.Text.{is_eq-slice_cmp}
 use Rattle.std.proofs.lemmas.Option.{slice_get_read}
-use Rattle.gi_day.specs.SameDay.{same_day}
-use Rattle.gi_day.proofs.DayLaws.{same_day-Decides}
 use Rattle.gi_pairs.specs.Key.{code_cmp}
 use Rattle.gi_pairs.specs.Table.{TableContents, table_eq}
 use Rattle.gi_pairs.specs.declared.cycle_id.CycleId.{CycleId}
@@ -33,10 +31,11 @@ use Rattle.gi_desk.specs.Judging.{by_decision}
 use Rattle.gi_desk.specs.LetOut.{IsFact, if_fact, let_out, let_out_on_closing, packets_of, sent}
 use Rattle.gi_desk.specs.Machine.{DeskState, bad_fact, is_for_peer, is_record, saved_out, would_record}
 use Rattle.gi_desk.specs.Messages.{acknow_of, on_closed, on_met, portfolios_in, to_user, told_of, told_packets, with_code}
-use Rattle.gi_desk.specs.Same.{same_cycle}
+use Rattle.gi_facts.specs.Same.{same_cycle}
 use Rattle.gi_desk.specs.declared.decision.Decision.TheVariants.{Again, Refused}
-use Rattle.gi_desk.specs.declared.fact.Fact.{Fact}
-use Rattle.gi_desk.specs.declared.fact.Fact.TheVariants.{Contracted, Noticed, Nominated, Closed, Met}
+use Rattle.gi_facts.specs.declared.fact.Fact.{Fact}
+use Rattle.gi_facts.specs.declared.fact.Fact.TheVariants.{Contracted, Noticed, Nominated, Closed, Met}
+use Rattle.gi_facts.proofs.SameLemmas.{same_cycle-self}
 use Rattle.gi_desk.specs.declared.packet.Packet.{Packet}
 use Rattle.gi_desk.specs.declared.refusal.Refusal.TheVariants.{Conflict, ShapeDiffers}
 use Rattle.gi_desk.proofs.HistoryLaws.{one_more}
@@ -156,15 +155,12 @@ let_out-is side point facts n fact is =
 
 -- ---- a closing
 
-same_cycle-refl : (id : CycleId) → same_cycle id id ≡ true
-same_cycle-refl id = and_from (same_day id.day id.day) (nat_eq id.cycle id.cycle) ((same_day-Decides id.day id.day).1 refl) (eq-eqb id.cycle id.cycle refl)
-
 closed_front : (facts : List Fact) (n : ℕ) (id : CycleId) → IsFact facts n (Closed id) → is_closed id (take n facts) ≡ true
 unfolding is_closed
 closed_front facts n id is =
     ap (list_any (is_closing id)) (front facts n (Closed id) is)
     ∙ list_any-append (is_closing id) (take (n - 1) facts) (Closed id ∷ [])
-    ∙ closes (list_any (is_closing id) (take (n - 1) facts)) (same_cycle id id) (same_cycle-refl id)
+    ∙ closes (list_any (is_closing id) (take (n - 1) facts)) (same_cycle id id) (same_cycle-self id)
   where
     closes : (b c : Bool) → c ≡ true → (b || (c || false)) ≡ true
     closes true c e = refl
@@ -251,7 +247,7 @@ peer_added : (before : List Fact) (id : CycleId) (peer : TableContents) → peer
 unfolding peer_of
 peer_added before id peer none =
     ap (λ (found : List TableContents). slice_get found 0)
-    (filter_map-append (peer_in id) before (Met id peer ∷ []) ∙ ap (λ b. filter_map (peer_in id) before ++ cons_option (cond b (Some peer) None) []) (same_cycle-refl id))
+    (filter_map-append (peer_in id) before (Met id peer ∷ []) ∙ ap (λ b. filter_map (peer_in id) before ++ cons_option (cond b (Some peer) None) []) (same_cycle-self id))
     ∙ first_of (filter_map (peer_in id) before) peer none
 
 met_front : (side : Side) (point : List ℕ) (facts : List Fact) (n : ℕ) (id : CycleId) (peer : TableContents) → bad_fact side point facts ≡ None → IsFact facts n (Met id peer)

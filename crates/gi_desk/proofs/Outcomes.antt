@@ -32,13 +32,13 @@ use Rattle.gi_desk.specs.History.{capacity_of, is_closed, last_closed, number_of
 use Rattle.gi_desk.specs.Judging.{by_decision, by_verdict, closed, contracted, cycle_of, delivered, if_same, noticed, of_point, submitted, unless_fault, unless_later, verdict_on}
 use Rattle.gi_desk.specs.Kept.{CanFollow}
 use Rattle.gi_desk.specs.Machine.{DeskState, comes_to, is_record, most_facts, outcome, unless_full, would_record}
-use Rattle.gi_desk.specs.Same.{same_fact}
+use Rattle.gi_facts.specs.Same.{same_fact}
 use Rattle.gi_desk.specs.declared.call.Call.{Call}
 use Rattle.gi_desk.specs.declared.call.Call.TheVariants as calls
 use Rattle.gi_desk.specs.declared.decision.Decision.{Decision}
 use Rattle.gi_desk.specs.declared.decision.Decision.TheVariants as decisions
-use Rattle.gi_desk.specs.declared.fact.Fact.{Fact}
-use Rattle.gi_desk.specs.declared.fact.Fact.TheVariants as facts
+use Rattle.gi_facts.specs.declared.fact.Fact.{Fact}
+use Rattle.gi_facts.specs.declared.fact.Fact.TheVariants as facts
 use Rattle.gi_desk.specs.declared.outcome.Outcome.{Outcome}
 use Rattle.gi_desk.specs.declared.outcome.Outcome.TheVariants.{Records, RepeatsNomination, RepeatsMeeting, Saves, Resends, Stops, Refuses}
 use Rattle.gi_desk.specs.declared.refusal.Refusal.TheVariants as refusals

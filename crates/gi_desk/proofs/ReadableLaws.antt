@@ -8,7 +8,6 @@ use Rattle.std.proofs.lemmas.List.Elements.{All-append, All-cons, All-filter, Al
 use Rattle.std.proofs.lemmas.Option.{get_or_from_slice_get, slice_get_within}
 use Rattle.gi_pairs.specs.Code.{IsCode}
 use Rattle.gi_pairs.specs.Key.{code_cmp}
-use Rattle.gi_pairs.specs.Limits.{last_hour, most_rows}
 use Rattle.gi_pairs.specs.Row.{IsRow}
 use Rattle.gi_pairs.specs.Table.{TableContents, covered}
 use Rattle.gi_pairs.specs.declared.cycle_id.CycleId.{CycleId}
@@ -19,7 +18,7 @@ use Rattle.gi_messages.specs.Grammar.{Fits, FitsAcknow, FitsDelord, FitsDelres, 
 use Rattle.gi_messages.specs.Writing.{text_of}
 use Rattle.gi_messages.specs.declared.line.Line.{Line}
 use Rattle.gi_messages.specs.declared.message.Message.{Message}
-use Rattle.gi_messages.specs.declared.message.Message.TheVariants.{Nomint, Acknow, Nomres, Delord, Delres}
+use Rattle.gi_messages.specs.declared.message.Message.TheVariants.{Acknow, Nomres, Delord, Delres}
 use Rattle.gi_messages.specs.declared.message.Nomint.{Nomint as NomintOf}
 use Rattle.gi_messages.proofs.ShortTexts.{texts_are_short}
 use Rattle.gi_messages.proofs.WritingLemmas.{writable_from_fits}
@@ -30,9 +29,10 @@ use Rattle.gi_desk.specs.History.{state_of}
 use Rattle.gi_desk.specs.LetOut.{IsFact, frozen_of, if_fact, let_out, let_out_on_closing, sent}
 use Rattle.gi_desk.specs.Machine.{bad_fact}
 use Rattle.gi_desk.specs.Messages.{acknow_of, is_row_of, line_of, on_closed, on_met, order_of, own_of, portfolios_in, response_of, to_peer, to_user, told_of, told_packets, with_code}
-use Rattle.gi_desk.specs.Writable.{FitsDesk, FitsFact, FitsFrozen, FitsMatched, FitsState, IsReadable}
-use Rattle.gi_desk.specs.declared.fact.Fact.{Fact}
-use Rattle.gi_desk.specs.declared.fact.Fact.TheVariants.{Contracted, Noticed, Nominated, Closed, Met}
+use Rattle.gi_desk.specs.Writable.{FitsDesk, FitsFrozen, FitsMatched, FitsState, IsReadable}
+use Rattle.gi_facts.specs.Writable.{FitsFact}
+use Rattle.gi_facts.specs.declared.fact.Fact.{Fact}
+use Rattle.gi_facts.specs.declared.fact.Fact.TheVariants.{Contracted, Noticed, Nominated, Closed, Met}
 use Rattle.gi_desk.specs.declared.packet.Packet.{Packet}
 use Rattle.gi_desk.specs.declared.recipient.Recipient.{Recipient}
 use Rattle.gi_desk.specs.declared.recipient.Recipient.TheVariants.{Peer, User}

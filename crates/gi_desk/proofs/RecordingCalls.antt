@@ -9,7 +9,7 @@ use Rattle.gi_day.specs.Cycles.{hour_count}
 use Rattle.gi_day.proofs.DayFacts.{day_facts}
 use Rattle.gi_pairs.specs.Code.{IsCode}
 use Rattle.gi_pairs.specs.Direction.{place_of}
-use Rattle.gi_pairs.specs.Limits.{last_hour, most_rows}
+use Rattle.gi_pairs.specs.Limits.{last_hour}
 use Rattle.gi_pairs.specs.Row.{pair_eq, row_eq}
 use Rattle.gi_pairs.specs.Table.{TableContents}
 use Rattle.gi_pairs.specs.declared.cycle_id.CycleId.{CycleId}
@@ -44,12 +44,13 @@ use Rattle.gi_desk.specs.History.{capacity_of, frozen_cycle, frozen_table, state
 use Rattle.gi_desk.specs.Judging.{by_decision, by_verdict, closed, contracted, delivered, noticed, submitted, verdict_on}
 use Rattle.gi_desk.specs.Kept.{is_state_of, states_of}
 use Rattle.gi_desk.specs.Machine.{DeskState, comes_to, is_record, would_record}
-use Rattle.gi_desk.specs.Writable.{FitsCycle, FitsDesk, FitsFact, FitsFrozen, FitsProcessed, FitsState}
+use Rattle.gi_desk.specs.Writable.{FitsDesk, FitsFrozen, FitsState}
+use Rattle.gi_facts.specs.Writable.{FitsCycle, FitsFact, FitsProcessed}
 use Rattle.gi_desk.specs.declared.call.Call.{Call}
 use Rattle.gi_desk.specs.declared.call.Call.TheVariants as calls
 use Rattle.gi_desk.specs.declared.decision.Decision.TheVariants as decisions
-use Rattle.gi_desk.specs.declared.fact.Fact.{Fact}
-use Rattle.gi_desk.specs.declared.fact.Fact.TheVariants.{Contracted, Noticed, Nominated, Closed, Met}
+use Rattle.gi_facts.specs.declared.fact.Fact.{Fact}
+use Rattle.gi_facts.specs.declared.fact.Fact.TheVariants.{Contracted, Noticed, Nominated, Closed, Met}
 use Rattle.gi_desk.specs.declared.outcome.Outcome.{Outcome}
 use Rattle.gi_desk.specs.declared.outcome.Outcome.TheVariants.{Records, RepeatsNomination, RepeatsMeeting, Saves, Resends, Stops, Refuses}
 use Rattle.gi_desk.specs.declared.refusal.Refusal.TheVariants as refusals

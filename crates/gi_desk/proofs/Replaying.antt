@@ -5,7 +5,7 @@ use Rattle.gi_pairs.specs.declared.side.Side.{Side}
 use Rattle.gi_desk.specs.Machine.{DeskState, IsReplayed, bad_fact, bad_from, may_follow}
 use Rattle.gi_desk.specs.declared.replay_fault.ReplayFault.{ReplayFault}
 use Rattle.gi_desk.specs.declared.replay_fault.ReplayFault.TheVariants.{BadFact, OutOfMemory}
-use Rattle.gi_desk.specs.declared.fact.Fact.{Fact}
+use Rattle.gi_facts.specs.declared.fact.Fact.{Fact}
 use Rattle.gi_desk.proofs.Legality.{legal-first, legal-joined, legal-next}
 
 -- one more that may follow

@@ -19,10 +19,11 @@ use Rattle.gi_cycles.specs.declared.cycle_state.CycleState.TheVariants.{Frozen, 
 use Rattle.gi_desk.specs.History.{capacity_of, documents_of, closing_in, closings, facts_before, frozen_cycle, frozen_table, is_closed, is_closing, met_by, peer_in, peer_of, state_of}
 use Rattle.gi_desk.specs.Kept.{changes_cycle, closed_state, id_of, is_state_of, states_of}
 use Rattle.gi_desk.specs.Machine.{bad_fact}
-use Rattle.gi_desk.specs.Same.{same_cycle}
-use Rattle.gi_desk.specs.declared.fact.Fact.{Fact}
-use Rattle.gi_desk.specs.declared.fact.Fact.TheVariants.{Contracted, Noticed, Nominated, Closed, Met}
-use Rattle.gi_desk.proofs.CycleLaws.{IsMeeting, closes-once, is_closed-last, legal-before, none_in, none_of, peer_of-last, recorded-closing, recorded-meeting, same_cycle-is, same_cycle-self, unmet}
+use Rattle.gi_facts.specs.Same.{same_cycle}
+use Rattle.gi_facts.specs.declared.fact.Fact.{Fact}
+use Rattle.gi_facts.specs.declared.fact.Fact.TheVariants.{Contracted, Noticed, Nominated, Closed, Met}
+use Rattle.gi_facts.proofs.SameLemmas.{same_cycle-is, same_cycle-self}
+use Rattle.gi_desk.proofs.CycleLaws.{IsMeeting, closes-once, is_closed-last, legal-before, none_in, none_of, peer_of-last, recorded-closing, recorded-meeting, unmet}
 use Rattle.gi_desk.proofs.Legality.{legal-recorded}
 use Rattle.gi_desk.proofs.StateLaws.{frozen_table-more, is_closed-more}
 

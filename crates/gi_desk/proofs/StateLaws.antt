@@ -10,7 +10,7 @@ use Rattle.gi_pairs.specs.declared.side.Side.{Side}
 use Rattle.gi_processing.specs.Processing.{processed}
 use Rattle.gi_desk.specs.History.{capacity_of, documents_of, facts_before, frozen_table, is_closed, is_closing, number_of, peer_in, peer_of, state_of}
 use Rattle.gi_desk.specs.LetOut.{let_out}
-use Rattle.gi_desk.specs.declared.fact.Fact.{Fact}
+use Rattle.gi_facts.specs.declared.fact.Fact.{Fact}
 
 -- what one of the first n facts lets out
 pub lets_out : (side : Side) (point : List ℕ) (facts more : List Fact) (n : ℕ) → n ≤ length facts → let_out side point (facts ++ more) n ≡ let_out side point facts n

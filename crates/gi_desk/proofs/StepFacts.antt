@@ -18,8 +18,8 @@ use Rattle.gi_desk.specs.Messages.{acknow_of, to_user}
 use Rattle.gi_desk.specs.Queries.{confirmed}
 use Rattle.gi_desk.specs.declared.answer.Answer.TheVariants as answers
 use Rattle.gi_desk.specs.declared.call.Call.{Call}
-use Rattle.gi_desk.specs.declared.fact.Fact.{Fact}
-use Rattle.gi_desk.specs.declared.fact.Fact.TheVariants as facts
+use Rattle.gi_facts.specs.declared.fact.Fact.{Fact}
+use Rattle.gi_facts.specs.declared.fact.Fact.TheVariants as facts
 use Rattle.gi_desk.specs.declared.outcome.Outcome.{Outcome}
 use Rattle.gi_desk.specs.declared.outcome.Outcome.TheVariants.{Records, RepeatsNomination, RepeatsMeeting, Saves, Resends, Stops, Refuses}
 use Rattle.gi_desk.specs.declared.packet.Packet.{Packet}

@@ -16,7 +16,7 @@ use Rattle.gi_desk.specs.Kept.{closed_state}
 use Rattle.gi_desk.specs.LetOut.{let_out}
 use Rattle.gi_desk.specs.Machine.{DeskState, bad_fact}
 use Rattle.gi_desk.specs.Queries.{matched_in, met_saved, outgoing}
-use Rattle.gi_desk.specs.declared.fact.Fact.{Fact}
+use Rattle.gi_facts.specs.declared.fact.Fact.{Fact}
 use Rattle.gi_desk.specs.declared.packet.Packet.{Packet}
 use Rattle.gi_desk.proofs.Confirmed.{met_matched, peer_of-beyond, peer_of-within}
 

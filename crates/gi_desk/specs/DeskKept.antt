@@ -5,7 +5,7 @@ use Rattle.gi_cycles.specs.declared.cycle_state.CycleState.{CycleState}
 use Rattle.gi_desk.specs.Kept.{states_of}
 use Rattle.gi_desk.specs.Machine.{bad_fact}
 use Rattle.gi_desk.specs.Writable.{FitsDesk}
-use Rattle.gi_desk.specs.declared.fact.Fact.{Fact}
+use Rattle.gi_facts.specs.declared.fact.Fact.{Fact}
 
 -- each fact is one that it would record after those before it, and all of it can be written
 pub record IsKept (side : Side) (point : List ℕ) (facts : List Fact) (states : List CycleState) (saved : ℕ) : Type 0 where

@@ -22,13 +22,13 @@ use Rattle.gi_processing.specs.declared.notice_fault.NoticeFault.{NoticeFault}
 use Rattle.gi_processing.specs.declared.notice_fault.NoticeFault.TheVariants as notices
 use Rattle.gi_desk.specs.Deciding.{by_order, by_response}
 use Rattle.gi_desk.specs.History.{capacity_of, documents_of, is_closed, is_closing, is_meeting, is_taking, last_closed, number_of, state_of}
-use Rattle.gi_desk.specs.Same.{same_fact}
+use Rattle.gi_facts.specs.Same.{same_fact}
 use Rattle.gi_desk.specs.declared.decision.Decision.{Decision}
 use Rattle.gi_desk.specs.declared.decision.Decision.TheVariants as decisions
 use Rattle.gi_desk.specs.declared.outcome.Outcome.{Outcome}
 use Rattle.gi_desk.specs.declared.outcome.Outcome.TheVariants.{Records, RepeatsNomination, RepeatsMeeting, Saves, Resends, Refuses}
-use Rattle.gi_desk.specs.declared.fact.Fact.{Fact}
-use Rattle.gi_desk.specs.declared.fact.Fact.TheVariants as facts
+use Rattle.gi_facts.specs.declared.fact.Fact.{Fact}
+use Rattle.gi_facts.specs.declared.fact.Fact.TheVariants as facts
 use Rattle.gi_desk.specs.declared.refusal.Refusal.TheVariants.{TooManyPortfolios, NoticeRange, PermilleRange, OutOfMemory, Message as MessageRefused, WrongKind, Nomination, NoSuchCycle, AlreadyClosed, OutOfOrder, WrongPoint, NotClosed, NotNext, OtherFact}
 
 -- a contract

@@ -8,11 +8,12 @@ use Rattle.gi_desk.specs.Kept.{changes_cycle}
 use Rattle.gi_desk.specs.LetOut.{let_out, packets_of}
 use Rattle.gi_desk.specs.Machine.{DeskState, after as state_after, bad_fact, comes_to, is_for_peer, reply, would_record}
 use Rattle.gi_desk.specs.Queries.{confirmed}
-use Rattle.gi_desk.specs.Writable.{FitsDesk, FitsFact, IsReadable}
+use Rattle.gi_desk.specs.Writable.{FitsDesk, IsReadable}
+use Rattle.gi_facts.specs.Writable.{FitsFact}
 use Rattle.gi_desk.specs.declared.answer.Answer.TheVariants as answers
 use Rattle.gi_desk.specs.declared.call.Call.{Call}
-use Rattle.gi_desk.specs.declared.fact.Fact.{Fact}
-use Rattle.gi_desk.specs.declared.fact.Fact.TheVariants.{Closed, Met}
+use Rattle.gi_facts.specs.declared.fact.Fact.{Fact}
+use Rattle.gi_facts.specs.declared.fact.Fact.TheVariants.{Closed, Met}
 use Rattle.gi_desk.specs.declared.outcome.Outcome.TheVariants.{Records}
 use Rattle.gi_desk.specs.declared.packet.Packet.{Packet}
 use Rattle.gi_desk.specs.declared.refusal.Refusal.{Refusal}

@@ -1,4 +1,3 @@
-pub mod Same
 pub mod History
 pub mod Messages
 pub mod Deciding

@@ -14,7 +14,7 @@ use Rattle.gi_desk.specs.History.{frozen_cycle, frozen_table, peer_of}
 use Rattle.gi_desk.specs.LetOut.{let_out}
 use Rattle.gi_desk.specs.Machine.{DeskState}
 use Rattle.gi_desk.specs.Messages.{is_row_of, told_of}
-use Rattle.gi_desk.specs.declared.fact.Fact.{Fact}
+use Rattle.gi_facts.specs.declared.fact.Fact.{Fact}
 use Rattle.gi_desk.specs.declared.packet.Packet.{Packet}
 use Rattle.gi_desk.specs.declared.stage_name.StageName.{StageName}
 use Rattle.gi_desk.specs.declared.stage_name.StageName.TheVariants.{Collecting, Frozen, Matched}

@@ -1,7 +1,7 @@
 ghost use Rattle.std.specs.Prelude.{◌≡◌, IfOk};
 
 use crate::body::Body;
-use crate::fact::Fact;
+use gi_facts::Fact;
 use gi_pairs::CycleId;
 use gi_processing::{Contract, Notice};
 use std::alloc::AllocError;

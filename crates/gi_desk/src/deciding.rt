@@ -7,7 +7,7 @@ ghost use Rattle.gi_desk.specs.Deciding.{difference as difference_of, met_again 
 
 use crate::decision::Decision;
 use crate::refusal::Refusal;
-use crate::same::same_table;
+use gi_facts::same_table;
 use gi_pairs::{Row, Table};
 
 /// The least place, from 1, at which two lists of rows differ; a row that one of them lacks

@@ -1,5 +1,6 @@
-ghost use Rattle.std.specs.Prelude.{◌≡◌, ◌≤◌, None, length, nat_lt};
+ghost use Rattle.std.specs.Prelude.{◌≡◌, ◌≤◌, IfSome, None, length, nat_lt};
 ghost use Rattle.std.specs.Option.{option_copied, option_map};
+ghost use Rattle.gi_facts.specs.Grammar.{IsWritable};
 ghost use Rattle.gi_desk.specs.History.{is_meeting, number_of, state_of};
 ghost use Rattle.gi_desk.specs.Machine.{bad_fact};
 ghost use Rattle.gi_desk.specs.Queries.{acknowledged as is_acknowledged, confirmed as confirmed_of, fact_at, stage_of, table_in, unsaved as next_unsaved};
@@ -12,13 +13,13 @@ mod replaying;
 mod stepping;
 mod telling;
 
-use crate::fact::Fact;
 use crate::history::number_of_meeting;
 use crate::role::Role;
 use crate::stage_name::StageName;
 use crate::stages::{find, stage};
 use gi_cycles::CycleState;
 use gi_day::Calendar;
+use gi_facts::Fact;
 use gi_pairs::{Code, CycleId, Table};
 use std::alloc::Global;
 use std::marker::{Model, PhantomData};
@@ -62,15 +63,21 @@ impl<R: Role> Desk<R> {
         self.point
     }
 
-    /// How many facts it has. Each is one that it would record after those before it. The point, the
-    /// facts and how far each closed cycle is can be written: their codes, gas days, numbers and
-    /// tables are in their ranges.
+    /// How many facts it has.
     pub fn len(&self) -> u32
-        ensures value { result ≡ length self.now.facts }
+        ensures { result ≡ length self.now.facts }
+    {
+        self.facts.len() as u32
+    }
+
+    /// Each fact is one that the desk would record after those before it. The point, the facts and
+    /// how far each closed cycle is can be written: their codes, gas days, numbers and tables are in
+    /// their ranges.
+    pub fn in_range(&self)
         ensures legal { bad_fact R.SIDE self.now.point self.now.facts ≡ None }
         ensures fits { FitsDesk R.SIDE self.now.point self.now.facts }
     {
-        self.facts.len() as u32
+        let _ = self.facts.len();
     }
 
     /// How many of them are saved.
@@ -88,17 +95,20 @@ impl<R: Role> Desk<R> {
         self.halted
     }
 
-    /// Fact number `n`, from 1.
+    /// Fact number `n`, from 1. It can be written.
     pub fn fact(&self, n: u32) -> Option<&Fact>
-        ensures { option_copied result ≡ fact_at self.now.facts n }
+        ensures value { option_copied result ≡ fact_at self.now.facts n }
+        ensures writable { IfSome result (λ fact. IsWritable fact.now) }
     {
         let before = n.checked_sub(1)?;
-        self.facts.get(before as usize)
+        let fact = self.facts.get(before as usize)?;
+        Some(fact)
     }
 
-    /// The next fact to save, with its number.
+    /// The next fact to save, with its number. It can be written.
     pub fn unsaved(&self) -> Option<(u32, &Fact)>
-        ensures { option_map (λ it. (it.0, it.1.now)) result ≡ next_unsaved self.now }
+        ensures value { option_map (λ it. (it.0, it.1.now)) result ≡ next_unsaved self.now }
+        ensures writable { IfSome result (λ it. IsWritable it.1.now) }
     {
         let fact = self.facts.get(self.saved as usize)?;
         Some((self.saved + 1, fact))

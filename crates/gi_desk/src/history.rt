@@ -8,11 +8,11 @@ ghost use Rattle.gi_processing.specs.Recording.{is_refused, notice_refusal, with
 ghost use Rattle.gi_processing.specs.declared.contract.Contract.{Contract};
 ghost use Rattle.gi_processing.specs.declared.notice.Notice.{Notice};
 ghost use Rattle.gi_desk.specs.Machine.{bad_fact};
-ghost use Rattle.gi_desk.specs.declared.fact.Fact.TheVariants.{Contracted, Noticed, Nominated};
+ghost use Rattle.gi_facts.specs.declared.fact.Fact.TheVariants.{Contracted, Noticed, Nominated};
 ghost use Rattle.gi_desk.specs.History.{capacity_of, documents_of, is_closed as is_closed_in, is_closing, is_meeting, is_taking, last_closed as last_closed_of, number_of};
 
-use crate::fact::{Fact, copy_of};
 use gi_day::{Calendar, GasDay};
+use gi_facts::{Fact, copy_nomination};
 use gi_messages::Nomint;
 use gi_nominations::Book;
 use gi_pairs::{Code, CycleId};
@@ -176,7 +176,7 @@ fn take(book: &mut Book, fact: &Fact) -> Result<(), AllocError>
     ensures documents { OnOk result (book.new.documents ≡ book.old.documents ++ documents_of (fact.now ∷ [])) }
 {
     match fact {
-        Fact::Nominated(document) => book.take(copy_of(document)?),
+        Fact::Nominated(document) => book.take(copy_nomination(document)?),
         _ => Ok(()),
     }
 }

@@ -6,14 +6,13 @@ ghost use Rattle.gi_desk.specs.Judging.{by_decision, by_verdict as by_verdict_of
 ghost use Rattle.gi_pairs.specs.Limits.{most_processed_rows};
 ghost use Rattle.gi_pairs.specs.declared.cycle_id.CycleId.{CycleId};
 ghost use Rattle.gi_desk.specs.Deciding.{IsForRole, address_of, by_order};
-ghost use Rattle.gi_desk.specs.declared.fact.Fact.{Fact};
+ghost use Rattle.gi_facts.specs.declared.fact.Fact.{Fact};
 ghost use Rattle.gi_desk.specs.declared.decision.Decision.TheVariants.{Refused};
 ghost use Rattle.gi_desk.specs.declared.refusal.Refusal.TheVariants.{OutOfMemory};
 ghost use Rattle.gi_desk.specs.Machine.{is_record as is_record_of, most_facts, unless_full as unless_full_of};
 
 use crate::deciding::same_hours;
 use crate::decision::Decision;
-use crate::fact::Fact;
 use crate::history::{
     is_closed, last_closed, number_of_closing, number_of_meeting, number_of_taking,
 };
@@ -21,6 +20,7 @@ use crate::outcome::Outcome;
 use crate::refusal::Refusal;
 use gi_cycles::CycleState;
 use gi_day::Calendar;
+use gi_facts::Fact;
 use gi_messages::{Message, Nomint};
 use gi_nominations::{Book, Setting, Verdict};
 use gi_pairs::{Code, CycleId, MOST_PROCESSED_ROWS, Side, Table};

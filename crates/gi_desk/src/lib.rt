@@ -7,7 +7,6 @@ mod call;
 mod deciding;
 mod decision;
 mod desk;
-mod fact;
 mod history;
 mod judging;
 mod laws;
@@ -21,7 +20,6 @@ mod refusal;
 mod replay_fault;
 mod reply;
 mod role;
-mod same;
 mod stage_name;
 mod stages;
 mod telling;
@@ -32,7 +30,7 @@ pub use call::Call;
 pub use deciding::{difference, met_again, same_hours};
 pub use decision::Decision;
 pub use desk::Desk;
-pub use fact::Fact;
+pub use gi_facts::{Fact, FactFault, decode_fact, encode_fact};
 pub use judging::MOST_FACTS;
 pub use laws::{
     closes_once, confirms_for_good, confirms_through_restarts, freezes_for_good, fronts_are_legal,

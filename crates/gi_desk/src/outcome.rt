@@ -1,5 +1,5 @@
-use crate::fact::Fact;
 use crate::refusal::Refusal;
+use gi_facts::Fact;
 use gi_pairs::CycleId;
 
 /// What a call comes to.

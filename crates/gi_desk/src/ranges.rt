@@ -1,9 +1,14 @@
 //! The ranges of what facts are made of.
 
-ghost use Rattle.std.specs.Prelude.{All};
+ghost use Rattle.std.specs.Prelude.{◌≡◌, All, List, true, ℕ};
+ghost use Rattle.gi_pairs.specs.declared.side.Side.{Side};
 ghost use Rattle.gi_messages.specs.Grammar.{FitsLine};
-ghost use Rattle.gi_desk.specs.Writable.{FitsContract};
+ghost use Rattle.gi_facts.specs.Writable.{FitsContract, FitsFact};
+ghost use Rattle.gi_facts.specs.declared.fact.Fact.{Fact};
+ghost use Rattle.gi_desk.specs.Machine.{would_record};
+ghost use Rattle.gi_desk.specs.Writable.{FitsDesk};
 
+use gi_facts::Fact;
 use gi_messages::Line;
 use gi_processing::Contract;
 
@@ -24,5 +29,26 @@ pub(crate) fn lines_in_range(lines: &[Line])
     for line in lines {
         let _ = line.counterparty.as_str();
         let _ = line.hours.as_slice();
+    }
+}
+
+/// Every fact that a desk would record can be written.
+pub(crate) fn fact_in_range(fact: &Fact)
+    requires { (side : Side) × (point : List ℕ) × (before : List Fact) × FitsDesk side point before × (would_record side point before fact.now ≡ true) }
+    ensures { FitsFact fact.now }
+{
+    match fact {
+        Fact::Contracted(contract) => contract_in_range(contract),
+        Fact::Noticed(notice) => notice.day.in_range(),
+        Fact::Nominated(document) => {
+            let _ = document.point.as_str();
+            let _ = document.portfolio.as_str();
+            document.day.in_range();
+            lines_in_range(document.lines.as_slice());
+        }
+        Fact::Closed(id) => id.day.in_range(),
+        Fact::Met { peer, .. } => {
+            let _ = peer.rows();
+        }
     }
 }

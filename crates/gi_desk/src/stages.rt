@@ -10,8 +10,8 @@ ghost use Rattle.gi_lesser.specs.Lesser.{HasShapeOf};
 ghost use Rattle.gi_desk.specs.Kept.{closed_state, id_of, is_state_of, states_of};
 ghost use Rattle.gi_desk.specs.Queries.{stage_of};
 ghost use Rattle.gi_desk.specs.Machine.{bad_fact};
-ghost use Rattle.gi_desk.specs.declared.fact.Fact.{Fact};
-ghost use Rattle.gi_desk.specs.declared.fact.Fact.TheVariants.{Met};
+ghost use Rattle.gi_facts.specs.declared.fact.Fact.{Fact};
+ghost use Rattle.gi_facts.specs.declared.fact.Fact.TheVariants.{Met};
 
 use crate::stage_name::StageName;
 use gi_cycles::{Collecting, CycleState};

@@ -91,18 +91,6 @@ fn facts(alloc: Global) -> Result<Vec<Fact>, Fail> {
     Ok(facts)
 }
 
-#[test]
-fn copies_facts(rt: HostRuntime) -> Result<(), Fail> {
-    let facts = facts(rt.alloc())?;
-    for i in 0..facts.len() {
-        let copy = facts[i].copy()?;
-        for j in 0..facts.len() {
-            assert!(rt; copy.is(&facts[j]) == (i == j), "fact {i} as fact {j}");
-        }
-    }
-    Ok(())
-}
-
 /// What a refused call is refused for.
 fn refusal(outcome: &Outcome) -> Option<Refusal> {
     match outcome {

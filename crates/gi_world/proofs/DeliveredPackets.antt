@@ -22,8 +22,8 @@ use Rattle.gi_desk.specs.LetOut.{IsFact, let_out, let_out_on_closing, sent}
 use Rattle.gi_desk.specs.Machine.{DeskState, bad_fact, is_for_peer}
 use Rattle.gi_desk.specs.Messages.{on_met, order_of, response_of, to_peer}
 use Rattle.gi_desk.specs.Writable.{FitsDesk, FitsFrozen, FitsMatched, FitsState}
-use Rattle.gi_desk.specs.declared.fact.Fact.{Fact}
-use Rattle.gi_desk.specs.declared.fact.Fact.TheVariants.{Contracted, Noticed, Nominated, Closed, Met}
+use Rattle.gi_facts.specs.declared.fact.Fact.{Fact}
+use Rattle.gi_facts.specs.declared.fact.Fact.TheVariants.{Contracted, Noticed, Nominated, Closed, Met}
 use Rattle.gi_desk.specs.declared.packet.Packet.{Packet}
 use Rattle.gi_desk.proofs.Fitting.{state-fits}
 use Rattle.gi_desk.proofs.Legality.{legal-front}

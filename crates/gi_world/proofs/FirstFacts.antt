@@ -1,10 +1,10 @@
 -- The first facts of a desk, one by one.
-use Rattle.std.proofs.Common.{◌≡◌, ◌+◌, ◌<◌, ℕ, suc, List, [], ◌∷◌, ◌++◌, take, length, get_or, Option, Some, None, arith, sym, ap, ◌∙◌}
+use Rattle.std.proofs.Common.{◌≡◌, ◌+◌, ℕ, suc, List, [], ◌∷◌, ◌++◌, take, Some, arith, sym, ap, ◌∙◌}
 use Rattle.std.specs.Prelude.{slice_get}
 use Rattle.std.proofs.lemmas.Option.{get_or_from_slice_get, slice_get_within}
 use Rattle.gi_desk.specs.Queries.{fact_at}
 use Rattle.gi_desk.proofs.HistoryLaws.{one_more}
-use Rattle.gi_desk.specs.declared.fact.Fact.{Fact}
+use Rattle.gi_facts.specs.declared.fact.Fact.{Fact}
 
 -- with the next one
 next_at : (facts : List Fact) (n : ℕ) → fact_at facts (n + 1) ≡ slice_get facts n

@@ -7,7 +7,7 @@ use Rattle.gi_pairs.specs.declared.side.Side.{Side}
 use Rattle.gi_desk.specs.History.{frozen_table, is_closed, peer_of}
 use Rattle.gi_desk.specs.Laws.{HasOneMoreAtMost}
 use Rattle.gi_desk.specs.Machine.{DeskState}
-use Rattle.gi_desk.specs.declared.fact.Fact.{Fact}
+use Rattle.gi_facts.specs.declared.fact.Fact.{Fact}
 use Rattle.gi_desk.proofs.StateLaws.{frozen_table-more, is_closed-more, peer_of-more}
 use Rattle.gi_world.specs.Agreement.{saved_facts}
 

@@ -8,8 +8,9 @@ use Rattle.gi_lesser.specs.Lesser.{HasShapeOf}
 use Rattle.gi_cycles.specs.States.{FrozenCycle}
 use Rattle.gi_desk.specs.History.{frozen_cycle, frozen_table, is_closed, met_by, peer_of, state_of}
 use Rattle.gi_desk.specs.Kept.{closed_state, is_state_of, states_of}
-use Rattle.gi_desk.specs.Writable.{FitsDesk, FitsProcessed, FitsState}
-use Rattle.gi_desk.specs.declared.fact.Fact.{Fact}
+use Rattle.gi_desk.specs.Writable.{FitsDesk, FitsState}
+use Rattle.gi_facts.specs.Writable.{FitsProcessed}
+use Rattle.gi_facts.specs.declared.fact.Fact.{Fact}
 use Rattle.gi_desk.proofs.StageLaws.{found}
 
 pub same-hours : (side other : Side) (facts others : List Fact) (id : CycleId) → HasShapeOf (frozen_table side facts id) (frozen_table other others id)

@@ -1,21 +1,20 @@
 -- What the desks hold is what the steps and their answers tell.
-use Rattle.std.proofs.Common.{◌≡◌, ℕ, ◌+◌, List, [], ◌∷◌, Bool, true, false, cond, nat_lt, length, Option, Some, None, Result, Ok, Err, refl, sym, ap, ◌∙◌}
+use Rattle.std.proofs.Common.{◌≡◌, ℕ, List, [], ◌∷◌, Bool, true, false, cond, nat_lt, length, Option, Some, None, Ok, Err, refl, sym, ap, ◌∙◌}
 use Rattle.gi_pairs.specs.declared.side.Side.{Side}
 use Rattle.gi_pairs.specs.declared.side.Side.TheVariants.{I, M}
 use Rattle.gi_desk.specs.Machine.{DeskState, after as desk_after, answer_of, next_of, outcome as desk_outcome, reply}
 use Rattle.gi_desk.specs.declared.call.Call.{Call}
 use Rattle.gi_desk.specs.declared.call.Call.TheVariants as calls
-use Rattle.gi_desk.specs.declared.fact.Fact.{Fact}
 use Rattle.gi_desk.specs.declared.outcome.Outcome.{Outcome}
 use Rattle.gi_desk.specs.declared.outcome.Outcome.TheVariants.{Records, RepeatsNomination, RepeatsMeeting, Saves, Resends, Stops, Refuses}
 use Rattle.gi_desk.specs.declared.packet.Packet.{Packet}
-use Rattle.gi_world.specs.Histories.{Histories, History, after_packet, after_replied, after_reply, after_restarted, after_step, after_steps, fact_of, facts_with, held, held_by, saved_with, unless_refused, with_fact}
+use Rattle.gi_world.specs.Histories.{Histories, after_packet, after_replied, after_restarted, after_step, after_steps, fact_of, facts_with, held, held_by, saved_with, unless_refused, with_fact, with_reply}
 use Rattle.gi_world.specs.Runs.{answers, run}
-use Rattle.gi_world.specs.World.{StationState, WorldState, after, after_call, after_delivery, after_if, after_restart, called, delivered, delivery, is_delivery, outcome, restarted, station_of, with_station}
+use Rattle.gi_world.specs.World.{StationState, WorldState, after, after_call, after_delivery, after_if, after_restart, called, delivered, delivery, is_delivery, outcome, station_of, with_station}
 use Rattle.gi_world.specs.declared.step.Step.{Step}
 use Rattle.gi_world.specs.declared.step.Step.TheVariants.{Local, Deliver, Restart}
-use Rattle.gi_world.specs.declared.world_fault.WorldFault.TheVariants.{NotLocal, NoSuchPacket, KeepsTooFew, KeepsTooMany}
-use Rattle.gi_world.specs.declared.world_reply.WorldReply.TheVariants.{Desk, Restarted}
+use Rattle.gi_world.specs.declared.world_fault.WorldFault.TheVariants.{NotLocal, KeepsTooFew, KeepsTooMany}
+use Rattle.gi_world.specs.declared.world_reply.WorldReply.TheVariants.{Restarted}
 use Rattle.gi_world.proofs.Recorded.{Names, records-named}
 
 facts_noted : (s : DeskState) (call : Call) (o : Outcome) → Names (fact_of call) s.saved o → facts_with s.facts call (answer_of s o) ≡ (next_of s o).facts
@@ -38,8 +37,8 @@ saved_noted s call (Refuses refusal) names = refl
 
 -- of a call
 called_held : (side : Side) (station : StationState) (call : Call)
-    → after_reply (held_by station) call (reply side station.desk call) ≡ held_by (after_call side station call)
-unfolding after_reply after_call desk_after reply
+    → with_reply (held_by station) call (reply side station.desk call) ≡ held_by (after_call side station call)
+unfolding with_reply after_call desk_after reply
 called_held side station call =
     let o = desk_outcome side station.desk call in
     let names = records-named side station.desk call in

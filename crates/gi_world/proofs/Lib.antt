@@ -4,8 +4,10 @@ mod DeliveredPackets
 mod FirstFacts
 mod Fronts
 mod FrozenTables
+mod HistoryConfirms
 mod HistoryLaws
 mod Meetings
+mod MemoryWanted
 mod Opening
 mod Recorded
 mod RunLaws

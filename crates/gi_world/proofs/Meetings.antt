@@ -13,15 +13,15 @@ use Rattle.gi_messages.specs.declared.message.Message.TheVariants as messages
 use Rattle.gi_messages.specs.declared.message_fault.MessageFault.{MessageFault}
 use Rattle.gi_desk.specs.History.{frozen_table, is_closed, peer_in, peer_of}
 use Rattle.gi_desk.specs.Machine.{DeskState, after as desk_after, next_of, outcome as desk_outcome}
-use Rattle.gi_desk.specs.Same.{same_cycle}
+use Rattle.gi_facts.specs.Same.{same_cycle}
 use Rattle.gi_desk.specs.declared.call.Call.{Call}
 use Rattle.gi_desk.specs.declared.call.Call.TheVariants as calls
-use Rattle.gi_desk.specs.declared.fact.Fact.{Fact}
-use Rattle.gi_desk.specs.declared.fact.Fact.TheVariants.{Contracted, Noticed, Nominated, Closed, Met}
+use Rattle.gi_facts.specs.declared.fact.Fact.{Fact}
+use Rattle.gi_facts.specs.declared.fact.Fact.TheVariants.{Contracted, Noticed, Nominated, Closed, Met}
+use Rattle.gi_facts.proofs.SameLemmas.{same_cycle-is}
 use Rattle.gi_desk.specs.declared.outcome.Outcome.{Outcome}
 use Rattle.gi_desk.specs.declared.outcome.Outcome.TheVariants.{Records, RepeatsNomination, RepeatsMeeting, Saves, Resends, Stops, Refuses}
 use Rattle.gi_desk.specs.declared.packet.Packet.{Packet}
-use Rattle.gi_desk.proofs.CycleLaws.{same_cycle-is}
 use Rattle.gi_desk.proofs.StepFacts.{only-appends}
 use Rattle.gi_world.specs.Agreement.{FitsWorld, IsOrdered, IsResponded, IsSound, MeetsAfter, MeetsFrozen, saved_facts}
 use Rattle.gi_world.specs.Histories.{fact_of, meeting_in, nomination_in}

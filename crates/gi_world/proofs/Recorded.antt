@@ -24,13 +24,13 @@ use Rattle.gi_desk.specs.Deciding.{by_order, by_response, compared, difference, 
 use Rattle.gi_desk.specs.History.{capacity_of, is_closed, is_closing, last_closed, number_of, state_of}
 use Rattle.gi_desk.specs.Judging.{by_decision, by_verdict, closed, cycle_of, delivered, if_same, submitted, unless_fault, unless_later, verdict_on}
 use Rattle.gi_desk.specs.Machine.{DeskState, comes_to, most_facts, outcome, unless_full}
-use Rattle.gi_desk.specs.Same.{same_fact}
+use Rattle.gi_facts.specs.Same.{same_fact}
 use Rattle.gi_desk.specs.declared.call.Call.{Call}
 use Rattle.gi_desk.specs.declared.call.Call.TheVariants as calls
 use Rattle.gi_desk.specs.declared.decision.Decision.{Decision}
 use Rattle.gi_desk.specs.declared.decision.Decision.TheVariants as decisions
-use Rattle.gi_desk.specs.declared.fact.Fact.{Fact}
-use Rattle.gi_desk.specs.declared.fact.Fact.TheVariants.{Contracted, Noticed, Nominated, Closed, Met}
+use Rattle.gi_facts.specs.declared.fact.Fact.{Fact}
+use Rattle.gi_facts.specs.declared.fact.Fact.TheVariants.{Contracted, Noticed, Nominated, Closed, Met}
 use Rattle.gi_desk.specs.declared.outcome.Outcome.{Outcome}
 use Rattle.gi_desk.specs.declared.outcome.Outcome.TheVariants.{Records, RepeatsNomination, RepeatsMeeting, Saves, Resends, Stops, Refuses}
 use Rattle.gi_desk.specs.declared.refusal.Refusal.{Refusal}

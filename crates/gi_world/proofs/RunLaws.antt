@@ -1,11 +1,11 @@
 -- Runs with one step more.
-use Rattle.std.proofs.Common.{◌≡◌, ◌≤◌, ℕ, suc, List, [], ◌∷◌, ◌++◌, length, pred, take, drop, get_or, Some, Result, is_ok, true, arith, refl, sym, ap, subst, ◌∙◌}
+use Rattle.std.proofs.Common.{◌≡◌, ◌≤◌, ℕ, suc, List, [], ◌∷◌, ◌++◌, length, pred, take, drop, get_or, Some, Result, true, arith, refl, sym, ap, subst, ◌∙◌}
 use Rattle.std.specs.Prelude.{slice_get}
 use Rattle.std.proofs.lemmas.Option.{get_or_from_slice_get, slice_get_within}
 use Rattle.std.proofs.lemmas.List.{length-take-le, take-append-drop, take_all}
 use Rattle.gi_world.specs.Agreement.{Agrees, AllAgree}
 use Rattle.gi_world.specs.Runs.{IsRun, answers, run}
-use Rattle.gi_world.specs.World.{WorldState, after, outcome}
+use Rattle.gi_world.specs.World.{WorldState, after, may_want, outcome}
 use Rattle.gi_world.specs.declared.step.Step.{Step}
 use Rattle.gi_world.specs.declared.world_fault.WorldFault.{WorldFault}
 use Rattle.gi_world.specs.declared.world_reply.WorldReply.{WorldReply}
@@ -70,7 +70,7 @@ first_many : (start : WorldState) (steps : List Step) (n : ℕ) (got : List (Res
 first_many start steps n got end within is = as_many start (take n steps) got end is ∙ length-take-le n steps within
 
 pub so_far-run : (start : WorldState) (steps : List Step) (n : ℕ) (got : List (Result WorldReply WorldFault)) (end : WorldState) → n ≤ length steps → IsSoFar start (take n steps) got end
-    → ((next : Step) → slice_get steps n ≡ Some next → is_ok (outcome end next) ≡ true) → IsRun start steps (length got) got end
+    → ((next : Step) → slice_get steps n ≡ Some next → may_want end next ≡ true) → IsRun start steps (length got) got end
 so_far-run start steps n got end within is ends =
     let long = first_many start steps n got end within is in
     record {
@@ -81,13 +81,13 @@ so_far-run start steps n got end within is ends =
     }
 
 -- the step in which memory ran out is the next one; after all steps there is none
-pub ends_before : (steps : List Step) (n : ℕ) (step : Step) (old new : WorldState) → step ≡ get_or steps n step → new ≡ old → is_ok (outcome old step) ≡ true
-    → (next : Step) → slice_get steps n ≡ Some next → is_ok (outcome new next) ≡ true
+pub ends_before : (steps : List Step) (n : ℕ) (step : Step) (old new : WorldState) → step ≡ get_or steps n step → new ≡ old → may_want old step ≡ true
+    → (next : Step) → slice_get steps n ≡ Some next → may_want new next ≡ true
 ends_before steps n step old new is same short next found =
     let step_is : next ≡ step = sym (get_or_from_slice_get steps n next step found) ∙ sym is in
-    (λ t. is_ok (outcome (same t) (step_is t))) ∙ short
+    (λ t. may_want (same t) (step_is t)) ∙ short
 
-pub ends_after : (steps : List Step) (end : WorldState) (next : Step) → slice_get steps (length steps) ≡ Some next → is_ok (outcome end next) ≡ true
+pub ends_after : (steps : List Step) (end : WorldState) (next : Step) → slice_get steps (length steps) ≡ Some next → may_want end next ≡ true
 ends_after steps end next found = let within = slice_get_within steps (length steps) next found in absurd (omega (arith, within))
 
 pub so_far-agree : (start : WorldState) (steps : List Step) (n : ℕ) (got : List (Result WorldReply WorldFault)) (end : WorldState) → IsSoFar start (take n steps) got end → AllAgree steps got

@@ -8,7 +8,7 @@ use Rattle.gi_desk.specs.History.{peer_of}
 use Rattle.gi_desk.specs.LetOut.{if_fact, let_out}
 use Rattle.gi_desk.specs.Machine.{DeskState, after as desk_after, bad_fact, is_for_peer, next_of, out_of, outcome as desk_outcome, reply}
 use Rattle.gi_desk.specs.declared.call.Call.{Call}
-use Rattle.gi_desk.specs.declared.fact.Fact.{Fact}
+use Rattle.gi_facts.specs.declared.fact.Fact.{Fact}
 use Rattle.gi_desk.specs.declared.outcome.Outcome.{Outcome}
 use Rattle.gi_desk.specs.declared.outcome.Outcome.TheVariants.{Records, RepeatsNomination, RepeatsMeeting, Saves, Resends, Stops, Refuses}
 use Rattle.gi_desk.specs.declared.packet.Packet.{Packet}

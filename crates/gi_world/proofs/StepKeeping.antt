@@ -1,5 +1,5 @@
 -- What no step takes back: a refused one changes nothing, and what is let out stays.
-use Rattle.std.proofs.Common.{◌≡◌, ◌≤◌, ℕ, inl, inr, List, [], ◌++◌, length, Bool, true, false, cond, nat_lt, filter, is_ok, Option, Some, None, Result, Ok, Err, ◌⊎◌, append-nil, append_assoc, arith, refl, sym, ap, subst, ◌∙◌}
+use Rattle.std.proofs.Common.{◌≡◌, ◌≤◌, ℕ, inl, inr, List, [], ◌++◌, length, Bool, true, false, cond, nat_lt, filter, Option, Some, None, Result, Ok, Err, append-nil, append_assoc, arith, refl, sym, ap, subst, ◌∙◌}
 use Rattle.std.specs.Result.{OnErr}
 use Rattle.std.proofs.lemmas.List.{length-take}
 use Rattle.gi_pairs.specs.Table.{TableContents}
@@ -14,7 +14,7 @@ use Rattle.gi_desk.proofs.Legality.{legal-front}
 use Rattle.gi_desk.proofs.StepFacts.{confirms-for-good, confirms-through-restarts, stays-legal}
 use Rattle.gi_world.specs.Agreement.{Agrees, FitsWorld, IsLegal, IsSound}
 use Rattle.gi_world.specs.Keeping.{IsLonger, KeepsConfirmed, OnlyAppends}
-use Rattle.gi_world.specs.World.{IsStep, StationState, WorldState, after, after_call, after_delivery, after_if, after_restart, delivered, delivery, is_delivery, outcome, restarted, station_of, tells, with_station}
+use Rattle.gi_world.specs.World.{IsStep, StationState, WorldState, after, after_call, after_delivery, after_if, after_restart, delivered, delivery, is_delivery, may_want, outcome, restarted, station_of, tells, with_station}
 use Rattle.gi_world.specs.declared.step.Step.{Step}
 use Rattle.gi_world.specs.declared.step.Step.TheVariants.{Local, Deliver, Restart}
 use Rattle.gi_world.specs.declared.world_fault.WorldFault.{WorldFault}
@@ -182,7 +182,7 @@ long w (Local side call) = local_long (is_delivery call) (Desk (reply side (stat
 long w (Deliver side n) = delivery_long w side (delivery w side n)
 long w (Restart side keep) = let s = (station_of side w).desk in restart_long (nat_lt keep s.saved) (nat_lt (length s.facts) keep) keep s.saved (length s.facts)
 
-pub step-short : (old : WorldState) (step : Step) (r : Result WorldReply WorldFault) (new : WorldState) → IsStep old step r new → r ≡ Err OutOfMemory → is_ok (outcome old step) ≡ true
+pub step-short : (old : WorldState) (step : Step) (r : Result WorldReply WorldFault) (new : WorldState) → IsStep old step r new → r ≡ Err OutOfMemory → may_want old step ≡ true
 step-short old step r new is short =
     elim is [
       | inl e ↦ let never : true ≡ false = ap is_short (sym short ∙ e.0) ∙ long old step in absurd cc

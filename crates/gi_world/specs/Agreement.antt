@@ -14,7 +14,7 @@ use Rattle.gi_desk.specs.Messages.{order_of, response_of}
 use Rattle.gi_desk.specs.Writable.{FitsDesk}
 use Rattle.gi_desk.specs.declared.answer.Answer.{Answer}
 use Rattle.gi_desk.specs.declared.answer.Answer.TheVariants.{Recorded, Repeat, Saved, Resent, Stopped, Refused}
-use Rattle.gi_desk.specs.declared.fact.Fact.{Fact}
+use Rattle.gi_facts.specs.declared.fact.Fact.{Fact}
 use Rattle.gi_desk.specs.declared.packet.Packet.{Packet}
 use Rattle.gi_desk.specs.declared.refusal.Refusal.{Refusal}
 use Rattle.gi_desk.specs.declared.refusal.Refusal.TheVariants as refusals

@@ -1,6 +1,6 @@
 -- The history of each side: what it recorded, how much of that is saved, and what it let out; folded from the steps and
 -- what was answered to them, and from nothing else.
-use Rattle.std.specs.Prelude.{◌≡◌, ℕ, ◌+◌, List, [], ◌∷◌, ◌++◌, take, Option, Some, None, Result, Ok, Err}
+use Rattle.std.specs.Prelude.{ℕ, ◌+◌, List, [], ◌∷◌, ◌++◌, take, Option, Some, None, Result, Ok, Err}
 use Rattle.gi_pairs.specs.declared.side.Side.{Side}
 use Rattle.gi_pairs.specs.declared.side.Side.TheVariants.{I, M}
 use Rattle.gi_messages.specs.Decoding.{decoded}
@@ -11,8 +11,8 @@ use Rattle.gi_desk.specs.declared.answer.Answer.{Answer}
 use Rattle.gi_desk.specs.declared.answer.Answer.TheVariants.{Recorded, Repeat, Saved, Resent, Stopped, Refused}
 use Rattle.gi_desk.specs.declared.call.Call.{Call}
 use Rattle.gi_desk.specs.declared.call.Call.TheVariants as calls
-use Rattle.gi_desk.specs.declared.fact.Fact.{Fact}
-use Rattle.gi_desk.specs.declared.fact.Fact.TheVariants.{Contracted, Noticed, Nominated, Closed, Met}
+use Rattle.gi_facts.specs.declared.fact.Fact.{Fact}
+use Rattle.gi_facts.specs.declared.fact.Fact.TheVariants.{Contracted, Noticed, Nominated, Closed, Met}
 use Rattle.gi_desk.specs.declared.packet.Packet.{Packet}
 use Rattle.gi_desk.specs.declared.reply.Reply.{Reply}
 use Rattle.gi_world.specs.World.{StationState, WorldState, other, packet_at, sent_with, told_with}
@@ -96,9 +96,9 @@ saved_with saved Resent = saved
 saved_with saved Stopped = saved
 saved_with saved (Refused refusal) = saved
 
--- a history after a call and what was answered to it
-unfoldable pub after_reply : History → Call → Reply → History
-after_reply history call r = record {
+-- a history with what a call and its answer add
+unfoldable pub with_reply : History → Call → Reply → History
+with_reply history call r = record {
   facts = facts_with history.facts call r.answer;
   saved = saved_with history.saved r.answer;
   sent = sent_with history.sent r;
@@ -110,7 +110,7 @@ abbrev pub after_keeping : History → ℕ → History
 after_keeping history keep = record { facts = take keep history.facts; saved = keep; sent = history.sent; told = history.told }
 
 abbrev pub after_replied : Side → Histories → Call → WorldReply → Histories
-after_replied side both call (Desk r) = with_history side (after_reply (history_of side both) call r) both
+after_replied side both call (Desk r) = with_history side (with_reply (history_of side both) call r) both
 after_replied side both call (Restarted saved) = both
 
 abbrev pub after_packet : Side → Histories → Option Packet → WorldReply → Histories

@@ -1,12 +1,12 @@
 -- Both operators' desks with what each let out, and what a step makes of them.
-use Rattle.std.specs.Prelude.{◌≡◌, ℕ, zero, suc, List, [], ◌++◌, filter, slice_get, take, length, Bool, true, false, nat_lt, IsTrue, ◌⊎◌, is_ok, if◌then◌else◌, Option, Some, None, Result, Ok, Err}
+use Rattle.std.specs.Prelude.{◌≡◌, ℕ, zero, suc, List, [], ◌++◌, filter, slice_get, take, length, Bool, true, false, not, ◌&&◌, nat_lt, IsTrue, ◌⊎◌, is_ok, is_some, if◌then◌else◌, Option, Some, None, Result, Ok, Err}
 use Rattle.gi_pairs.specs.declared.side.Side.{Side}
 use Rattle.gi_pairs.specs.declared.side.Side.TheVariants.{I, M}
 use Rattle.gi_messages.specs.Decoding.{decoded}
 use Rattle.gi_messages.specs.declared.message.Message.{Message}
 use Rattle.gi_messages.specs.declared.message.Message.TheVariants.{Nomint, Acknow, Nomres, Delord, Delres}
 use Rattle.gi_messages.specs.declared.message_fault.MessageFault.{MessageFault}
-use Rattle.gi_desk.specs.Machine.{DeskState, after as desk_after, is_for_peer, reply}
+use Rattle.gi_desk.specs.Machine.{DeskState, after as desk_after, is_for_peer, may_want as desk_may_want, reply}
 use Rattle.gi_desk.specs.declared.call.Call.{Call}
 use Rattle.gi_desk.specs.declared.call.Call.TheVariants as calls
 use Rattle.gi_desk.specs.declared.packet.Packet.{Packet}
@@ -140,8 +140,15 @@ after w (Deliver side n) = after_delivery w side (delivery w side n)
 after w (Restart side keep) =
     let station = station_of side w in after_if w (with_station side (after_restart station keep) w) (restarted station.desk keep)
 
--- The world gives this outcome and goes on to new. Want of memory leaves all as it was, and comes for no step that the
--- world refuses for another cause.
+-- A step may want memory where its desk may: no halt and no refused closing does, say. A delivery may wherever there is
+-- the packet, and a restart wherever it is not refused.
+unfoldable pub may_want : WorldState → Step → Bool
+may_want w (Local side call) = not (is_delivery call) && desk_may_want side (station_of side w).desk call
+may_want w (Deliver side n) = is_some (delivery w side n)
+may_want w (Restart side keep) = is_ok (restarted (station_of side w).desk keep)
+
+-- The world gives this outcome and goes on to new. Want of memory leaves all as it was, and comes only for a step that may
+-- want memory, so for none that the world refuses for another cause.
 abbrev pub IsStep : WorldState → Step → Result WorldReply WorldFault → WorldState → Type 0
 IsStep old step r new =
-    ((r ≡ outcome old step) × (new ≡ after old step)) ⊎ ((r ≡ Err OutOfMemory) × (new ≡ old) × IsTrue (is_ok (outcome old step)))
+    ((r ≡ outcome old step) × (new ≡ after old step)) ⊎ ((r ≡ Err OutOfMemory) × (new ≡ old) × IsTrue (may_want old step))

@@ -1,6 +1,6 @@
 //! Which packets of a reply a station keeps: those for the peer, and those that tell.
 
-ghost use Rattle.std.specs.Prelude.{◌≡◌, IfOk, filter};
+ghost use Rattle.std.specs.Prelude.{◌≡◌, ◌<◌, IfOk, OnErr, filter, length};
 ghost use Rattle.gi_desk.specs.Machine.{is_for_peer as is_for_peer_of};
 ghost use Rattle.gi_world.specs.World.{tells as tells_of};
 
@@ -38,7 +38,8 @@ fn copy_of(packet: &Packet) -> Result<Packet, AllocError>
 
 /// Copies of the packets for the other operator.
 pub(crate) fn for_peer(alloc: Global, packets: &[Packet]) -> Result<Vec<Packet>, AllocError>
-    ensures { IfOk result (λ kept. kept.items ≡ filter is_for_peer_of packets.now) }
+    ensures value { IfOk result (λ kept. kept.items ≡ filter is_for_peer_of packets.now) }
+    ensures short { OnErr result (0 < length packets.now) }
 {
     let mut kept = Vec::new(alloc);
     for packet in packets {
@@ -51,7 +52,8 @@ pub(crate) fn for_peer(alloc: Global, packets: &[Packet]) -> Result<Vec<Packet>,
 
 /// Copies of those that tell.
 pub(crate) fn telling(alloc: Global, packets: &[Packet]) -> Result<Vec<Packet>, AllocError>
-    ensures { IfOk result (λ kept. kept.items ≡ filter tells_of packets.now) }
+    ensures value { IfOk result (λ kept. kept.items ≡ filter tells_of packets.now) }
+    ensures short { OnErr result (0 < length packets.now) }
 {
     let mut kept = Vec::new(alloc);
     for packet in packets {

@@ -1,12 +1,12 @@
 //! Runs: all that can happen between two operators, step by step.
 
-ghost use Rattle.std.specs.Prelude.{◌≡◌, ◌<◌, ◌≤◌, ◌+◌, ◌++◌, ◌∷◌, [], IfErr, IfOk, OnErr, OnOk, is_ok, length, take, true};
+ghost use Rattle.std.specs.Prelude.{◌≡◌, ◌<◌, ◌≤◌, ◌+◌, ◌++◌, ◌∷◌, [], IfErr, IfOk, OnErr, OnOk, length, take, true};
 ghost use Rattle.std.specs.Vec.{vec_capacity, vec_len};
 ghost use Rattle.gi_world.specs.Agreement.{Agrees, AllAgree};
-ghost use Rattle.gi_world.specs.Confirming.{ConfirmsAtBoth, ConfirmsTheLower};
+ghost use Rattle.gi_world.specs.Confirming.{ConfirmsAtBoth, ConfirmsByHistory, ConfirmsTheLower};
 ghost use Rattle.gi_world.specs.Histories.{after_steps, held, no_histories};
 ghost use Rattle.gi_world.specs.Runs.{IsRun};
-ghost use Rattle.gi_world.specs.World.{after, new_world, outcome as outcome_of};
+ghost use Rattle.gi_world.specs.World.{after, may_want, new_world, outcome as outcome_of};
 ghost use Rattle.gi_world.specs.declared.start_fault.StartFault.TheVariants.{OutOfMemory};
 
 use crate::laws::histories_are_held;
@@ -43,7 +43,7 @@ fn make(
     ensures agrees { OnOk result (Agrees step.now (outcome_of world.old step.now)) }
     ensures kept { OnErr result (outcomes.new.items ≡ outcomes.old.items) }
     ensures same { OnErr result (world.new ≡ world.old) }
-    ensures short { IfErr result (λ _. is_ok (outcome_of world.old step.now) ≡ true) }
+    ensures short { OnErr result (may_want world.old step.now ≡ true) }
     ensures len { OnOk result (vec_len outcomes.new ≡ vec_len outcomes.old + 1) }
     ensures places { vec_capacity outcomes.new ≡ vec_capacity outcomes.old }
 {
@@ -85,6 +85,7 @@ pub fn run_world(alloc: Global, point: Code, steps: &[Step]) -> Result<Run, Star
     ensures history { IfOk result (λ run. held run.world ≡ after_steps no_histories (take run.done steps.now) run.outcomes) }
     ensures lower { IfOk result (λ run. ConfirmsTheLower run.world) }
     ensures both { IfOk result (λ run. ConfirmsAtBoth run.world) }
+    ensures confirmed { IfOk result (λ run. ConfirmsByHistory (after_steps no_histories (take run.done steps.now) run.outcomes)) }
     ensures refused { IfErr result (λ fault. (fault ≡ OutOfMemory) × (0 < length steps.now)) }
 {
     histories_are_held();

@@ -1,7 +1,7 @@
 //! One operator: its desk, and what it let out.
 
-ghost use Rattle.std.specs.Prelude.{◌≡◌, ◌≤◌, IfOk, None, OnErr, OnOk, false, length, take};
-ghost use Rattle.gi_desk.specs.Machine.{bad_fact, reply as reply_of};
+ghost use Rattle.std.specs.Prelude.{◌≡◌, ◌≤◌, IfOk, IsTrue, None, OnErr, OnOk, false, length, take};
+ghost use Rattle.gi_desk.specs.Machine.{bad_fact, may_want, reply as reply_of};
 ghost use Rattle.gi_world.specs.World.{after_call, after_restart, new_station};
 
 use crate::passing::{for_peer, telling};
@@ -68,7 +68,8 @@ impl<R: Role> Station<R> {
 
     /// What the desk would reply.
     fn foresee(&self, call: &Call) -> Result<Reply, AllocError>
-        ensures { IfOk result (λ reply. reply ≡ reply_of R.SIDE self.now.desk call.now) }
+        ensures reply { IfOk result (λ reply. reply ≡ reply_of R.SIDE self.now.desk call.now) }
+        ensures short { OnErr result (IsTrue (may_want R.SIDE self.now.desk call.now)) }
     {
         let reply = self.desk.foresee(call);
         if reply.answer == Answer::Refused(Refusal::OutOfMemory) {
@@ -84,6 +85,7 @@ impl<R: Role> Station<R> {
         ensures reply { IfOk result (λ reply. reply ≡ reply_of R.SIDE self.old.desk call.now) }
         ensures next { OnOk result (self.new ≡ after_call R.SIDE self.old call.now) }
         ensures kept { OnErr result (self.new ≡ self.old) }
+        ensures short { OnErr result (IsTrue (may_want R.SIDE self.old.desk call.now)) }
     {
         refusals_change_nothing();
         let foreseen = self.foresee(call)?;
@@ -133,7 +135,7 @@ impl<R: Role> Station<R> {
         ensures kept { OnErr result (self.new ≡ self.old) }
     {
         fronts_are_legal();
-        let _ = self.desk.len();
+        self.desk.in_range();
         let facts = self.front(keep)?;
         self.desk = self.replay(facts)?;
         Ok(())

@@ -1,8 +1,8 @@
 //! Both stations: what a step makes of them.
 
-ghost use Rattle.std.specs.Prelude.{◌≡◌, ◌≤◌, IfOk, OnErr, OnOk, length};
+ghost use Rattle.std.specs.Prelude.{◌≡◌, ◌≤◌, IfOk, IsTrue, OnErr, OnOk, length};
 ghost use Rattle.std.specs.Option.{option_copied};
-ghost use Rattle.gi_desk.specs.Machine.{reply as reply_of};
+ghost use Rattle.gi_desk.specs.Machine.{may_want, reply as reply_of};
 ghost use Rattle.gi_world.specs.Agreement.{FitsWorld};
 ghost use Rattle.gi_world.specs.World.{IsStep, after_call, after_restart, delivery as delivery_of, new_world, station_of, with_station};
 ghost use Rattle.gi_world.specs.declared.step.Step.TheVariants as steps;
@@ -63,8 +63,8 @@ impl Stations {
     pub(crate) fn fits(&self)
         ensures { FitsWorld self.now }
     {
-        let _ = self.initiating.desk().len();
-        let _ = self.matching.desk().len();
+        self.initiating.desk().in_range();
+        self.matching.desk().in_range();
     }
 
     /// The packets that a side let out to the other operator, in order.
@@ -92,6 +92,7 @@ impl Stations {
         ensures reply { IfOk result (λ reply. reply ≡ reply_of side (station_of side self.old).desk call.now) }
         ensures next { OnOk result (self.new ≡ with_station side (after_call side (station_of side self.old) call.now) self.old) }
         ensures kept { OnErr result (self.new ≡ self.old) }
+        ensures short { OnErr result (IsTrue (may_want side (station_of side self.old).desk call.now)) }
     {
         match side {
             Side::I => self.initiating.take(call),
@@ -135,7 +136,7 @@ impl Stations {
     }
 
     /// A side is asked.
-    #[tactic(auto, unfolding(crate::specs::World::outcome, crate::specs::World::after))]
+    #[tactic(auto, unfolding(crate::specs::World::outcome, crate::specs::World::after, crate::specs::World::may_want))]
     fn call(&mut self, side: Side, call: &Call) -> Result<WorldReply, WorldFault>
         ensures { IsStep self.old (steps.Local side call.now) result self.new }
     {
@@ -146,7 +147,7 @@ impl Stations {
     }
 
     /// A side gets a packet of the other one.
-    #[tactic(auto, unfolding(crate::specs::World::outcome, crate::specs::World::after))]
+    #[tactic(auto, unfolding(crate::specs::World::outcome, crate::specs::World::after, crate::specs::World::may_want))]
     fn deliver(&mut self, side: Side, packet: u64) -> Result<WorldReply, WorldFault>
         ensures { IsStep self.old (steps.Deliver side packet) result self.new }
     {
@@ -158,7 +159,7 @@ impl Stations {
     }
 
     /// A side's desk starts again from its first `keep` facts.
-    #[tactic(auto, unfolding(crate::specs::World::outcome, crate::specs::World::after))]
+    #[tactic(auto, unfolding(crate::specs::World::outcome, crate::specs::World::after, crate::specs::World::may_want))]
     fn restart(&mut self, side: Side, keep: u32) -> Result<WorldReply, WorldFault>
         ensures { IsStep self.old (steps.Restart side keep) result self.new }
     {

@@ -1,6 +1,7 @@
 ghost use Rattle.std.specs.Prelude.{◌≡◌, All, Ok, OnErr};
 ghost use Rattle.gi_world.specs.Agreement.{Agrees, Carries};
-ghost use Rattle.gi_world.specs.Confirming.{ConfirmsAtBoth, ConfirmsTheLower};
+ghost use Rattle.gi_world.specs.Confirming.{ConfirmsAtBoth, ConfirmsByHistory, ConfirmsTheLower};
+ghost use Rattle.gi_world.specs.Histories.{held};
 ghost use Rattle.gi_world.specs.Keeping.{KeepsConfirmed, OnlyAppends};
 ghost use Rattle.gi_world.specs.World.{IsStep, new_world, station_of};
 
@@ -82,7 +83,9 @@ impl World {
 
     /// Makes a step: the desk's reply, or with how many facts it started again. `NotLocal`,
     /// `NoSuchPacket`, `KeepsTooFew` and `KeepsTooMany` come whatever memory there is, and
-    /// `OutOfMemory` where memory runs out, also where the desk answers it. A refused step leaves
+    /// `OutOfMemory` where memory runs out, also where the desk answers it: for a local call only
+    /// where the desk may, so never for a `Halt`, at a halted desk, or for a refused closing; for a
+    /// delivery wherever there is the packet, whose bytes are copied first. A refused step leaves
     /// the world as it was.
     pub fn step(&mut self, step: &Step) -> Result<WorldReply, WorldFault>
         ensures meaning { IsStep self.old step.now result self.new }
@@ -92,6 +95,7 @@ impl World {
         ensures agrees { Agrees step.now result }
         ensures lower { ConfirmsTheLower self.new }
         ensures both { ConfirmsAtBoth self.new }
+        ensures confirmed { ConfirmsByHistory (held self.new) }
     {
         lessens_both_ways();
         self.stations.fits();
@@ -105,6 +109,7 @@ impl World {
     pub(crate) fn confirms_the_lower(&self)
         ensures lower { ConfirmsTheLower self.now }
         ensures both { ConfirmsAtBoth self.now }
+        ensures confirmed { ConfirmsByHistory (held self.now) }
     {
         self.stations.fits();
     }

@@ -7,11 +7,10 @@ ghost use Rattle.gi_desk.specs.Deciding.{HasFewRows, IsForRole, decision};
 ghost use Rattle.gi_desk.specs.Judging.{by_decision, delivered as delivered_of, nominated as nominated_of, submitted as submitted_of};
 ghost use Rattle.gi_desk.specs.Kept.{learns_with_memory};
 ghost use Rattle.gi_desk.specs.Machine.{can_be_read, comes_to as comes_to_of, may_want, outcome as outcome_of, would_record as would_record_of};
-ghost use Rattle.gi_desk.specs.declared.fact.Fact.TheVariants.{Met, Nominated};
+ghost use Rattle.gi_facts.specs.declared.fact.Fact.TheVariants.{Met, Nominated};
 
 use crate::call::Call;
 use crate::desk::Desk;
-use crate::fact::Fact;
 use crate::history::{book_at, contracts_at};
 use crate::judging::{
     addressed, can_meet, closed, contracted, decided, is_record, is_short, marked, nominated,
@@ -22,6 +21,7 @@ use crate::refusal::Refusal;
 use crate::role::Role;
 use crate::stages::find;
 use gi_cycles::{Collecting, CycleState};
+use gi_facts::Fact;
 use gi_messages::{LAST_VERSION, Message, MessageFault, Nomint, decode};
 use gi_nominations::{Book, Verdict};
 use gi_pairs::{CycleId, Table};

@@ -9,7 +9,6 @@ ghost use Rattle.gi_desk.specs.Machine.{grows, is_for_peer, out_of, saved_out as
 ghost use Rattle.gi_desk.specs.Messages.{on_met, told_packets as told_packets_of};
 
 use crate::desk::Desk;
-use crate::fact::Fact;
 use crate::history::{number_of_closing, number_of_meeting};
 use crate::letting_out::{on_closing, on_meeting, on_taking};
 use crate::outcome::Outcome;
@@ -18,6 +17,7 @@ use crate::role::Role;
 use crate::stages::find;
 use crate::telling::told_packets;
 use gi_cycles::{CycleState, Matched};
+use gi_facts::Fact;
 use gi_pairs::CycleId;
 use std::alloc::AllocError;
 

@@ -8,14 +8,15 @@ ghost use Rattle.gi_processing.specs.Processing.{processed as processed_of};
 ghost use Rattle.gi_desk.specs.History.{capacity_of, documents_of};
 ghost use Rattle.gi_desk.specs.Kept.{changes_cycle};
 ghost use Rattle.gi_desk.specs.Machine.{most_facts, would_record};
-ghost use Rattle.gi_desk.specs.Writable.{FitsFact};
-ghost use Rattle.gi_desk.specs.declared.fact.Fact.TheVariants.{Closed, Met};
+ghost use Rattle.gi_facts.specs.Writable.{FitsFact};
+ghost use Rattle.gi_facts.specs.declared.fact.Fact.TheVariants.{Closed, Met};
 
 use crate::desk::Desk;
-use crate::fact::Fact;
+use crate::ranges::fact_in_range;
 use crate::role::Role;
 use crate::stages::meet;
 use gi_cycles::{Collecting, CycleState};
+use gi_facts::Fact;
 use gi_pairs::{CycleId, Table};
 use gi_processing::processed;
 use std::alloc::AllocError;
@@ -105,8 +106,8 @@ impl<R: Role> Desk<R> {
         ensures kept { OnErr result (self.new ≡ self.old) }
     {
         // All that is recorded can be written, and so the fact that comes next.
-        let _ = self.len();
-        fact.in_range();
+        self.in_range();
+        fact_in_range(&fact);
         self.put(fact)
     }
 }

@@ -5,11 +5,11 @@ ghost use Rattle.gi_desk.specs.Machine.{IsReplayed, may_follow};
 ghost use Rattle.gi_desk.specs.declared.replay_fault.ReplayFault.TheVariants.{BadFact};
 
 use crate::desk::Desk;
-use crate::fact::Fact;
 use crate::judging::MOST_FACTS;
 use crate::replay_fault::ReplayFault;
 use crate::role::Role;
 use gi_day::Calendar;
+use gi_facts::Fact;
 use gi_pairs::Code;
 use std::alloc::Global;
 use std::marker::PhantomData;

@@ -3,7 +3,7 @@ use Rattle.gi_messages.specs.declared.message.Nomint.{Nomint}
 use Rattle.gi_nominations.specs.Book.{Documents, IsNewer}
 use Rattle.gi_desk.specs.History.{documents_of}
 use Rattle.gi_desk.specs.Machine.{would_record}
-use Rattle.gi_desk.specs.declared.fact.Fact.{Fact}
+use Rattle.gi_facts.specs.declared.fact.Fact.{Fact}
 use Rattle.gi_desk.proofs.HistoryLaws.{documents_step}
 use Rattle.gi_desk.proofs.Legality.{legal-at, recorded-newer}
 use Rattle.gi_desk.proofs.history.book_at.Goals as goal

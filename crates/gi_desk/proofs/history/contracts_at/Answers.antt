@@ -3,7 +3,7 @@ use Rattle.gi_processing.specs.Capacity.{Capacity}
 use Rattle.gi_processing.specs.Recording.{is_refused}
 use Rattle.gi_desk.specs.History.{capacity_of}
 use Rattle.gi_desk.specs.Machine.{would_record}
-use Rattle.gi_desk.specs.declared.fact.Fact.{Fact}
+use Rattle.gi_facts.specs.declared.fact.Fact.{Fact}
 use Rattle.gi_desk.proofs.HistoryLaws.{capacity_step}
 use Rattle.gi_desk.proofs.Legality.{legal-at, recorded-contract, recorded-notice}
 use Rattle.gi_desk.proofs.history.contracts_at.Goals as goal

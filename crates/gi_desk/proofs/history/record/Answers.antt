@@ -3,7 +3,7 @@ use Rattle.std.proofs.lemmas.List.{append-nil}
 use Rattle.std.proofs.lemmas.Result.{on_ok_weaker}
 use Rattle.gi_processing.specs.Capacity.{Capacity}
 use Rattle.gi_desk.specs.History.{capacity_of}
-use Rattle.gi_desk.specs.declared.fact.Fact.{Fact}
+use Rattle.gi_facts.specs.declared.fact.Fact.{Fact}
 use Rattle.gi_desk.proofs.HistoryLaws.{no_capacity}
 use Rattle.gi_desk.proofs.history.record.Goals as goal
 

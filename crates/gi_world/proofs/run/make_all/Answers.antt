@@ -1,4 +1,4 @@
-use Rattle.std.proofs.Common.{◌≡◌, ◌+◌, ◌<◌, ◌≤◌, List, length, take, arith, sym, subst}
+use Rattle.std.proofs.Common.{List, length, take, arith, sym, subst}
 use Rattle.gi_desk.proofs.HistoryLaws.{one_more}
 use Rattle.gi_world.specs.declared.step.Step.{Step}
 use Rattle.gi_world.proofs.RunLaws.{IsSoFar, ends_after, ends_before, so_far-agree, so_far-all, so_far-kept, so_far-many, so_far-more, so_far-run}

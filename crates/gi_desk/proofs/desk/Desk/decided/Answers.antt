@@ -8,7 +8,7 @@ use Rattle.gi_desk.specs.History.{state_of}
 use Rattle.gi_desk.specs.Judging.{by_decision}
 use Rattle.gi_desk.specs.Kept.{closed_state, states_of}
 use Rattle.gi_desk.specs.Machine.{DeskState, most_facts}
-use Rattle.gi_desk.specs.declared.fact.Fact.{Fact}
+use Rattle.gi_facts.specs.declared.fact.Fact.{Fact}
 use Rattle.gi_desk.proofs.Called.{found-state, referred-state, unless_short}
 use Rattle.gi_desk.proofs.Legality.{legal-few}
 use Rattle.gi_desk.proofs.desk.Desk.decided.Goals as goal

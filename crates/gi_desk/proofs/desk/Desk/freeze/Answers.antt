@@ -4,8 +4,8 @@ use Rattle.gi_pairs.specs.Table.{IsTable, TableContents}
 use Rattle.gi_cycles.specs.declared.cycle_state.CycleState.{CycleState}
 use Rattle.gi_cycles.specs.declared.cycle_state.CycleState.TheVariants.{Frozen}
 use Rattle.gi_desk.specs.Machine.{DeskState}
-use Rattle.gi_desk.specs.declared.fact.Fact.{Fact}
-use Rattle.gi_desk.specs.declared.fact.Fact.TheVariants.{Closed}
+use Rattle.gi_facts.specs.declared.fact.Fact.{Fact}
+use Rattle.gi_facts.specs.declared.fact.Fact.TheVariants.{Closed}
 use Rattle.gi_desk.proofs.KeptLaws.{kept-closed, recorded-cycle}
 use Rattle.gi_desk.proofs.desk.Desk.freeze.Goals as goal
 

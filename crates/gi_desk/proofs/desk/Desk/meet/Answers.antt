@@ -1,8 +1,8 @@
 use Rattle.std.proofs.Common.{◌≡◌, ◌++◌, ◌∷◌, [], sym, ap, ◌∙◌}
 use Rattle.gi_desk.specs.Kept.{states_of}
 use Rattle.gi_desk.specs.Machine.{DeskState}
-use Rattle.gi_desk.specs.declared.fact.Fact.{Fact}
-use Rattle.gi_desk.specs.declared.fact.Fact.TheVariants.{Met}
+use Rattle.gi_facts.specs.declared.fact.Fact.{Fact}
+use Rattle.gi_facts.specs.declared.fact.Fact.TheVariants.{Met}
 use Rattle.gi_desk.proofs.Fitting.{states_fit-met}
 use Rattle.gi_desk.proofs.KeptLaws.{kept-legal, kept-more}
 use Rattle.gi_desk.proofs.desk.Desk.meet.Goals as goal

@@ -1,6 +1,6 @@
 use Rattle.std.proofs.Common.{◌≤◌, List, length, sym, subst}
 use Rattle.gi_desk.specs.Machine.{most_facts}
-use Rattle.gi_desk.specs.declared.fact.Fact.{Fact}
+use Rattle.gi_facts.specs.declared.fact.Fact.{Fact}
 use Rattle.gi_desk.proofs.Legality.{legal-few}
 use Rattle.gi_desk.proofs.desk.Desk.nominated.Goals as goal
 

@@ -1,7 +1,7 @@
 use Rattle.std.proofs.Common.{◌≡◌, ◌++◌, [], ◌∷◌, List, length, append_assoc, append-nil, true, false, None, Err, ap, sym, subst, ◌∙◌, arith, rules}
 use Rattle.std.specs.Vec.Iter.{into_iter_items}
 use Rattle.gi_desk.specs.Machine.{DeskState, bad_fact, may_follow}
-use Rattle.gi_desk.specs.declared.fact.Fact.{Fact}
+use Rattle.gi_facts.specs.declared.fact.Fact.{Fact}
 use Rattle.gi_desk.proofs.Legality.{legal-few}
 use Rattle.gi_desk.proofs.Replaying.{followed, nothing_left, refused_as, refused_so, some_fact}
 use Rattle.gi_desk.proofs.desk.Desk.replay.Goals as goal

@@ -2,7 +2,7 @@ use Rattle.std.proofs.Common.{◌≡◌, ◌&&◌, List, Bool, None, nat_le, len
 use Rattle.gi_pairs.specs.Limits.{most_processed_rows}
 use Rattle.gi_desk.specs.Kept.{closed_state, states_of}
 use Rattle.gi_desk.specs.Machine.{DeskState}
-use Rattle.gi_desk.specs.declared.fact.Fact.{Fact}
+use Rattle.gi_facts.specs.declared.fact.Fact.{Fact}
 use Rattle.gi_desk.proofs.Called.{unmet-unclosed}
 use Rattle.gi_desk.proofs.desk.Desk.would_meet.Goals as goal
 

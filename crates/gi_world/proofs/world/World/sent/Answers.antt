@@ -1,4 +1,4 @@
-use Rattle.std.proofs.Common.{◌≡◌, ◌∙◌, All, List, ap, subst, sym}
+use Rattle.std.proofs.Common.{All, List, subst, sym}
 use Rattle.gi_desk.specs.declared.packet.Packet.{Packet}
 use Rattle.gi_world.specs.Agreement.{Carries}
 use Rattle.gi_world.specs.World.{WorldState}

@@ -2,7 +2,7 @@
 
 ghost use Rattle.std.specs.Prelude.{◌≡◌};
 ghost use Rattle.gi_pairs.specs.Table.{table_eq};
-ghost use Rattle.gi_desk.specs.Same.{same_contract, same_fact, same_nomint, same_notice};
+ghost use Rattle.gi_facts.specs.Same.{same_contract, same_fact, same_nomint, same_notice};
 
 use crate::fact::Fact;
 use gi_messages::Nomint;
@@ -10,7 +10,7 @@ use gi_pairs::Table;
 use gi_processing::{Contract, Notice};
 
 /// Whether two tables cover the same hours and have the same rows.
-pub(crate) fn same_table(table: &Table, other: &Table) -> bool
+pub fn same_table(table: &Table, other: &Table) -> bool
     ensures { result ≡ table_eq table.now other.now }
 {
     table.first() == other.first() && table.last() == other.last() && table.rows() == other.rows()
@@ -52,7 +52,7 @@ fn same_nomination(document: &Nomint, other: &Nomint) -> bool
 
 impl Fact {
     /// Whether it is the same as another.
-    pub(crate) fn is(&self, other: &Fact) -> bool
+    pub fn is(&self, other: &Fact) -> bool
         ensures { result ≡ same_fact self.now other.now }
     {
         match (self, other) {

@@ -2,10 +2,10 @@ use Rattle.std.proofs.Common.{◌≡◌, List, All, true, sym, subst}
 use Rattle.gi_messages.specs.Grammar.{FitsLine}
 use Rattle.gi_messages.specs.declared.line.Line.{Line}
 use Rattle.gi_desk.specs.Machine.{would_record}
-use Rattle.gi_desk.specs.Writable.{FitsFact}
-use Rattle.gi_desk.specs.declared.fact.Fact.{Fact}
+use Rattle.gi_facts.specs.Writable.{FitsFact}
+use Rattle.gi_facts.specs.declared.fact.Fact.{Fact}
 use Rattle.gi_desk.proofs.Fitting.{closing-fits, meeting_fact-fits, nomination-fits, notice-fits}
-use Rattle.gi_desk.proofs.fact.Fact.in_range.Goals as goal
+use Rattle.gi_desk.proofs.ranges.fact_in_range.Goals as goal
 
 pub returns-in-Noticed : goal.returns-in-Noticed
 returns-in-Noticed c =

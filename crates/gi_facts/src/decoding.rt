@@ -1,0 +1,179 @@
+//! Reading facts.
+
+ghost use Rattle.std.specs.Prelude.{◌≡◌, ◌≤◌, IfOk, Some};
+ghost use Rattle.serde_json.specs.View.{view};
+ghost use Rattle.gi_pairs.specs.Quantity.{most_quantity};
+ghost use Rattle.gi_messages.specs.Reading as reading;
+ghost use Rattle.gi_facts.specs.declared.fact.Fact.{Fact};
+ghost use Rattle.gi_facts.specs.Decoding.{Gives, contract, cycle_id, document, document_of, fact, fact_of, kind, meeting, notice, of_kind, peer_table};
+ghost use Rattle.gi_facts.specs.Grammar.{Spells};
+
+use crate::fact::Fact;
+use crate::fact_fault::FactFault;
+use crate::kind::{Kind, kind_named};
+use gi_messages::parts::{
+    FieldFault, Kind as MessageKind, code, day, direction, json, kind_of, needed, nomint, number,
+    table, text,
+};
+use gi_messages::{Key, LAST_CYCLE, Nomint};
+use gi_pairs::{CycleId, LAST_HOUR, MOST_PROCESSED_ROWS, Quantity, Table};
+use gi_processing::{Contract, MOST_PERMILLE, Notice};
+use serde_json::Value;
+use std::alloc::Global;
+
+/// The quantity at a key, in kWh/h.
+fn quantity(object: &Value, key: Key) -> Result<Quantity, Key>
+    ensures { result ≡ reading.number 0 most_quantity key (view object.now) }
+{
+    let value = number(object, key, 0, Quantity::MAX)?;
+    match Quantity::new(value) {
+        Ok(quantity) => Ok(quantity),
+        Err(_) => Err(key),
+    }
+}
+
+/// The contract that an object is.
+#[tactic(auto, unfolding(crate::specs::Decoding::contract))]
+fn contract(object: &Value) -> Result<Contract, Key>
+    ensures { result ≡ contract (view object.now) }
+{
+    let portfolio = code(object, Key::Portfolio)?;
+    let day = day(object, Key::Day)?;
+    let direction = direction(object, Key::Direction)?;
+    let firm = quantity(object, Key::Firm)?;
+    let interruptible = quantity(object, Key::Interruptible)?;
+    Ok(Contract {
+        portfolio,
+        day,
+        direction,
+        firm,
+        interruptible,
+    })
+}
+
+/// The notice that an object is.
+#[tactic(auto, unfolding(crate::specs::Decoding::notice))]
+fn notice(object: &Value) -> Result<Notice, Key>
+    ensures { result ≡ notice (view object.now) }
+{
+    let day = day(object, Key::Day)?;
+    let direction = direction(object, Key::Direction)?;
+    let first = number(object, Key::First, 1, u64::from(LAST_HOUR))?;
+    let last = number(object, Key::Last, first, u64::from(LAST_HOUR))? as u8;
+    let first = first as u8;
+    let firm = number(object, Key::Firm, 0, u64::from(MOST_PERMILLE))? as u16;
+    let interruptible = number(object, Key::Interruptible, 0, u64::from(MOST_PERMILLE))? as u16;
+    Ok(Notice {
+        day,
+        direction,
+        first,
+        last,
+        firm,
+        interruptible,
+    })
+}
+
+/// The nomination that a NOMINT's object is.
+fn document_of(alloc: Global, object: &Value) -> Result<Nomint, FieldFault>
+    ensures { reading.Gives (λ found. found) result (document_of (view object.now)) }
+{
+    match kind_of(object) {
+        Some(MessageKind::Nomint) => nomint(alloc, object),
+        _ => Err(FieldFault::Wrong(Key::Nomint)),
+    }
+}
+
+/// The nomination whose NOMINT stands at the key `nomint`.
+#[tactic(auto, unfolding(crate::specs::Decoding::document))]
+fn document(alloc: Global, object: &Value) -> Result<Nomint, FieldFault>
+    ensures { reading.Gives (λ found. found) result (document (view object.now)) }
+{
+    document_of(alloc, needed(object, Key::Nomint)?)
+}
+
+/// The cycle that an object names.
+#[tactic(auto, unfolding(crate::specs::Decoding::cycle_id))]
+fn cycle_id(object: &Value) -> Result<CycleId, Key>
+    ensures { result ≡ cycle_id (view object.now) }
+{
+    let day = day(object, Key::Day)?;
+    let cycle = number(object, Key::Cycle, 0, u64::from(LAST_CYCLE))? as u8;
+    Ok(CycleId { day, cycle })
+}
+
+/// The peer's table that an object has.
+#[tactic(auto, unfolding(crate::specs::Decoding::peer_table))]
+fn peer_table(alloc: Global, object: &Value) -> Result<Table, FieldFault>
+    ensures { reading.Gives (λ found. found) result (peer_table (view object.now)) }
+{
+    let first = number(object, Key::First, 1, u64::from(LAST_HOUR))?;
+    let last = number(object, Key::Last, first, u64::from(LAST_HOUR))? as u8;
+    let first = first as u8;
+    table(alloc, object, Key::Peer, MOST_PROCESSED_ROWS, first, last)
+}
+
+/// The meeting that an object is.
+#[tactic(auto, unfolding(crate::specs::Decoding::meeting))]
+fn meeting(alloc: Global, object: &Value) -> Result<Fact, FieldFault>
+    ensures { reading.Gives (λ found. found) result (meeting (view object.now)) }
+{
+    let id = cycle_id(object)?;
+    let peer = peer_table(alloc, object)?;
+    Ok(Fact::Met { id, peer })
+}
+
+/// The kind that an object names.
+#[tactic(auto, unfolding(crate::specs::Decoding::kind))]
+fn kind(object: &Value) -> Result<Kind, Key>
+    ensures { result ≡ kind (view object.now) }
+{
+    kind_named(text(object, Key::Fact)?).ok_or(Key::Fact)
+}
+
+/// The fact of a kind that an object is.
+fn of_kind(alloc: Global, kind: Kind, object: &Value) -> Result<Fact, FieldFault>
+    ensures { reading.Gives (λ found. found) result (of_kind kind (view object.now)) }
+{
+    match kind {
+        Kind::Contract => Ok(Fact::Contracted(contract(object)?)),
+        Kind::Notice => Ok(Fact::Noticed(notice(object)?)),
+        Kind::Nomination => Ok(Fact::Nominated(document(alloc, object)?)),
+        Kind::Closed => Ok(Fact::Closed(cycle_id(object)?)),
+        Kind::Met => meeting(alloc, object),
+    }
+}
+
+/// The fact that an object is.
+#[tactic(auto, unfolding(crate::specs::Decoding::fact))]
+fn fact(alloc: Global, object: &Value) -> Result<Fact, FieldFault>
+    ensures { reading.Gives (λ found. found) result (fact (view object.now)) }
+{
+    let kind = kind(object)?;
+    of_kind(alloc, kind, object)
+}
+
+/// The fact that the bytes are.
+#[tactic(auto, unfolding(crate::specs::Decoding::fact_of))]
+fn read(alloc: Global, bytes: &[u8]) -> Result<Fact, FactFault>
+    ensures { Gives result (fact_of bytes.now) }
+{
+    let Some(value) = json(alloc, bytes)? else {
+        return Err(FactFault::NotAFact);
+    };
+    Ok(fact(alloc, &value)?)
+}
+
+/// The fact that the bytes are. `NotAFact` where they are none, and `OutOfMemory` where memory runs
+/// out.
+pub fn decode_fact(alloc: Global, bytes: &[u8]) -> Result<Fact, FactFault>
+    // What is read is spelled so.
+    ensures found { IfOk result (λ fact. Spells bytes.now fact) }
+
+    // What is spelled so is read, unless memory runs out.
+    ensures only { (fact : Fact) → Spells bytes.now fact → Gives result (Some fact) }
+
+    // Where there is no fact, there is none.
+    ensures exact { Gives result (fact_of bytes.now) }
+{
+    read(alloc, bytes)
+}

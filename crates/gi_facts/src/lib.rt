@@ -1,0 +1,23 @@
+//! The facts that an operator records, and how they are written and read.
+#![tactic(auto)]
+
+mod decoding;
+mod encoding;
+mod fact;
+mod fact_fault;
+mod kind;
+mod laws;
+mod same;
+
+pub use decoding::decode_fact;
+pub use encoding::encode_fact;
+pub use fact::{Fact, copy_nomination};
+pub use fact_fault::FactFault;
+pub use laws::{
+    fact_is_text, fact_round_trip, fact_writable_exactly, one_fact, reads_fact,
+    same_facts_are_equal, writes_fact,
+};
+pub use same::same_table;
+
+#[cfg(test)]
+mod tests;
