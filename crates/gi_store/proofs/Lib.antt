@@ -1,0 +1,7 @@
+pub mod Texts
+pub mod Failures
+pub mod Meanings
+pub mod Readings
+pub mod Walk
+pub mod Faults
+pub mod Numbering

@@ -1,0 +1,110 @@
+-- What contracts see of a book, and what is always true of it.
+use Rattle.std.specs.Prelude.{◌≡◌, ◌≢◌, ◌⊎◌, ℕ, ◌+◌, ◌<◌, ◌==◌, nat_lt, if◌then◌else◌, pos, List, [], ◌∷◌, ◌++◌, length, ⊤, Option, Some, None, Result, Err, IfSome, IfErr, MatchBool, MatchOption, IsTrue, IsPermutation, refl}
+use Rattle.std.specs.Coded.{Coded, code_by, coded×, coded_ℕ, coded_option}
+use Rattle.sqlite_value.specs.declared.value.Value.TheVariants.{Int}
+use Rattle.sqlite_value.specs.Order.{Row, column}
+use Rattle.sqlite_trees.specs.Tree.{Trees}
+use Rattle.sqlite.specs.State.{State}
+use Rattle.sqlite.specs.Held.{Held, held_code}
+use Rattle.gi_facts.specs.declared.fact.Fact.{Fact}
+use Rattle.gi_facts.specs.Writing.{fact_text}
+use Rattle.gi_store.specs.declared.store_fault.StoreFault.{StoreFault}
+use Rattle.gi_store.specs.declared.store_fault.StoreFault.TheVariants.{Version, Gap, Damaged, NotLoaded, NotNext, Store, OutOfMemory}
+use Rattle.gi_store.specs.FaultText.{IsFailure}
+use Rattle.gi_store.specs.Tables.{book_schema, facts_tree}
+use Rattle.gi_store.specs.Rows.{fact_rows, row_of}
+use Rattle.gi_store.specs.Order.{ArePutInOrder}
+use Rattle.gi_store.specs.Facts.{AreFacts, StopsIn}
+use Rattle.gi_store.specs.Keeping.{IsFirstBook, IsIdle}
+
+-- the connection, and how many rows are known since the last `load`
+pub record Book (S : Type 0) : Type 0 where
+  pub connection : Held S
+  pub loaded : Option ℕ
+
+abbrev pub book_code : {S : Type 0} → Coded S → Coded (Book S)
+book_code {S} store = code_by (Held S × Option ℕ) (coded× (held_code store) (coded_option coded_ℕ)) (λ b. (b.connection, b.loaded)) (λ p. record { connection = p.0; loaded = p.1 }) (λ _. refl)
+
+-- the rows have the numbers from this one on
+abbrev pub AreNumberedFrom : ℕ → List Row → Type 0
+AreNumberedFrom n [] = ⊤
+AreNumberedFrom n (row ∷ rows) = (column row 0 ≡ Int (pos n)) × AreNumberedFrom (n + 1) rows
+
+-- the rows' numbers are 1 to k
+pub record AreNumbered (rows : List Row) (k : ℕ) : Type 0 where
+  pub ordered : List Row
+  pub same : IsPermutation rows ordered
+  pub each : AreNumberedFrom 1 ordered
+  pub count : length ordered ≡ k
+
+-- the connection is open at a book whose rows are 1 to k
+pub record IsKnown (s : State) (k : ℕ) : Type 0 where
+  pub is_open : IsTrue s.is_open
+  pub tables : s.now.schema ≡ book_schema
+  pub numbered : AreNumbered (fact_rows s.now.trees) k
+
+-- A book between its calls: nothing waits to be committed, and where it is loaded, its rows are known.
+pub record IsKept (s : State) (loaded : Option ℕ) : Type 0 where
+  pub idle : IsIdle s
+  pub known : IfSome loaded (IsKnown s)
+
+-- A book counts its rows up to 4,294,967,294, so that the number that comes next is always a u32. With more it counts as not loaded.
+abbrev pub counted : ℕ → Option ℕ
+counted n = if nat_lt n 4294967295 then Some n else None
+
+abbrev pub IsCounted : Option ℕ → Type 0
+IsCounted loaded = IfSome loaded (λ k. k < 4294967295)
+
+-- ---- load
+
+-- the connection is open at a book of version 1 whose rows are these facts
+pub record IsRead (s : State) (facts : List Fact) : Type 0 where
+  pub is_open : IsTrue s.is_open
+  pub book : IsFirstBook s.now
+  pub rows : AreFacts (fact_rows s.now.trees) facts
+
+-- A book of version 1 whose rows, in the order of their numbers, are facts from 1 on up to one of them, which is refused.
+pub record Stops (s : State) (fault : StoreFault) : Type 0 where
+  pub book : IsFirstBook s.now
+  pub ordered : List Row
+  pub order : ArePutInOrder (fact_rows s.now.trees) ordered
+  pub stops : StopsIn ordered fault
+
+-- why a book is not loaded; the failures of the database and want of memory have no cause here
+abbrev pub IsLoadFault : State → StoreFault → Type 0
+IsLoadFault s Version = ¬ IsFirstBook s.now
+IsLoadFault s (Gap n) = Stops s (Gap n)
+IsLoadFault s (Damaged n) = Stops s (Damaged n)
+IsLoadFault s Store = ⊤
+IsLoadFault s OutOfMemory = ⊤
+IsLoadFault s NotLoaded = ⊥
+IsLoadFault s (NotNext n) = ⊥
+
+-- ---- save_next
+
+-- the row of the fact comes after the others, and all else stays
+abbrev pub AddsFact : ℕ → Fact → Trees → Trees → Type 0
+AddsFact n fact old new = (fact_rows new ≡ fact_rows old ++ row_of n (fact_text fact) ∷ []) × ((t : ℕ) → t ≢ facts_tree → new t ≡ old t)
+
+-- the fact's row is there, and each crash from now on leaves it
+pub record IsSaved (n : ℕ) (fact : Fact) (old new : State) : Type 0 where
+  pub is_open : IsTrue new.is_open
+  pub tables : new.now.schema ≡ book_schema
+  pub rows : AddsFact n fact old.now.trees new.now.trees
+  pub durable : (db : Trees) → new.may_leave db → db ≡ new.now.trees
+
+-- a crash leaves what it could leave before, or that with the fact's row
+abbrev pub SavesOrLeaves : ℕ → Fact → State → State → Type 0
+SavesOrLeaves n fact old new = (db : Trees) → new.may_leave db → old.may_leave db ⊎ AddsFact n fact old.now.trees db
+
+-- Where rows are known, a crash leaves the rows as they were, or those with the fact's row.
+abbrev pub SavesOrNot : ℕ → Fact → Option ℕ → State → State → Type 0
+SavesOrNot n fact loaded old new = IfSome loaded (λ _. (db : Trees) → new.may_leave db → (db ≡ old.now.trees) ⊎ AddsFact n fact old.now.trees db)
+
+-- the answer where so many rows are known: another number is refused, and the next one may fail
+abbrev pub AnswersNext : ℕ → ℕ → Result (Unit {0}) StoreFault → Type 0
+AnswersNext n k result = MatchBool (n == k + 1) (IfErr result IsFailure) (result ≡ Err (NotNext (k + 1)))
+
+-- the answer to `save_next n`, in the order of its refusals
+abbrev pub AnswersSave : ℕ → Option ℕ → Result (Unit {0}) StoreFault → Type 0
+AnswersSave n loaded result = MatchOption loaded (result ≡ Err NotLoaded) (λ k. AnswersNext n k result)

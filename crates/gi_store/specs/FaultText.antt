@@ -1,0 +1,30 @@
+-- Which fault an error of the database is, and how a fault is printed: its name, and its value after one space.
+use Rattle.std.specs.Prelude.{◌≡◌, ◌⊎◌, ℕ, List, ◌++◌, codes}
+use Rattle.std.specs.Fmt.{decimal, signed_decimal}
+use Rattle.sqlite.specs.declared.error.ErrorCode.TheVariants as code
+use Rattle.sqlite.specs.declared.error.Error.{Error}
+use Rattle.sqlite.specs.declared.error.Error.TheVariants.{SqliteFailure}
+use Rattle.gi_store.specs.declared.store_fault.StoreFault.{StoreFault}
+use Rattle.gi_store.specs.declared.store_fault.StoreFault.TheVariants.{Version, Gap, Damaged, NotLoaded, NotNext, Store, OutOfMemory}
+
+-- want of memory is told apart
+abbrev pub fault_of : Error → StoreFault
+fault_of (SqliteFailure code.OutOfMemory) = OutOfMemory
+fault_of _ = Store
+
+-- a failure of the database, or want of memory
+abbrev pub IsFailure : StoreFault → Type 0
+IsFailure fault = (fault ≡ Store) ⊎ (fault ≡ OutOfMemory)
+
+-- why a database is not taken as a book, where nothing is known of it
+abbrev pub IsRefusal : StoreFault → Type 0
+IsRefusal fault = (fault ≡ Version) ⊎ IsFailure fault
+
+abbrev pub fault_text : StoreFault → List ℕ
+fault_text Version = codes "Version"
+fault_text (Gap n) = codes "Gap " ++ decimal n
+fault_text (Damaged n) = codes "Damaged " ++ signed_decimal n
+fault_text NotLoaded = codes "NotLoaded"
+fault_text (NotNext n) = codes "NotNext " ++ decimal n
+fault_text Store = codes "Store"
+fault_text OutOfMemory = codes "OutOfMemory"

@@ -1,0 +1,9 @@
+pub mod Tables
+pub mod Rows
+pub mod Order
+pub mod Facts
+pub mod Keeping
+pub mod FaultText
+pub mod Opening
+pub mod Book
+pub mod Laws

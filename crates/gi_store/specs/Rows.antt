@@ -1,0 +1,36 @@
+-- What the two tables hold.
+use Rattle.std.specs.Prelude.{◌≡◌, ℕ, pos, List, [], ◌∷◌, map}
+use Rattle.sqlite_value.specs.declared.value.Value.TheVariants.{Null, Int, Text as Words}
+use Rattle.sqlite_value.specs.Order.{Row, column}
+use Rattle.sqlite_trees.specs.Tree.{Trees}
+use Rattle.gi_store.specs.Tables.{book_tree, facts_tree}
+
+-- SQLite keeps a row of either table as its number, NULL in the place of the column that is the number, and the other column.
+abbrev pub both_columns : Row → Row
+both_columns row = column row 0 ∷ column row 2 ∷ []
+
+-- each row of the table `facts`: its number and its body
+abbrev pub fact_rows : Trees → List Row
+fact_rows db = map both_columns (db facts_tree)
+
+-- each row of the table `book`: its id and its version
+abbrev pub book_rows : Trees → List Row
+book_rows db = map both_columns (db book_tree)
+
+-- the row with this number and this text
+abbrev pub row_of : ℕ → List ℕ → Row
+row_of n text = Int (pos n) ∷ Words text ∷ []
+
+-- the same as SQLite keeps it
+abbrev pub kept_row : ℕ → List ℕ → Row
+kept_row n text = Int (pos n) ∷ Null ∷ Words text ∷ []
+
+abbrev pub kept_version : Row
+kept_version = Int (pos 1) ∷ Null ∷ Int (pos 1) ∷ []
+
+-- the one row of a book of version 1
+abbrev pub first_version : Row
+first_version = Int (pos 1) ∷ Int (pos 1) ∷ []
+
+abbrev pub HasFirstVersion : Trees → Type 0
+HasFirstVersion db = book_rows db ≡ first_version ∷ []

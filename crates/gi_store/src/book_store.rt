@@ -1,0 +1,164 @@
+//! A book of facts, one row each.
+
+ghost use Rattle.std.specs.Prelude.{◌≡◌, ◌≢◌, ◌⊎◌, ◌++◌, ◌∷◌, [], length, Err, None, IfOk, IfErr, OnOk, OnErr};
+ghost use Rattle.sqlite.specs.State.{HasCleanDisk};
+ghost use Rattle.sqlite.specs.Held.{Held, state};
+ghost use Rattle.gi_facts.specs.Grammar.{IsWritable};
+ghost use Rattle.gi_store.specs.Facts.{AreFacts};
+ghost use Rattle.gi_store.specs.Rows.{fact_rows};
+ghost use Rattle.gi_store.specs.FaultText.{IsFailure, IsRefusal};
+ghost use Rattle.gi_store.specs.Opening.{IsOpenFault};
+ghost use Rattle.gi_store.specs.Book.{AnswersSave, IsLoadFault, IsRead, IsSaved, SavesOrLeaves, SavesOrNot, counted};
+ghost use Rattle.gi_store.specs.Keeping.{AddsNoOutcome, IsReady, Keeps, KeepsOrMakes, LeavesOrMakes};
+ghost use Rattle.gi_store.specs.declared.store_fault.StoreFault.TheVariants.{Store, OutOfMemory};
+
+use crate::loading::read_book;
+use crate::preparing::prepare;
+use crate::statements::add_fact;
+use crate::store_fault::StoreFault;
+use gi_facts::{Fact, encode_fact};
+use sqlite::{Alter, Connection};
+use std::alloc::Global;
+use std::marker::Model;
+
+/// A book of facts in a database, in memory or in a file. It is loaded before it is written.
+pub struct BookStore<S: Alter> {
+    connection: Connection<S>,
+    loaded: Option<u32>,
+    alloc: Global,
+}
+
+impl<S: Alter + Drop> Drop for BookStore<S> {
+    fn drop(self) {
+        let BookStore {
+            connection: _,
+            loaded: _,
+            alloc: _,
+        } = self;
+    }
+}
+
+impl<S: Alter> Model for BookStore<S> {
+    ghost use Rattle.sqlite.specs.State.{HasCleanDisk};
+    ghost use Rattle.sqlite.specs.Held.{Held, state};
+    ghost use Rattle.gi_store.specs.Book.{Book, IsCounted, IsKept, book_code};
+
+    ghost Value = { Book S };
+
+    ghost coded = { book_code S.code };
+
+    ghost view = { λ b. record { connection = b.connection; loaded = b.loaded } };
+
+    ghost invariant = { λ b. IsCounted b.loaded × (HasCleanDisk (state S.Store b.connection) → IsKept (state S.Store b.connection) b.loaded) };
+}
+
+/// So many rows, where the number that comes next is a `u32`.
+fn counted(rows: usize) -> Option<u32>
+    ensures { result ≡ counted rows }
+{
+    if rows < u32::MAX as usize {
+        Some(rows as u32)
+    } else {
+        None
+    }
+}
+
+impl<S: Alter + Drop> BookStore<S> {
+    /// Opens the book that the database is, or makes one where it has nothing: see `prepare`. It
+    /// is not loaded.
+    pub fn open(alloc: Global, mut connection: Connection<S>) -> Result<BookStore<S>, StoreFault>
+        ensures ready { IfOk result (λ book. HasCleanDisk (state S.Store book.connection) → IsReady (state S.Store book.connection)) }
+        ensures kept { IfOk result (λ book. HasCleanDisk (state S.Store book.connection) → KeepsOrMakes (state S.Store connection) (state S.Store book.connection)) }
+        ensures crash { IfOk result (λ book. HasCleanDisk (state S.Store book.connection) → LeavesOrMakes (state S.Store connection) (state S.Store book.connection)) }
+        ensures not_loaded { IfOk result (λ book. book.loaded ≡ None) }
+        ensures named { IfErr result IsRefusal }
+
+        // Where no disk lies, as in memory, `Version` means that there was something else.
+        ensures refused { ((c : Held S) → HasCleanDisk (state S.Store c)) → IfErr result (IsOpenFault (state S.Store connection)) }
+    {
+        prepare(&mut connection)?;
+        Ok(BookStore {
+            connection,
+            loaded: None,
+            alloc,
+        })
+    }
+}
+
+impl<S: Alter> BookStore<S> {
+    /// How many rows there are, known since the last `load`. `None` where the book is not loaded.
+    pub fn count(&self) -> Option<u32>
+        ensures { result ≡ self.now.loaded }
+    {
+        self.loaded
+    }
+
+    /// The facts of the book, from the first on. `Version` where it is no book of version 1. Then
+    /// the first by number of `Gap(n)`, where there is no row n and one with a higher number, and
+    /// `Damaged(n)`, where row n is no fact or n is below 1. `Store` and `OutOfMemory` where the
+    /// database fails or memory runs out. No row is changed, and after a refusal the book is not
+    /// loaded.
+    pub fn load(&mut self) -> Result<Vec<Fact>, StoreFault>
+        ensures early { HasCleanDisk (state S.Store self.new.connection) → HasCleanDisk (state S.Store self.old.connection) }
+
+        // On `Ok` the rows are these facts, from 1 on, and there are no others.
+        ensures facts { HasCleanDisk (state S.Store self.new.connection) → IfOk result (λ facts. IsRead (state S.Store self.new.connection) facts.items) }
+
+        // A refusal has its cause, and is the first by number.
+        ensures refused { HasCleanDisk (state S.Store self.new.connection) → IfErr result (IsLoadFault (state S.Store self.old.connection)) }
+
+        // No row is changed, and a crash leaves nothing that it could not leave before.
+        ensures kept { HasCleanDisk (state S.Store self.new.connection) → Keeps (state S.Store self.old.connection) (state S.Store self.new.connection) }
+        ensures crash { HasCleanDisk (state S.Store self.new.connection) → AddsNoOutcome (state S.Store self.old.connection) (state S.Store self.new.connection) }
+        ensures loaded { IfOk result (λ facts. self.new.loaded ≡ counted (length facts.items)) }
+        ensures not_loaded { OnErr result (self.new.loaded ≡ None) }
+    {
+        self.loaded = None;
+        let facts = read_book(self.alloc, &mut self.connection)?;
+        self.loaded = counted(facts.len());
+        Ok(facts)
+    }
+
+    /// Saves a fact as the row with this number, which has to be the one that comes next, by one
+    /// INSERT. In this order `NotLoaded`, where the book is not loaded, `NotNext`, where another
+    /// number comes next, and `Store` and `OutOfMemory`, where the database fails or memory runs
+    /// out: then the row may be there or not, and the book is not loaded.
+    pub fn save_next(&mut self, n: u32, fact: &Fact) -> Result<(), StoreFault>
+        requires { IsWritable fact.now }
+        ensures early { HasCleanDisk (state S.Store self.new.connection) → HasCleanDisk (state S.Store self.old.connection) }
+
+        // Which refusal it is.
+        ensures answer { AnswersSave n self.old.loaded result }
+        ensures unchanged { IfErr result (λ fault. IsFailure fault ⊎ (self.new ≡ self.old)) }
+
+        // A crash at any moment leaves what it could leave before, or the rows with this one.
+        ensures crash { HasCleanDisk (state S.Store self.new.connection) → SavesOrLeaves n fact.now (state S.Store self.old.connection) (state S.Store self.new.connection) }
+
+        // Where the book is loaded, that is the rows as they were, or those with this one.
+        ensures before { HasCleanDisk (state S.Store self.new.connection) → SavesOrNot n fact.now self.old.loaded (state S.Store self.old.connection) (state S.Store self.new.connection) }
+
+        // On `Ok` the row is there, and each crash leaves it.
+        ensures saved { HasCleanDisk (state S.Store self.new.connection) → OnOk result (IsSaved n fact.now (state S.Store self.old.connection) (state S.Store self.new.connection)) }
+
+        // The facts of the book go on by this one.
+        ensures facts { HasCleanDisk (state S.Store self.new.connection) → OnOk result ((facts : _) → AreFacts (fact_rows (state S.Store self.old.connection).now.trees) facts → AreFacts (fact_rows (state S.Store self.new.connection).now.trees) (facts ++ fact.now ∷ [])) }
+
+        // After a refusal the rows that can be read are as before.
+        ensures kept { HasCleanDisk (state S.Store self.new.connection) → OnErr result (Keeps (state S.Store self.old.connection) (state S.Store self.new.connection)) }
+        ensures loaded { OnOk result (self.new.loaded ≡ counted n) }
+        ensures not_loaded { IfErr result (λ fault. IsFailure fault → self.new.loaded ≡ None) }
+    {
+        let Some(known) = self.loaded else {
+            return Err(StoreFault::NotLoaded);
+        };
+        let expected = known + 1;
+        if n != expected {
+            return Err(StoreFault::NotNext { expected });
+        }
+        self.loaded = None;
+        let body = encode_fact(self.alloc, fact)?;
+        add_fact(&mut self.connection, n, body.as_slice())?;
+        self.loaded = counted(n as usize);
+        Ok(())
+    }
+}

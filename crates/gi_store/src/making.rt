@@ -1,0 +1,32 @@
+//! Making a book's tables.
+
+ghost use Rattle.std.specs.Prelude.{◌≡◌, ◌⊎◌, false, IsTrue, OnOk, OnErr};
+ghost use Rattle.sqlite.specs.State.{HasCleanDisk};
+ghost use Rattle.sqlite.specs.Held.{state};
+ghost use Rattle.gi_store.specs.Keeping.{IsIdle, IsMade, IsNewBook, KeepsCommitted, MayMakeBook};
+ghost use Rattle.gi_store.specs.Tables.{no_schema};
+
+use sqlite::{Alter, Connection, Error};
+
+/// Makes both tables and the row of the version, in one transaction.
+pub fn make_tables<S: Alter>(connection: &mut Connection<S>) -> Result<(), Error>
+    requires autocommit { (state S.Store connection.old).in_transaction ≡ false }
+    requires blank { (state S.Store connection.old).now.schema ≡ no_schema }
+    ensures early { HasCleanDisk (state S.Store connection.new) → HasCleanDisk (state S.Store connection.old) }
+    ensures made { HasCleanDisk (state S.Store connection.new) → OnOk result (IsMade (state S.Store connection.new)) }
+    ensures kept { HasCleanDisk (state S.Store connection.new) → OnErr result (KeepsCommitted (state S.Store connection.old) (state S.Store connection.new)) }
+    ensures crash { HasCleanDisk (state S.Store connection.new) → MayMakeBook (state S.Store connection.old) (state S.Store connection.new) }
+{
+    let mut tx = connection.transaction();
+    tx.execute(
+        "CREATE TABLE book (id INTEGER PRIMARY KEY, version INTEGER NOT NULL)",
+        &[],
+    )?;
+    tx.execute(
+        "CREATE TABLE facts (n INTEGER PRIMARY KEY, body TEXT NOT NULL)",
+        &[],
+    )?;
+    tx.execute("INSERT INTO book (id, version) VALUES (1, 1)", &[])?;
+    tx.commit()?;
+    Ok(())
+}

@@ -1,0 +1,47 @@
+//! A database is made ready to hold a book.
+
+ghost use Rattle.std.specs.Prelude.{IfErr, OnErr, OnOk, IsTrue};
+ghost use Rattle.sqlite.specs.State.{HasCleanDisk};
+ghost use Rattle.sqlite.specs.Held.{state};
+ghost use Rattle.gi_store.specs.Keeping.{IsReady, Keeps, KeepsOrMakes, LeavesOrMakes};
+ghost use Rattle.gi_store.specs.FaultText.{IsRefusal};
+ghost use Rattle.gi_store.specs.Opening.{IsOpenFault};
+
+use crate::making::make_tables;
+use crate::store_fault::StoreFault;
+use crate::tables::is_blank;
+use crate::version::check_version;
+use sqlite::{Alter, Connection};
+
+/// Makes the two tables of a book and the row of its version, all in one transaction, where the
+/// database has nothing. `Version` where it has something else than a book of version 1, and
+/// `Store` also where a transaction is under way. No row that was there is changed.
+pub fn prepare<S: Alter>(connection: &mut Connection<S>) -> Result<(), StoreFault>
+    ensures early { HasCleanDisk (state S.Store connection.new) → HasCleanDisk (state S.Store connection.old) }
+
+    // On `Ok` the database is a book of version 1.
+    ensures ready { HasCleanDisk (state S.Store connection.new) → OnOk result (IsReady (state S.Store connection.new)) }
+
+    // `Version` means that there was something else than such a book.
+    ensures refused { HasCleanDisk (state S.Store connection.new) → IfErr result (IsOpenFault (state S.Store connection.old)) }
+
+    ensures named { IfErr result IsRefusal }
+
+    // A refusal leaves what can be read as it was.
+    ensures unmade { HasCleanDisk (state S.Store connection.new) → OnErr result (Keeps (state S.Store connection.old) (state S.Store connection.new)) }
+
+    // What was there stays, or there was nothing and is a new book.
+    ensures kept { HasCleanDisk (state S.Store connection.new) → IsTrue (state S.Store connection.new).is_open → KeepsOrMakes (state S.Store connection.old) (state S.Store connection.new) }
+
+    // A crash at any moment leaves what it could leave before, or a new book where there was nothing.
+    ensures crash { HasCleanDisk (state S.Store connection.new) → LeavesOrMakes (state S.Store connection.old) (state S.Store connection.new) }
+{
+    if !connection.is_autocommit() {
+        return Err(StoreFault::Store);
+    }
+    if is_blank(connection.schema()) {
+        make_tables(connection)?;
+        return Ok(());
+    }
+    check_version(connection)
+}

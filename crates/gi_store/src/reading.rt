@@ -1,0 +1,74 @@
+//! Rows are read as facts.
+
+ghost use Rattle.std.specs.Prelude.{◌≡◌, IfOk, IfErr, IfSome};
+ghost use Rattle.sqlite_value.specs.Order.{column};
+ghost use Rattle.sqlite_value.specs.declared.value.Value.TheVariants.{Int};
+ghost use Rattle.gi_store.specs.Facts.{AreFactsFrom, HasBody, IsBodyFault, IsFactRow, IsReadFault, IsRowFault};
+
+use crate::store_fault::StoreFault;
+use gi_facts::{Fact, FactFault, decode_fact};
+use sqlite::Row;
+use sqlite::types::ValueRef;
+use std::alloc::Global;
+
+/// The number of a row, which is a whole number in each row of a table.
+fn number_of(row: &Row) -> Result<i64, StoreFault>
+    ensures number { IfOk result (λ m. column row.now 0 ≡ Int m) }
+    ensures refused { IfErr result (λ fault. fault ≡ StoreFault.Store) }
+{
+    match row.get_ref(0) {
+        Ok(ValueRef::Int(number)) => Ok(number),
+        _ => Err(StoreFault::Store),
+    }
+}
+
+/// The fact that the body of the row with this number is.
+fn body_of(alloc: Global, row: &Row, number: i64) -> Result<Fact, StoreFault>
+    ensures body { IfOk result (HasBody row.now) }
+    ensures refused { IfErr result (IsBodyFault row.now number) }
+{
+    match row.get_ref(1) {
+        Ok(ValueRef::Text(text)) => match decode_fact(alloc, text) {
+            Ok(fact) => Ok(fact),
+            Err(FactFault::NotAFact) => Err(StoreFault::Damaged(number)),
+            Err(FactFault::OutOfMemory) => Err(StoreFault::OutOfMemory),
+        },
+        Ok(_) => Err(StoreFault::Damaged(number)),
+        Err(_) => Err(StoreFault::Store),
+    }
+}
+
+/// The fact that a row is, where the number that comes next is this one. Two rows of a table never
+/// have one number, so a number that came before is the database's failure.
+fn read_row(alloc: Global, row: &Row, next: u64) -> Result<Fact, StoreFault>
+    ensures fact { IfOk result (IsFactRow next row.now) }
+    ensures refused { IfErr result (IsRowFault next row.now) }
+{
+    let number = number_of(row)?;
+    if number < 1 {
+        return Err(StoreFault::Damaged(number));
+    }
+    let place = number as u64;
+    if next < place {
+        return Err(StoreFault::Gap(next));
+    }
+    if place < next {
+        return Err(StoreFault::Store);
+    }
+    body_of(alloc, row, number)
+}
+
+/// The facts that rows are, which come in the order of their numbers. The first fault by number.
+pub fn read_facts(alloc: Global, rows: &[Row]) -> Result<Vec<Fact>, StoreFault>
+    ensures facts { IfOk result (λ facts. AreFactsFrom 1 rows.now facts.items) }
+    ensures refused { IfErr result (IsReadFault rows.now) }
+{
+    let mut facts = Vec::new(alloc);
+    let mut next = 1u64;
+    'rows: for row in rows {
+        let fact = read_row(alloc, row, next)?;
+        facts.push(fact)?;
+        next += 1;
+    }
+    Ok(facts)
+}

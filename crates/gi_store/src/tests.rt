@@ -1,0 +1,148 @@
+ghost use Rattle.std.specs.Prelude.{IfOk};
+ghost use Rattle.gi_facts.specs.Grammar.{IsWritable};
+
+mod desks;
+
+use super::*;
+use gi_facts::{Fact, FactFault, decode_fact, encode_fact};
+use sqlite::{Alter, Connection, MemStore, params};
+use std::alloc::Global;
+use std::fs;
+use std::test::Fail;
+
+const FIRST: &str = r#"{"cycle":34,"day":"2026-01-15","fact":"closed"}"#;
+
+const SECOND: &str = r#"{"cycle":35,"day":"2026-01-15","fact":"closed"}"#;
+
+/// The fact that a text is.
+fn fact(alloc: Global, text: &str) -> Result<Fact, FactFault>
+    ensures { IfOk result IsWritable }
+{
+    decode_fact(alloc, text.as_bytes())
+}
+
+/// What a call answers, as it is printed.
+fn printed(alloc: Global, answer: Result<(), StoreFault>) -> Result<String, Fail> {
+    Ok(match answer {
+        Ok(()) => "Ok".to_string(alloc)?,
+        Err(fault) => fault.to_string(alloc)?,
+    })
+}
+
+/// What is answered where a fact is saved.
+fn saved<S: Alter>(
+    alloc: Global,
+    book: &mut BookStore<S>,
+    n: u32,
+    text: &str,
+) -> Result<String, Fail> {
+    let fact = fact(alloc, text)?;
+    let answer = book.save_next(n, &fact);
+    printed(alloc, answer)
+}
+
+/// The texts of the facts that a book has, one a line, or why it is not loaded.
+fn loaded<S: Alter>(alloc: Global, book: &mut BookStore<S>) -> Result<String, Fail> {
+    let facts = match book.load() {
+        Ok(facts) => facts,
+        Err(fault) => return Ok(fault.to_string(alloc)?),
+    };
+    let mut lines = String::new(alloc);
+    for fact in &facts {
+        let bytes = encode_fact(alloc, fact)?;
+        lines.push_str(str::from_utf8(bytes.as_slice())?)?;
+        lines.push_str("\n")?;
+    }
+    Ok(lines)
+}
+
+/// A database with a book of no facts.
+fn prepared(alloc: Global) -> Result<Connection<MemStore>, Fail> {
+    let mut connection = Connection::open_in_memory(alloc)?;
+    prepare(&mut connection)?;
+    Ok(connection)
+}
+
+/// Adds a row to the facts, whatever its body is.
+fn add(connection: &mut Connection<MemStore>, n: i64, body: &str) -> Result<(), Fail> {
+    connection.execute("INSERT INTO facts VALUES (?1, ?2)", params![n, body])?;
+    Ok(())
+}
+
+/// What loading a book with these rows answers.
+fn loaded_rows(alloc: Global, rows: &[(i64, &str)]) -> Result<String, Fail> {
+    let mut connection = prepared(alloc)?;
+    for (n, body) in rows {
+        add(&mut connection, *n, body)?;
+    }
+    let mut book = BookStore::open(alloc, connection)?;
+    loaded(alloc, &mut book)
+}
+
+#[test]
+fn a_book_is_loaded_and_then_saved(rt: HostRuntime) -> Result<(), Fail> {
+    let alloc = rt.alloc();
+    let mut book = BookStore::open(alloc, Connection::open_in_memory(alloc)?)?;
+    assert_eq!(rt; saved(alloc, &mut book, 1, FIRST)?.as_str(), "NotLoaded");
+    assert_eq!(rt; book.count(), None);
+    assert_eq!(rt; loaded(alloc, &mut book)?.as_str(), "");
+    assert_eq!(rt; saved(alloc, &mut book, 1, FIRST)?.as_str(), "Ok");
+    assert_eq!(rt; saved(alloc, &mut book, 2, SECOND)?.as_str(), "Ok");
+    assert_eq!(rt; saved(alloc, &mut book, 2, SECOND)?.as_str(), "NotNext 3");
+    assert_eq!(rt; book.count(), Some(2));
+    let both = format!(in alloc; "{FIRST}\n{SECOND}\n")?;
+    assert_eq!(rt; loaded(alloc, &mut book)?.as_str(), both.as_str());
+    Ok(())
+}
+
+#[test]
+fn a_book_of_another_version_is_refused(rt: HostRuntime) -> Result<(), Fail> {
+    let alloc = rt.alloc();
+    let mut connection = prepared(alloc)?;
+    connection.execute("UPDATE book SET version = 7", &[])?;
+    assert_eq!(rt; prepare(&mut connection), Err(StoreFault::Version));
+    connection.execute("DELETE FROM book", &[])?;
+    assert_eq!(rt; prepare(&mut connection), Err(StoreFault::Version));
+    let opened = BookStore::open(alloc, connection).map(|_| ());
+    assert_eq!(rt; opened, Err(StoreFault::Version));
+    let mut other = Connection::open_in_memory(alloc)?;
+    other.execute("CREATE TABLE note (n INTEGER PRIMARY KEY)", &[])?;
+    assert_eq!(rt; prepare(&mut other), Err(StoreFault::Version));
+    Ok(())
+}
+
+#[test]
+fn rows_that_are_no_facts_are_told(rt: HostRuntime) -> Result<(), Fail> {
+    let alloc = rt.alloc();
+    let gap = [(1, FIRST), (2, SECOND), (3, FIRST), (4, SECOND), (6, FIRST)];
+    assert_eq!(rt; loaded_rows(alloc, &gap)?.as_str(), "Gap 5");
+    let damaged = [(1, FIRST), (2, SECOND), (3, FIRST), (4, SECOND), (5, "{}")];
+    assert_eq!(rt; loaded_rows(alloc, &damaged)?.as_str(), "Damaged 5");
+    assert_eq!(rt;
+        loaded_rows(alloc, &[(1, FIRST), (0, SECOND)])?.as_str(),
+        "Damaged 0"
+    );
+    assert_eq!(rt;
+        loaded_rows(alloc, &[(3, "{}"), (-4, FIRST)])?.as_str(),
+        "Damaged -4"
+    );
+    Ok(())
+}
+
+#[test]
+fn a_book_stays_in_its_file(rt: HostRuntime) -> Result<(), Fail> {
+    let alloc = rt.alloc();
+    let _ = fs::remove_dir_all(&rt, "gi_store_test");
+    fs::create_dir(&rt, "gi_store_test")?;
+    let mut book = BookStore::open(alloc, Connection::open(&rt, "gi_store_test/i.db")?)?;
+    assert_eq!(rt; loaded(alloc, &mut book)?.as_str(), "");
+    assert_eq!(rt; saved(alloc, &mut book, 1, FIRST)?.as_str(), "Ok");
+    drop(book);
+    let mut again = BookStore::open(alloc, Connection::open(&rt, "gi_store_test/i.db")?)?;
+    let one = format!(in alloc; "{FIRST}\n")?;
+    assert_eq!(rt; loaded(alloc, &mut again)?.as_str(), one.as_str());
+    assert_eq!(rt; saved(alloc, &mut again, 2, SECOND)?.as_str(), "Ok");
+    drop(again);
+    fs::remove_dir_all(&rt, "gi_store_test")?;
+    Ok(())
+}
