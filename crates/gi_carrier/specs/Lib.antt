@@ -1,0 +1,7 @@
+pub mod Limits
+pub mod Moves
+pub mod Carrier
+pub mod Kept
+pub mod Calls
+pub mod FaultText
+pub mod Laws
