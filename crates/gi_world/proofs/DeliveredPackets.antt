@@ -70,11 +70,11 @@ some_at [] i below = absurd (omega (arith, below))
 some_at (fact ∷ facts) zero below = (fact, refl)
 some_at (fact ∷ facts) (suc i) below = some_at facts i (omega (arith, below))
 
-some_fact : (facts : List Fact) (n : ℕ) → 1 ≤ n → n ≤ length facts → (fact : Fact) × IsFact facts n fact
+pub some_fact : (facts : List Fact) (n : ℕ) → 1 ≤ n → n ≤ length facts → (fact : Fact) × IsFact facts n fact
 some_fact facts n from to = let found = some_at facts (n - 1) (omega (arith, from, to)) in (found.0, (from, to, found.1))
 
 -- one of the first facts is so among them
-saved_fact : (facts : List Fact) (saved n : ℕ) (fact : Fact) → IsFact facts n fact → n ≤ saved → IsFact (take saved facts) n fact
+pub saved_fact : (facts : List Fact) (saved n : ℕ) (fact : Fact) → IsFact facts n fact → n ≤ saved → IsFact (take saved facts) n fact
 saved_fact facts saved n fact is below =
     let from = is.0 in
     let to = is.1 in
@@ -82,16 +82,16 @@ saved_fact facts saved n fact is below =
 
 -- ---- what is written is read
 
-reads : (message : Message) → Fits message → HasFewLines message → decoded (text_of message) ≡ Ok message
+pub reads : (message : Message) → Fits message → HasFewLines message → decoded (text_of message) ≡ Ok message
 reads message fits few = let writable = writable_from_fits message fits in round_trip message writable (texts_are_short message writable few)
 
-order_reads : (point : List ℕ) (cycle : FrozenCycle) → IsCode point → FitsFrozen cycle
+pub order_reads : (point : List ℕ) (cycle : FrozenCycle) → IsCode point → FitsFrozen cycle
     → decoded (text_of (messages.Delord (order_of point cycle))) ≡ Ok (messages.Delord (order_of point cycle))
 order_reads point cycle code fits =
     reads (messages.Delord (order_of point cycle))
     (record { point = code; day = fits.id.day; cycle = fits.id.cycle; processed = fits.own.table; few = fits.own.few }) tt
 
-response_reads : (point : List ℕ) (cycle : MatchedCycle) → IsCode point → FitsMatched cycle
+pub response_reads : (point : List ℕ) (cycle : MatchedCycle) → IsCode point → FitsMatched cycle
     → decoded (text_of (messages.Delres (response_of point cycle))) ≡ Ok (messages.Delres (response_of point cycle))
 response_reads point cycle code fits =
     reads (messages.Delres (response_of point cycle))
@@ -108,25 +108,25 @@ response_reads point cycle code fits =
 
 -- ---- the state of a closed cycle can be written
 
-closed_is : (side : Side) (facts : List Fact) (id : CycleId) → is_closed id facts ≡ true → state_of side facts id ≡ met_by (frozen_cycle side facts id) (peer_of id facts)
+pub closed_is : (side : Side) (facts : List Fact) (id : CycleId) → is_closed id facts ≡ true → state_of side facts id ≡ met_by (frozen_cycle side facts id) (peer_of id facts)
 unfolding state_of
 closed_is side facts id closed = rw closed refl
 
-closed_fits : (side : Side) (point : List ℕ) (facts : List Fact) (id : CycleId) → FitsDesk side point facts → is_closed id facts ≡ true
+pub closed_fits : (side : Side) (point : List ℕ) (facts : List Fact) (id : CycleId) → FitsDesk side point facts → is_closed id facts ≡ true
     → FitsState (met_by (frozen_cycle side facts id) (peer_of id facts))
 closed_fits side point facts id fits closed = subst FitsState (closed_is side facts id closed) (state-fits side facts id fits.states closed)
 
-frozen_fits : (cycle : FrozenCycle) (met : Option TableContents) → FitsState (met_by cycle met) → FitsFrozen cycle
+pub frozen_fits : (cycle : FrozenCycle) (met : Option TableContents) → FitsState (met_by cycle met) → FitsFrozen cycle
 frozen_fits cycle None fits = fits
 frozen_fits cycle (Some peer) fits = record { id = fits.id; own = fits.own }
 
 -- ---- what a closing and a meeting let out to the peer
 
-ordered_by : (point : List ℕ) (cycle : FrozenCycle) (met : Option TableContents) → let_out_on_closing I point (met_by cycle met) ≡ to_peer (messages.Delord (order_of point cycle)) ∷ []
+pub ordered_by : (point : List ℕ) (cycle : FrozenCycle) (met : Option TableContents) → let_out_on_closing I point (met_by cycle met) ≡ to_peer (messages.Delord (order_of point cycle)) ∷ []
 ordered_by point cycle None = refl
 ordered_by point cycle (Some peer) = refl
 
-unanswered_by : (point : List ℕ) (cycle : FrozenCycle) (met : Option TableContents) → let_out_on_closing M point (met_by cycle met) ≡ []
+pub unanswered_by : (point : List ℕ) (cycle : FrozenCycle) (met : Option TableContents) → let_out_on_closing M point (met_by cycle met) ≡ []
 unanswered_by point cycle None = refl
 unanswered_by point cycle (Some peer) = refl
 
@@ -154,10 +154,10 @@ meeting_writes side point facts n id peer legal is =
     let matched : state_of side facts id ≡ Matched cycle = closed_is side facts id met.0 ∙ ap (met_by (frozen_cycle side facts id)) met.1 in
     sym (meeting_for_peer side point facts n id peer cycle legal is (sym matched))
 
-none_there : (packets : List Packet) (packet : Packet) → packets ≡ [] → Contains packets packet → ⊥
+pub none_there : (packets : List Packet) (packet : Packet) → packets ≡ [] → Contains packets packet → ⊥
 none_there packets packet none there = in_from_contains packet [] (subst (λ (out : List Packet). Contains out packet) none there)
 
-one_there : (packets : List Packet) (one packet : Packet) → packets ≡ one ∷ [] → Contains packets packet → one ≡ packet
+pub one_there : (packets : List Packet) (one packet : Packet) → packets ≡ one ∷ [] → Contains packets packet → one ≡ packet
 one_there packets one packet is there = the_one one packet (subst (λ (out : List Packet). Contains out packet) is there)
 
 abbrev ToPeer : Side → DeskState → ℕ → List Packet
@@ -224,7 +224,7 @@ sent-order w packet legal fits is =
     let to = is.to in
     let within = legal.within in
     let fact = some_fact s.facts is.n is.from (omega (arith, to, within)) in
-    order_of_fact w is.n fact.0 packet legal fits to fact.1 (kept is_for_peer (let_out I s.point s.facts is.n) packet is.let_out_by is.for_peer)
+    order_of_fact w is.n fact.0 packet legal fits to fact.1 (kept is_for_peer (let_out I s.point s.facts is.n) packet is.let_out_by is.passes)
 
 pub sent-response : (w : WorldState) (packet : Packet) → let s = w.matching.desk in IsLegal M s → FitsDesk M s.point s.facts → IsSent M s packet → IsResponded w packet
 sent-response w packet legal fits is =
@@ -232,7 +232,7 @@ sent-response w packet legal fits is =
     let to = is.to in
     let within = legal.within in
     let fact = some_fact s.facts is.n is.from (omega (arith, to, within)) in
-    response_of_fact w is.n fact.0 packet legal fits to fact.1 (kept is_for_peer (let_out M s.point s.facts is.n) packet is.let_out_by is.for_peer)
+    response_of_fact w is.n fact.0 packet legal fits to fact.1 (kept is_for_peer (let_out M s.point s.facts is.n) packet is.let_out_by is.passes)
 
 pub delivered-order : (w : WorldState) (n : ℕ) (packet : Packet) → IsSound w → FitsWorld w → delivery w M n ≡ Some packet → IsOrdered w packet
 delivered-order w n packet sound fits e = sent-order w packet (sound.legal I) (fits I) (holds_of (IsSent I w.initiating.desk) w.initiating.sent n packet (sound.sent I) e)

@@ -117,11 +117,11 @@ tables_at : (side : Side) (w : WorldState) (id : CycleId) → is_some (table_con
 tables_at I w id = has_table I (held_by w.initiating) id
 tables_at M w id = has_table M (held_by w.matching) id
 
-confirmed_at : (side : Side) (w : WorldState) (id : CycleId) → confirmed side (station_of side w).desk id ≡ table_confirmed side (history_of side (held w)) id
+pub confirmed_at : (side : Side) (w : WorldState) (id : CycleId) → confirmed side (station_of side w).desk id ≡ table_confirmed side (history_of side (held w)) id
 confirmed_at I w id = desk_confirms I w.initiating id
 confirmed_at M w id = desk_confirms M w.matching id
 
-lower_at : (w : WorldState) → IsSound w → FitsWorld w → (side : Side) (id : CycleId) (table : TableContents) → table_confirmed side (history_of side (held w)) id ≡ Some table
+pub lower_at : (w : WorldState) → IsSound w → FitsWorld w → (side : Side) (id : CycleId) (table : TableContents) → table_confirmed side (history_of side (held w)) id ≡ Some table
     → IsLowerOfFrozen (held w) id table
 lower_at w sound fits side id table e =
     let lower = confirms-lower w sound fits side id table (confirmed_at side w id ∙ e) in

@@ -4,10 +4,13 @@ mod DeliveredPackets
 mod FirstFacts
 mod Fronts
 mod FrozenTables
+mod Halted
 mod HistoryConfirms
 mod HistoryLaws
 mod Meetings
 mod MemoryWanted
+mod Numbers
+mod OneQuantity
 mod Opening
 mod Recorded
 mod RunLaws
@@ -16,3 +19,4 @@ mod SentPackets
 mod Soundness
 mod StationLemmas
 mod StepKeeping
+mod ToldPackets

@@ -24,7 +24,7 @@ use Rattle.gi_desk.specs.declared.outcome.Outcome.TheVariants.{Records, RepeatsN
 use Rattle.gi_desk.specs.declared.packet.Packet.{Packet}
 use Rattle.gi_desk.proofs.StepFacts.{only-appends}
 use Rattle.gi_world.specs.Agreement.{FitsWorld, IsOrdered, IsResponded, IsSound, MeetsAfter, MeetsFrozen, saved_facts}
-use Rattle.gi_world.specs.Histories.{fact_of, meeting_in, nomination_in}
+use Rattle.gi_world.specs.Histories.{fact_named_by, meeting_in, nomination_in}
 use Rattle.gi_world.specs.World.{StationState, WorldState, after, after_call, after_delivery, after_if, after_restart, delivery, is_delivery, new_world, other, station_of, with_station}
 use Rattle.gi_world.specs.declared.step.Step.{Step}
 use Rattle.gi_world.specs.declared.step.Step.TheVariants.{Local, Deliver, Restart}
@@ -75,14 +75,14 @@ meets_by s (Resends id') expected id table names met = inl met
 meets_by s Stops expected id table names met = inl met
 meets_by s (Refuses refusal) expected id table names met = inl met
 
-call_moved : (side : Side) (s : DeskState) (call : Call) → s.saved ≤ length s.facts → IsMoved s (desk_after side s call) (fact_of call)
+call_moved : (side : Side) (s : DeskState) (call : Call) → s.saved ≤ length s.facts → IsMoved s (desk_after side s call) (fact_named_by call)
 unfolding desk_after
 call_moved side s call within =
     let next = next_of s (desk_outcome side s call) in
     let grown = only-appends side s call in
     record {
       front = front-more s.facts next.facts s.saved next.saved grown.1 within grown.0;
-      meets = λ id table met. meets_by s (desk_outcome side s call) (fact_of call) id table (records-named side s call) met;
+      meets = λ id table met. meets_by s (desk_outcome side s call) (fact_named_by call) id table (records-named side s call) met;
     }
 
 abbrev kept : DeskState → ℕ → DeskState
@@ -168,11 +168,11 @@ with_moved M w station new are moved may = record {
 
 -- ---- steps
 
-called_met : (side : Side) (w : WorldState) (call : Call) → AreMet w → (station_of side w).desk.saved ≤ length (station_of side w).desk.facts → MayMeet side w (fact_of call)
+called_met : (side : Side) (w : WorldState) (call : Call) → AreMet w → (station_of side w).desk.saved ≤ length (station_of side w).desk.facts → MayMeet side w (fact_named_by call)
     → AreMet (with_station side (after_call side (station_of side w) call) w)
 unfolding after_call
 called_met side w call are within may =
-    with_moved side w (after_call side (station_of side w) call) (fact_of call) are (call_moved side (station_of side w).desk call within) may
+    with_moved side w (after_call side (station_of side w) call) (fact_named_by call) are (call_moved side (station_of side w).desk call within) may
 
 nominates : (read : Result Message MessageFault) (id : CycleId) (table : TableContents) → nomination_in read ≡ Some (Met id table) → ⊥
 nominates (Err fault) id table e = absurd cc
@@ -183,7 +183,7 @@ nominates (Ok (messages.Delord message)) id table e = absurd cc
 nominates (Ok (messages.Delres message)) id table e = absurd cc
 
 -- a call that is no delivery meets no table
-meets_none : (call : Call) (id : CycleId) (table : TableContents) → is_delivery call ≡ false → fact_of call ≡ Some (Met id table) → ⊥
+meets_none : (call : Call) (id : CycleId) (table : TableContents) → is_delivery call ≡ false → fact_named_by call ≡ Some (Met id table) → ⊥
 meets_none (calls.Contract contract) id table local e = absurd cc
 meets_none (calls.Notice notice) id table local e = absurd cc
 meets_none (calls.Submit body) id table local e = nominates (decoded body) id table e

@@ -35,7 +35,7 @@ use Rattle.gi_desk.specs.declared.outcome.Outcome.{Outcome}
 use Rattle.gi_desk.specs.declared.outcome.Outcome.TheVariants.{Records, RepeatsNomination, RepeatsMeeting, Saves, Resends, Stops, Refuses}
 use Rattle.gi_desk.specs.declared.refusal.Refusal.{Refusal}
 use Rattle.gi_desk.specs.declared.refusal.Refusal.TheVariants as refusals
-use Rattle.gi_world.specs.Histories.{fact_of, meeting_in, nomination_in}
+use Rattle.gi_world.specs.Histories.{fact_named_by, meeting_in, nomination_in}
 
 -- where an outcome records a fact, it is this one, and where it saves one, that is the next
 abbrev pub Names : Option Fact → ℕ → Outcome → Type 0
@@ -168,7 +168,7 @@ closing saved history id =
     (either (Some (Closed id)) saved (is_closed id history) (Refuses refusals.AlreadyClosed) then (refuses (Some (Closed id)) saved refusals.AlreadyClosed)
     (later saved id.cycle last (Closed id)))
 
-own_call : (side : Side) (s : DeskState) (call : Call) → Names (fact_of call) s.saved (comes_to side s call)
+own_call : (side : Side) (s : DeskState) (call : Call) → Names (fact_named_by call) s.saved (comes_to side s call)
 own_call side s (calls.Contract contract) =
     either (Some (Contracted contract)) s.saved (is_refused contract (capacity_of s.facts).contracts) (Refuses refusals.TooManyPortfolios) (Records (Contracted contract))
     (refuses (Some (Contracted contract)) s.saved refusals.TooManyPortfolios) (records_it s.saved (Contracted contract))
@@ -183,8 +183,8 @@ own_call side s (calls.MarkSaved n fact) = mark_if s.saved n fact (slice_get s.f
 own_call side s calls.Halt = (λ fact e. absurd cc, λ n e. absurd cc)
 
 -- of every call at a desk
-pub records-named : (side : Side) (s : DeskState) (call : Call) → Names (fact_of call) s.saved (outcome side s call)
+pub records-named : (side : Side) (s : DeskState) (call : Call) → Names (fact_named_by call) s.saved (outcome side s call)
 unfolding outcome
 records-named side s call =
-    either (fact_of call) s.saved s.halted (Refuses refusals.Halted) (unless_full s.facts (comes_to side s call)) (refuses (fact_of call) s.saved refusals.Halted)
-    (full (fact_of call) s.saved s.facts (comes_to side s call) (own_call side s call))
+    either (fact_named_by call) s.saved s.halted (Refuses refusals.Halted) (unless_full s.facts (comes_to side s call)) (refuses (fact_named_by call) s.saved refusals.Halted)
+    (full (fact_named_by call) s.saved s.facts (comes_to side s call) (own_call side s call))

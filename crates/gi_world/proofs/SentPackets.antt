@@ -1,5 +1,5 @@
--- What a side let out to its peer stays what its saved facts let out, and its facts stay legal.
-use Rattle.std.proofs.Common.{arith, ◌≡◌, ◌≤◌, ◌-◌, ℕ, List, [], ◌∷◌, length, length-take, take, take-take, get_or, filter, slice_get, All, Contains, Bool, true, Some, None, refl, sym, ap, ◌∙◌, subst}
+-- What a side let out to its peer, and what it told, stays what its saved facts let out; and its facts stay legal.
+use Rattle.std.proofs.Common.{arith, ◌≡◌, ◌≤◌, ◌-◌, ℕ, List, [], ◌∷◌, ◌++◌, length, length-take, take, take-take, get_or, filter, slice_get, All, Contains, Bool, true, Some, None, refl, sym, ap, ◌∙◌, subst}
 use Rattle.std.proofs.lemmas.List.Elements.{All-append, All-contains_itself, All-filter, All-nil, All-weaker, filter_passes}
 use Rattle.gi_pairs.specs.declared.side.Side.{Side}
 use Rattle.gi_pairs.specs.declared.side.Side.TheVariants.{I, M}
@@ -15,24 +15,24 @@ use Rattle.gi_desk.specs.declared.packet.Packet.{Packet}
 use Rattle.gi_desk.proofs.Legality.{legal-front}
 use Rattle.gi_desk.proofs.StateLaws.{lets_out}
 use Rattle.gi_desk.proofs.StepFacts.{only-appends, says-only-what-is-saved, stays-legal}
-use Rattle.gi_world.specs.Agreement.{IsLegal, IsSent, IsSound, MeetsFrozen}
-use Rattle.gi_world.specs.World.{StationState, WorldState, after, after_call, after_restart, new_world, other, station_of}
+use Rattle.gi_world.specs.Agreement.{IsLegal, IsLetOut, IsSent, IsSound, IsTold, MeetsFrozen}
+use Rattle.gi_world.specs.World.{StationState, WorldState, after, after_call, after_restart, new_world, other, station_of, tells}
 use Rattle.gi_world.specs.declared.step.Step.{Step}
 use Rattle.gi_world.proofs.StationLemmas.{after-keeps}
 
--- ---- a packet once sent stays so
+-- ---- a packet once let out stays so
 
 -- where each saved fact lets out what it did, and what is saved stays so
-sent_still : (side : Side) (s next : DeskState) → ((n : ℕ) → n ≤ s.saved → let_out side next.point next.facts n ≡ let_out side s.point s.facts n) → s.saved ≤ next.saved
-    → (packet : Packet) → IsSent side s packet → IsSent side next packet
-sent_still side s next same below packet is =
+still : (is_so : Packet → Bool) (side : Side) (s next : DeskState) → ((n : ℕ) → n ≤ s.saved → let_out side next.point next.facts n ≡ let_out side s.point s.facts n) → s.saved ≤ next.saved
+    → (packet : Packet) → IsLetOut is_so side s packet → IsLetOut is_so side next packet
+still is_so side s next same below packet is =
     let to = is.to in
     record {
       n = is.n;
       from = is.from;
       to = omega (arith, to, below);
       let_out_by = subst (λ (out : List Packet). Contains out packet) (sym (same is.n to)) is.let_out_by;
-      for_peer = is.for_peer;
+      passes = is.passes;
     }
 
 kept_by : (side : Side) (s : DeskState) (o : Outcome) (n : ℕ) → n ≤ length s.facts → let_out side (next_of s o).point (next_of s o).facts n ≡ let_out side s.point s.facts n
@@ -71,20 +71,20 @@ said_after : (side : Side) (s : DeskState) (call : Call) (n : ℕ) (packet : Pac
 unfolding desk_after reply
 said_after side s call n packet there = said_by side s (desk_outcome side s call) n packet there
 
-sent_now : (side : Side) (s : DeskState) (call : Call) (packet : Packet) → Contains (reply side s call).out packet → is_for_peer packet ≡ true
-    → IsSent side (desk_after side s call) packet
-sent_now side s call packet there peer =
+now : (is_so : Packet → Bool) (side : Side) (s : DeskState) (call : Call) (packet : Packet) → Contains (reply side s call).out packet → is_so packet ≡ true
+    → IsLetOut is_so side (desk_after side s call) packet
+now is_so side s call packet there passes =
     let said = says-only-what-is-saved side s call packet there in
     record {
       n = said.0;
       from = said.1;
       to = said.2;
       let_out_by = subst (λ (out : List Packet). Contains out packet) (said_after side s call said.0 packet there) said.3;
-      for_peer = peer;
+      passes = passes;
     }
 
 -- what a test keeps of a list
-all_kept : {X : Type 0} (P : X → Type 0) (test : X → Bool) (xs : List X) → ((x : X) → Contains xs x → test x ≡ true → P x) → All P (filter test xs)
+pub all_kept : {X : Type 0} (P : X → Type 0) (test : X → Bool) (xs : List X) → ((x : X) → Contains xs x → test x ≡ true → P x) → All P (filter test xs)
 all_kept P test xs holds k d below =
     holds (get_or (filter test xs) k d) (All-filter test (Contains xs) xs (All-contains_itself xs) k d below) (filter_passes test xs k d below)
 
@@ -94,43 +94,61 @@ all_kept P test xs holds k d below =
 pub record IsSoundStation (side : Side) (station : StationState) : Type 0 where
   pub legal : IsLegal side station.desk
   pub sent : All (IsSent side station.desk) station.sent
+  pub told : All (IsTold side station.desk) station.told
+
+-- of packets that a call adds to
+all_after : (is_so : Packet → Bool) (side : Side) (s : DeskState) (call : Call) (packets : List Packet) → s.saved ≤ length s.facts → All (IsLetOut is_so side s) packets
+    → All (IsLetOut is_so side (desk_after side s call)) (packets ++ filter is_so (reply side s call).out)
+all_after is_so side s call packets within all =
+    let next = desk_after side s call in
+    let saved = (only-appends side s call).1 in
+    All-append (IsLetOut is_so side next) packets (filter is_so (reply side s call).out)
+    (All-weaker (IsLetOut is_so side s) (IsLetOut is_so side next) (still is_so side s next (λ n below. kept_on_call side s call n (omega (arith, below, within))) saved) packets all)
+    (all_kept (IsLetOut is_so side next) is_so (reply side s call).out (now is_so side s call))
 
 sound_call : (side : Side) (station : StationState) (call : Call) → IsSoundStation side station → IsSoundStation side (after_call side station call)
 unfolding after_call
 sound_call side station call sound =
     let s = station.desk in
-    let next = desk_after side s call in
     let within = sound.legal.within in
     let stays = stays-legal side s call in
-    let saved = (only-appends side s call).1 in
     record {
       legal = record { legal = stays.0 sound.legal.legal; within = stays.1 within };
-      sent =
-          All-append (IsSent side next) station.sent (filter is_for_peer (reply side s call).out)
-          (All-weaker (IsSent side s) (IsSent side next) (sent_still side s next (λ n below. kept_on_call side s call n (omega (arith, below, within))) saved) station.sent sound.sent)
-          (all_kept (IsSent side next) is_for_peer (reply side s call).out (sent_now side s call));
+      sent = all_after is_for_peer side s call station.sent within sound.sent;
+      told = all_after tells side s call station.told within sound.told;
     }
+
+-- of packets that a restart keeps
+all_again : (is_so : Packet → Bool) (side : Side) (station : StationState) (keep : ℕ) (packets : List Packet) → station.desk.saved ≤ keep
+    → All (IsLetOut is_so side station.desk) packets → All (IsLetOut is_so side (after_restart station keep).desk) packets
+unfolding after_restart
+all_again is_so side station keep packets above all =
+    let s = station.desk in
+    let next = (after_restart station keep).desk in
+    All-weaker (IsLetOut is_so side s) (IsLetOut is_so side next) (still is_so side s next (λ n below. kept_on_restart side s.point s.facts n keep (omega (arith, below, above))) above) packets all
 
 sound_restart : (side : Side) (station : StationState) (keep : ℕ) → station.desk.saved ≤ keep → keep ≤ length station.desk.facts → IsSoundStation side station
     → IsSoundStation side (after_restart station keep)
 unfolding after_restart
 sound_restart side station keep above within sound =
     let s = station.desk in
-    let next = (after_restart station keep).desk in
     record {
       legal = record { legal = legal-front side s.point s.facts keep sound.legal.legal; within = grind (length-take, arith, within) };
-      sent =
-          All-weaker (IsSent side s) (IsSent side next) (sent_still side s next (λ n below. kept_on_restart side s.point s.facts n keep (omega (arith, below, above))) above) station.sent sound.sent;
+      sent = all_again is_for_peer side station keep station.sent above sound.sent;
+      told = all_again tells side station keep station.told above sound.told;
     }
 
 pub stations-sound : (w : WorldState) (step : Step) → IsSound w → (side : Side) → IsSoundStation side (station_of side (after w step))
-stations-sound w step sound = after-keeps IsSoundStation sound_call sound_restart w step (λ side. record { legal = sound.legal side; sent = sound.sent side })
+stations-sound w step sound = after-keeps IsSoundStation sound_call sound_restart w step (λ side. record { legal = sound.legal side; sent = sound.sent side; told = sound.told side })
 
 pub legal-sound : (w : WorldState) (step : Step) → IsSound w → (side : Side) → IsLegal side (station_of side (after w step)).desk
 legal-sound w step sound side = (stations-sound w step sound side).legal
 
 pub sent-sound : (w : WorldState) (step : Step) → IsSound w → (side : Side) → All (IsSent side (station_of side (after w step)).desk) (station_of side (after w step)).sent
 sent-sound w step sound side = (stations-sound w step sound side).sent
+
+pub told-sound : (w : WorldState) (step : Step) → IsSound w → (side : Side) → All (IsTold side (station_of side (after w step)).desk) (station_of side (after w step)).told
+told-sound w step sound side = (stations-sound w step sound side).told
 
 -- ---- the point
 
@@ -176,6 +194,7 @@ new-sound point = record {
   point = refl;
   legal = legal;
   sent = sent;
+  told = told;
   met = met;
   after = λ id table e. absurd (none_met table e);
 }
@@ -187,6 +206,10 @@ new-sound point = record {
     sent : (side : Side) → All (IsSent side (station_of side (new_world point)).desk) (station_of side (new_world point)).sent
     sent I = All-nil (IsSent I (new_world point).initiating.desk)
     sent M = All-nil (IsSent M (new_world point).matching.desk)
+
+    told : (side : Side) → All (IsTold side (station_of side (new_world point)).desk) (station_of side (new_world point)).told
+    told I = All-nil (IsTold I (new_world point).initiating.desk)
+    told M = All-nil (IsTold M (new_world point).matching.desk)
 
     met : (side : Side) → MeetsFrozen side (station_of side (new_world point)).desk (station_of (other side) (new_world point)).desk
     met I id table e = absurd (none_met table e)

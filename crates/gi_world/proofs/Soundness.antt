@@ -8,13 +8,14 @@ use Rattle.gi_world.specs.World.{WorldState, after, station_of}
 use Rattle.gi_world.specs.declared.step.Step.{Step}
 use Rattle.gi_world.proofs.DeliveredPackets.{delivered-order, delivered-response, sent-order, sent-response}
 use Rattle.gi_world.proofs.Meetings.{after-sound, met-sound}
-use Rattle.gi_world.proofs.SentPackets.{legal-sound, point-sound, sent-sound}
+use Rattle.gi_world.proofs.SentPackets.{legal-sound, point-sound, sent-sound, told-sound}
 
 pub step-sound : (w : WorldState) (step : Step) → IsSound w → FitsWorld w → IsSound (after w step)
 step-sound w step sound fits = record {
   point = point-sound w step sound;
   legal = legal-sound w step sound;
   sent = sent-sound w step sound;
+  told = told-sound w step sound;
   met = met-sound delivered-order delivered-response w step sound fits;
   after = after-sound delivered-order delivered-response w step sound fits;
 }

@@ -18,7 +18,7 @@ use Rattle.gi_facts.specs.declared.fact.Fact.{Fact}
 use Rattle.gi_desk.specs.declared.packet.Packet.{Packet}
 use Rattle.gi_desk.specs.declared.refusal.Refusal.{Refusal}
 use Rattle.gi_desk.specs.declared.refusal.Refusal.TheVariants as refusals
-use Rattle.gi_world.specs.World.{WorldState, other, station_of}
+use Rattle.gi_world.specs.World.{WorldState, other, station_of, tells}
 use Rattle.gi_world.specs.declared.step.Step.{Step}
 use Rattle.gi_world.specs.declared.step.Step.TheVariants.{Local, Deliver, Restart}
 use Rattle.gi_world.specs.declared.world_fault.WorldFault.{WorldFault}
@@ -34,13 +34,20 @@ pub record IsLegal (side : Side) (s : DeskState) : Type 0 where
   pub legal : bad_fact side s.point s.facts ≡ None
   pub within : s.saved ≤ length s.facts
 
--- a packet for the peer, which a saved fact lets out
-pub record IsSent (side : Side) (s : DeskState) (packet : Packet) : Type 0 where
+-- a packet of a kind, which a saved fact lets out
+pub record IsLetOut (is_so : Packet → Bool) (side : Side) (s : DeskState) (packet : Packet) : Type 0 where
   pub n : ℕ
   pub from : 1 ≤ n
   pub to : n ≤ s.saved
   pub let_out_by : Contains (let_out side s.point s.facts n) packet
-  pub for_peer : is_for_peer packet ≡ true
+  pub passes : is_so packet ≡ true
+
+-- one for the peer, and one that tells
+abbrev pub IsSent : Side → DeskState → Packet → Type 0
+IsSent = IsLetOut is_for_peer
+
+abbrev pub IsTold : Side → DeskState → Packet → Type 0
+IsTold = IsLetOut tells
 
 -- Each table that a side met is the one that the other side froze, whose closing is saved there.
 abbrev pub MeetsFrozen : Side → DeskState → DeskState → Type 0
@@ -58,6 +65,7 @@ pub record IsSound (w : WorldState) : Type 0 where
   pub point : w.matching.desk.point ≡ w.initiating.desk.point
   pub legal : (side : Side) → IsLegal side (station_of side w).desk
   pub sent : (side : Side) → All (IsSent side (station_of side w).desk) (station_of side w).sent
+  pub told : (side : Side) → All (IsTold side (station_of side w).desk) (station_of side w).told
   pub met : (side : Side) → MeetsFrozen side (station_of side w).desk (station_of (other side) w).desk
   pub after : MeetsAfter w.initiating.desk w.matching.desk
 

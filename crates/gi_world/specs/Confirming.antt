@@ -64,8 +64,8 @@ pub record IsLowerOfFrozen (both : Histories) (id : CycleId) (table : TableConte
   pub matching : closing_count id both.matching.facts ≡ 1
   pub reads : ReadsLower table (frozen_table I both.initiating.facts id) (frozen_table M both.matching.facts id)
 
--- One confirmed quantity: a side confirms a table of just the cycles that it has confirmed; it is the lower of both frozen
--- ones; what the initiating side has confirmed, the matching side has; and where both have, their tables read alike.
+-- A side confirms a table of just the cycles that it has confirmed; it is the lower of both frozen ones; what the initiating
+-- side has confirmed, the matching side has; and where both have, their tables read alike.
 pub record ConfirmsByHistory (both : Histories) : Type 0 where
   pub tables : (side : Side) (id : CycleId) → is_some (table_confirmed side (history_of side both) id) ≡ has_confirmed (history_of side both) id
   pub lower : (side : Side) (id : CycleId) (table : TableContents) → table_confirmed side (history_of side both) id ≡ Some table → IsLowerOfFrozen both id table

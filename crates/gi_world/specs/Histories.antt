@@ -65,15 +65,15 @@ meeting_in (Ok (Nomres message)) = None
 meeting_in (Ok (Delord message)) = Some (Met (record { day = message.day; cycle = message.cycle }) message.processed)
 meeting_in (Ok (Delres message)) = Some (Met (record { day = message.day; cycle = message.cycle }) message.processed)
 
-abbrev pub fact_of : Call → Option Fact
-fact_of (calls.Contract contract) = Some (Contracted contract)
-fact_of (calls.Notice notice) = Some (Noticed notice)
-fact_of (calls.Submit body) = nomination_in (decoded body)
-fact_of (calls.Close id) = Some (Closed id)
-fact_of (calls.Deliver body) = meeting_in (decoded body)
-fact_of (calls.Resend id) = None
-fact_of (calls.MarkSaved n fact) = None
-fact_of calls.Halt = None
+abbrev pub fact_named_by : Call → Option Fact
+fact_named_by (calls.Contract contract) = Some (Contracted contract)
+fact_named_by (calls.Notice notice) = Some (Noticed notice)
+fact_named_by (calls.Submit body) = nomination_in (decoded body)
+fact_named_by (calls.Close id) = Some (Closed id)
+fact_named_by (calls.Deliver body) = meeting_in (decoded body)
+fact_named_by (calls.Resend id) = None
+fact_named_by (calls.MarkSaved n fact) = None
+fact_named_by calls.Halt = None
 
 -- `Recorded` appends the fact that the call names, and `Saved` saves one more
 abbrev pub with_fact : List Fact → Option Fact → List Fact
@@ -81,7 +81,7 @@ with_fact facts None = facts
 with_fact facts (Some fact) = facts ++ fact ∷ []
 
 abbrev pub facts_with : List Fact → Call → Answer → List Fact
-facts_with facts call (Recorded n) = with_fact facts (fact_of call)
+facts_with facts call (Recorded n) = with_fact facts (fact_named_by call)
 facts_with facts call (Repeat n) = facts
 facts_with facts call (Saved n) = facts
 facts_with facts call Resent = facts

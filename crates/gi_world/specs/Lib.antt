@@ -4,5 +4,7 @@ pub mod Runs
 pub mod Histories
 pub mod Agreement
 pub mod Confirming
+pub mod Telling
+pub mod Headline
 pub mod FaultText
 pub mod Laws

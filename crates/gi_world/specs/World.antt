@@ -1,5 +1,6 @@
 -- Both operators' desks with what each let out, and what a step makes of them.
-use Rattle.std.specs.Prelude.{◌≡◌, ℕ, zero, suc, List, [], ◌++◌, filter, slice_get, take, length, Bool, true, false, not, ◌&&◌, nat_lt, IsTrue, ◌⊎◌, is_ok, is_some, if◌then◌else◌, Option, Some, None, Result, Ok, Err}
+use Rattle.std.specs.Prelude.{◌≡◌, ◌<◌, ℕ, zero, suc, List, [], ◌++◌, filter, slice_get, take, length, Bool, true, false, not, ◌&&◌, nat_lt, IsTrue, ◌⊎◌, is_ok, is_some, if◌then◌else◌, Option, Some, None, option_map, Result, Ok, Err}
+use Rattle.std.specs.Str.{bytes_eq}
 use Rattle.gi_pairs.specs.declared.side.Side.{Side}
 use Rattle.gi_pairs.specs.declared.side.Side.TheVariants.{I, M}
 use Rattle.gi_messages.specs.Decoding.{decoded}
@@ -64,6 +65,10 @@ is_telling (Ok (Delres message)) = false
 abbrev pub tells : Packet → Bool
 tells packet = is_telling (decoded packet.body)
 
+-- whether its bytes are these
+abbrev pub has_bytes : List ℕ → Packet → Bool
+has_bytes bytes packet = bytes_eq packet.body bytes
+
 -- what a reply lets out comes to the packets let out before
 abbrev pub sent_with : List Packet → Reply → List Packet
 sent_with sent r = sent ++ filter is_for_peer r.out
@@ -94,6 +99,15 @@ packet_at sent (suc before) = slice_get sent before
 -- what is delivered to a side: a packet that the other one let out
 abbrev pub delivery : WorldState → Side → ℕ → Option Packet
 delivery w side n = packet_at (station_of (other side) w).sent n
+
+-- its bytes
+abbrev pub bytes_delivered : WorldState → Side → ℕ → Option (List ℕ)
+bytes_delivered w side n = option_map (λ packet. packet.body) (delivery w side n)
+
+-- the least number, from 1, by which these bytes are delivered to a side; none where no number delivers them
+abbrev pub IsNumberOf : WorldState → Side → List ℕ → Option ℕ → Type 0
+IsNumberOf w side bytes (Some n) = (bytes_delivered w side n ≡ Some bytes) × ((less : ℕ) → less < n → ¬ (bytes_delivered w side less ≡ Some bytes))
+IsNumberOf w side bytes None = (n : ℕ) → ¬ (bytes_delivered w side n ≡ Some bytes)
 
 abbrev pub is_delivery : Call → Bool
 is_delivery (calls.Contract contract) = false
@@ -140,11 +154,11 @@ after w (Deliver side n) = after_delivery w side (delivery w side n)
 after w (Restart side keep) =
     let station = station_of side w in after_if w (with_station side (after_restart station keep) w) (restarted station.desk keep)
 
--- A step may want memory where its desk may: no halt and no refused closing does, say. A delivery may wherever there is
--- the packet, and a restart wherever it is not refused.
+-- A step may want memory where its desk may: no halt and no refused closing does, say. A delivery may where there is the
+-- packet and the desk is not halted, and a restart wherever it is not refused.
 unfoldable pub may_want : WorldState → Step → Bool
 may_want w (Local side call) = not (is_delivery call) && desk_may_want side (station_of side w).desk call
-may_want w (Deliver side n) = is_some (delivery w side n)
+may_want w (Deliver side n) = is_some (delivery w side n) && not (station_of side w).desk.halted
 may_want w (Restart side keep) = is_ok (restarted (station_of side w).desk keep)
 
 -- The world gives this outcome and goes on to new. Want of memory leaves all as it was, and comes only for a step that may

@@ -1,8 +1,8 @@
 //! Which packets of a reply a station keeps: those for the peer, and those that tell.
 
-ghost use Rattle.std.specs.Prelude.{◌≡◌, ◌<◌, IfOk, OnErr, filter, length};
+ghost use Rattle.std.specs.Prelude.{◌≡◌, ◌<◌, IfOk, OnErr, filter, length, position};
 ghost use Rattle.gi_desk.specs.Machine.{is_for_peer as is_for_peer_of};
-ghost use Rattle.gi_world.specs.World.{tells as tells_of};
+ghost use Rattle.gi_world.specs.World.{has_bytes, tells as tells_of};
 
 use gi_desk::{Packet, Recipient};
 use gi_messages::{Message, MessageFault, decode};
@@ -24,6 +24,15 @@ fn tells(alloc: Global, packet: &Packet) -> Result<bool, AllocError>
         Err(MessageFault::OutOfMemory) => Err(AllocError),
         Err(_) => Ok(false),
     }
+}
+
+/// Where the first packet of these bytes stands.
+pub(crate) fn place_of(packets: &[Packet], bytes: &[u8]) -> Option<usize>
+    ensures { result ≡ position (has_bytes bytes.now) packets.now }
+{
+    packets
+        .iter()
+        .position(|packet| packet.body.as_slice() == bytes)
 }
 
 /// An equal packet.

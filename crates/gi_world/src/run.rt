@@ -3,7 +3,8 @@
 ghost use Rattle.std.specs.Prelude.{◌≡◌, ◌<◌, ◌≤◌, ◌+◌, ◌++◌, ◌∷◌, [], IfErr, IfOk, OnErr, OnOk, length, take, true};
 ghost use Rattle.std.specs.Vec.{vec_capacity, vec_len};
 ghost use Rattle.gi_world.specs.Agreement.{Agrees, AllAgree};
-ghost use Rattle.gi_world.specs.Confirming.{ConfirmsAtBoth, ConfirmsByHistory, ConfirmsTheLower};
+ghost use Rattle.gi_world.specs.Confirming.{ConfirmsAtBoth, ConfirmsTheLower};
+ghost use Rattle.gi_world.specs.Headline.{OneConfirmedQuantity};
 ghost use Rattle.gi_world.specs.Histories.{after_steps, held, no_histories};
 ghost use Rattle.gi_world.specs.Runs.{IsRun};
 ghost use Rattle.gi_world.specs.World.{after, may_want, new_world, outcome as outcome_of};
@@ -79,13 +80,17 @@ fn make_all(
 /// outcome, and the run goes on; only want of memory ends it before the last step, with the world
 /// as the steps made before left it. `OutOfMemory` comes before the first step, where there is no
 /// place for the outcomes, and no other refusal.
+///
+/// Every quantity that either side has then confirmed or told is the lower of the two frozen ones.
+/// So it is at every moment of the run, as the first of its steps are a run too; and none ever
+/// changes, as each `World::step` keeps what is confirmed, and only adds to what is sent and told.
 pub fn run_world(alloc: Global, point: Code, steps: &[Step]) -> Result<Run, StartFault>
     ensures made { IfOk result (λ run. IsRun (new_world point) steps.now run.done run.outcomes run.world) }
     ensures agree { IfOk result (λ run. AllAgree steps.now run.outcomes) }
     ensures history { IfOk result (λ run. held run.world ≡ after_steps no_histories (take run.done steps.now) run.outcomes) }
     ensures lower { IfOk result (λ run. ConfirmsTheLower run.world) }
     ensures both { IfOk result (λ run. ConfirmsAtBoth run.world) }
-    ensures confirmed { IfOk result (λ run. ConfirmsByHistory (after_steps no_histories (take run.done steps.now) run.outcomes)) }
+    ensures one_quantity { IfOk result (λ run. OneConfirmedQuantity (after_steps no_histories (take run.done steps.now) run.outcomes)) }
     ensures refused { IfErr result (λ fault. (fault ≡ OutOfMemory) × (0 < length steps.now)) }
 {
     histories_are_held();

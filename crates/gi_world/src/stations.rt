@@ -1,12 +1,14 @@
 //! Both stations: what a step makes of them.
 
-ghost use Rattle.std.specs.Prelude.{◌≡◌, ◌≤◌, IfOk, IsTrue, OnErr, OnOk, length};
+ghost use Rattle.std.specs.Prelude.{◌≡◌, ◌≤◌, IfOk, IsTrue, OnErr, OnOk, false, length};
 ghost use Rattle.std.specs.Option.{option_copied};
 ghost use Rattle.gi_desk.specs.Machine.{may_want, reply as reply_of};
+ghost use Rattle.gi_desk.specs.declared.call.Call.TheVariants as calls;
 ghost use Rattle.gi_world.specs.Agreement.{FitsWorld};
-ghost use Rattle.gi_world.specs.World.{IsStep, after_call, after_restart, delivery as delivery_of, new_world, station_of, with_station};
+ghost use Rattle.gi_world.specs.World.{IsNumberOf, IsStep, after_call, after_restart, delivery as delivery_of, new_world, other, station_of, with_station};
 ghost use Rattle.gi_world.specs.declared.step.Step.TheVariants as steps;
 
+use crate::passing::place_of;
 use crate::station::Station;
 use crate::step::Step;
 use crate::world_fault::WorldFault;
@@ -123,16 +125,40 @@ impl Stations {
         }
     }
 
+    /// Whether a side's desk is halted.
+    fn halted(&self, side: Side) -> bool
+        ensures { result ≡ (station_of side self.now).desk.halted }
+    {
+        match side {
+            Side::I => self.initiating.desk().halted(),
+            Side::M => self.matching.desk().halted(),
+        }
+    }
+
+    /// The packets that the other side let out to this one, in order.
+    fn sent_to(&self, side: Side) -> &[Packet]
+        ensures { result.now ≡ (station_of (other side) self.now).sent }
+    {
+        match side {
+            Side::I => self.matching.sent(),
+            Side::M => self.initiating.sent(),
+        }
+    }
+
     /// The packet of that number, from 1, that the other side let out to this one.
     fn delivery(&self, side: Side, packet: u64) -> Option<&Packet>
         ensures { option_copied result ≡ delivery_of self.now side packet }
     {
-        let sent = match side {
-            Side::I => self.matching.sent(),
-            Side::M => self.initiating.sent(),
-        };
         let before = packet.checked_sub(1)?;
-        sent.get(before as usize)
+        self.sent_to(side).get(before as usize)
+    }
+
+    /// The least number, from 1, of a packet of these bytes that the other side let out to this one.
+    pub(crate) fn number_of(&self, side: Side, bytes: &[u8]) -> Option<u64>
+        ensures { IsNumberOf self.now side bytes.now result }
+    {
+        let place = place_of(self.sent_to(side), bytes)?;
+        Some(place as u64 + 1)
     }
 
     /// A side is asked.
@@ -146,6 +172,19 @@ impl Stations {
         Ok(WorldReply::Desk(self.take(side, call)?))
     }
 
+    /// What a packet asks of a side's desk. A halted one answers every call alike, so for it nothing
+    /// is copied.
+    fn asked(&self, side: Side, packet: &Packet) -> Result<Call, AllocError>
+        ensures reply { IfOk result (λ call. reply_of side (station_of side self.now).desk call ≡ reply_of side (station_of side self.now).desk (calls.Deliver packet.now.body)) }
+        ensures next { IfOk result (λ call. after_call side (station_of side self.now) call ≡ after_call side (station_of side self.now) (calls.Deliver packet.now.body)) }
+        ensures short { OnErr result ((station_of side self.now).desk.halted ≡ false) }
+    {
+        if self.halted(side) {
+            return Ok(Call::Halt);
+        }
+        Ok(Call::Deliver(packet.body.copy()?))
+    }
+
     /// A side gets a packet of the other one.
     #[tactic(auto, unfolding(crate::specs::World::outcome, crate::specs::World::after, crate::specs::World::may_want))]
     fn deliver(&mut self, side: Side, packet: u64) -> Result<WorldReply, WorldFault>
@@ -154,7 +193,7 @@ impl Stations {
         let Some(packet) = self.delivery(side, packet) else {
             return Err(WorldFault::NoSuchPacket);
         };
-        let call = Call::Deliver(packet.body.copy()?);
+        let call = self.asked(side, packet)?;
         Ok(WorldReply::Desk(self.take(side, &call)?))
     }
 

@@ -3,9 +3,11 @@
 mod crashes;
 mod exchanges;
 mod names;
+mod numbers;
 mod orders;
 mod quantities;
 mod runs;
+mod telling;
 mod texts;
 
 use crate::{Step, World, WorldFault, WorldReply};
@@ -33,6 +35,7 @@ enum Do {
     Resend(u8),
     /// The mark of the next fact to save.
     Save,
+    Halt,
     /// A delivery as a local call.
     Slip,
     /// The other side's packet of that number.
@@ -126,6 +129,7 @@ fn step(alloc: Global, world: &World, side: Side, what: Do) -> Result<Step, Fail
         Do::Close(number) => Call::Close(cycle(number)?),
         Do::Resend(number) => Call::Resend(cycle(number)?),
         Do::Save => save(world, side)?,
+        Do::Halt => Call::Halt,
         Do::Slip => Call::Deliver(body(alloc, "{}")?),
     };
     Ok(Step::Local { side, call })

@@ -1,9 +1,11 @@
 ghost use Rattle.std.specs.Prelude.{◌≡◌, All, Ok, OnErr};
 ghost use Rattle.gi_world.specs.Agreement.{Agrees, Carries};
-ghost use Rattle.gi_world.specs.Confirming.{ConfirmsAtBoth, ConfirmsByHistory, ConfirmsTheLower};
+ghost use Rattle.gi_world.specs.Confirming.{ConfirmsAtBoth, ConfirmsTheLower};
+ghost use Rattle.gi_world.specs.Headline.{OneConfirmedQuantity};
 ghost use Rattle.gi_world.specs.Histories.{held};
 ghost use Rattle.gi_world.specs.Keeping.{KeepsConfirmed, OnlyAppends};
-ghost use Rattle.gi_world.specs.World.{IsStep, new_world, station_of};
+ghost use Rattle.gi_world.specs.Telling.{TellsTheLower};
+ghost use Rattle.gi_world.specs.World.{IsNumberOf, IsStep, new_world, station_of};
 
 use crate::start_fault::StartFault;
 use crate::stations::Stations;
@@ -74,19 +76,34 @@ impl World {
         self.stations.sent(side)
     }
 
-    /// The confirmations that a side let out to its portfolios, in order.
+    /// The confirmations that a side let out to its portfolios, in order: each with the portfolio's
+    /// rows of a table that the side has confirmed, which is the lower of both frozen ones.
     pub fn told(&self, side: Side) -> &[Packet]
-        ensures { result.now ≡ (station_of side self.now).told }
+        ensures value { result.now ≡ (station_of side self.now).told }
+        ensures lower { All (TellsTheLower (held self.now) side) result.now }
     {
+        self.stations.fits();
         self.stations.told(side)
+    }
+
+    /// The least number, from 1, of a packet of these bytes that the other side let out to this one:
+    /// a `Deliver` step of that number delivers them. None where it let out no such packet.
+    pub fn number_of(&self, side: Side, bytes: &[u8]) -> Option<u64>
+        ensures { IsNumberOf self.now side bytes.now result }
+    {
+        self.stations.number_of(side, bytes)
     }
 
     /// Makes a step: the desk's reply, or with how many facts it started again. `NotLocal`,
     /// `NoSuchPacket`, `KeepsTooFew` and `KeepsTooMany` come whatever memory there is, and
     /// `OutOfMemory` where memory runs out, also where the desk answers it: for a local call only
     /// where the desk may, so never for a `Halt`, at a halted desk, or for a refused closing; for a
-    /// delivery wherever there is the packet, whose bytes are copied first. A refused step leaves
-    /// the world as it was.
+    /// delivery wherever there is the packet, whose bytes are copied first, and the desk is not
+    /// halted. A refused step leaves the world as it was.
+    ///
+    /// After each step every quantity that either side has confirmed or told is the lower of the two
+    /// that both froze when they closed its cycle. What is confirmed stays so, and packets sent and
+    /// told only come to the end.
     pub fn step(&mut self, step: &Step) -> Result<WorldReply, WorldFault>
         ensures meaning { IsStep self.old step.now result self.new }
         ensures refused { OnErr result (self.new ≡ self.old) }
@@ -95,7 +112,7 @@ impl World {
         ensures agrees { Agrees step.now result }
         ensures lower { ConfirmsTheLower self.new }
         ensures both { ConfirmsAtBoth self.new }
-        ensures confirmed { ConfirmsByHistory (held self.new) }
+        ensures one_quantity { OneConfirmedQuantity (held self.new) }
     {
         lessens_both_ways();
         self.stations.fits();
@@ -104,12 +121,12 @@ impl World {
         outcome
     }
 
-    /// What either side has confirmed is the lower of what both froze, and what the initiating side
-    /// has confirmed, the matching side has.
+    /// What either side has confirmed or told is the lower of what both froze, and what the
+    /// initiating side has confirmed, the matching side has.
     pub(crate) fn confirms_the_lower(&self)
         ensures lower { ConfirmsTheLower self.now }
         ensures both { ConfirmsAtBoth self.now }
-        ensures confirmed { ConfirmsByHistory (held self.now) }
+        ensures one_quantity { OneConfirmedQuantity (held self.now) }
     {
         self.stations.fits();
     }

@@ -1,7 +1,7 @@
 //! Restarts: what is not saved is gone, and nobody was told of it.
 
 use super::exchanges::{NOMINATED, ORDERED};
-use super::texts::{ACKNOW_B, DELORD};
+use super::texts::{ACKNOW_B, DELORD, DELRES};
 use super::{Do, Row, confirmed, counts, expect_packets, play, played};
 use crate::World;
 use gi_pairs::Side;
@@ -106,4 +106,23 @@ fn may_keep_all(rt: HostRuntime) -> Result<(), Fail> {
     assert_eq!(rt; counts(&world), [3, 3, 4, 4]);
     assert_eq!(rt; confirmed(&world, Side::M, 24)?, Some(7));
     expect_packets(&rt, world.sent(Side::M), &[])
+}
+
+/// M is halted: it refuses whatever comes, until it starts again.
+const HALTED: &[Row] = &[
+    (Side::M, Do::Halt, "Stopped", &[]),
+    (Side::M, Do::Get(1), "Refused(Halted)", &[]),
+    (Side::M, Do::Get(2), "NoSuchPacket", &[]),
+    (Side::M, Do::Close(35), "Refused(Halted)", &[]),
+    (Side::M, Do::Halt, "Refused(Halted)", &[]),
+    (Side::M, Do::Restart(4), "Restarted 4", &[]),
+    (Side::M, Do::Get(1), "Repeat { n: 4 }", &[DELRES]),
+];
+
+#[test]
+fn delivers_nothing_to_a_halted_desk(rt: HostRuntime) -> Result<(), Fail> {
+    let mut world = half_saved(&rt)?;
+    play(&rt, &mut world, HALTED)?;
+    assert_eq!(rt; counts(&world), [3, 3, 4, 4]);
+    expect_packets(&rt, world.sent(Side::M), &[DELRES])
 }

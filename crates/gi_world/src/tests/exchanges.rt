@@ -59,7 +59,7 @@ fn expect_kept(rt: &(impl Abort + AllocGlobal), world: &World) -> Result<(), Fai
 }
 
 /// A world in which both sides have confirmed 7.
-fn exchanged(rt: &(impl Abort + AllocGlobal)) -> Result<World, Fail> {
+pub(super) fn exchanged(rt: &(impl Abort + AllocGlobal)) -> Result<World, Fail> {
     let mut world = played(rt, NOMINATED)?;
     for rows in [ORDERED, MET, RESPONDED, TOLD] {
         play(rt, &mut world, rows)?;

@@ -1,9 +1,10 @@
 use Rattle.std.proofs.Common.{subst}
-use Rattle.gi_world.specs.Confirming.{ConfirmsAtBoth, ConfirmsByHistory, ConfirmsTheLower}
+use Rattle.gi_world.specs.Confirming.{ConfirmsAtBoth, ConfirmsTheLower}
+use Rattle.gi_world.specs.Headline.{OneConfirmedQuantity}
 use Rattle.gi_world.specs.Histories.{held}
 use Rattle.gi_world.specs.World.{WorldState}
 use Rattle.gi_world.proofs.ConfirmedLaws.{confirms-at-both, confirms-lower}
-use Rattle.gi_world.proofs.HistoryConfirms.{confirms-by-history}
+use Rattle.gi_world.proofs.OneQuantity.{one-confirmed-quantity}
 use Rattle.gi_world.proofs.world.World.confirms_the_lower.Goals as goal
 
 pub returns-clause-lower : goal.returns-clause-lower
@@ -12,6 +13,6 @@ returns-clause-lower c = subst ConfirmsTheLower c.self.view_is (confirms-lower c
 pub returns-clause-both : goal.returns-clause-both
 returns-clause-both c = subst ConfirmsAtBoth c.self.view_is (confirms-at-both c.self.inside.stations c.self.invariant)
 
-pub returns-clause-confirmed : goal.returns-clause-confirmed
-returns-clause-confirmed c =
-    subst (λ (w : WorldState). ConfirmsByHistory (held w)) c.self.view_is (confirms-by-history c.self.inside.stations c.self.invariant c.fits.ensures)
+pub returns-clause-one_quantity : goal.returns-clause-one_quantity
+returns-clause-one_quantity c =
+    subst (λ (w : WorldState). OneConfirmedQuantity (held w)) c.self.view_is (one-confirmed-quantity c.self.inside.stations c.self.invariant c.fits.ensures)

@@ -3,7 +3,7 @@ use Rattle.std.specs.Result.{OnErr}
 use Rattle.gi_world.specs.Keeping.{KeepsConfirmed, OnlyAppends}
 use Rattle.gi_world.specs.World.{WorldState}
 use Rattle.gi_world.proofs.ConfirmedLaws.{confirms-at-both, confirms-lower}
-use Rattle.gi_world.proofs.HistoryConfirms.{confirms-by-history}
+use Rattle.gi_world.proofs.OneQuantity.{one-confirmed-quantity}
 use Rattle.gi_world.proofs.StepKeeping.{step-agrees-as, step-appends, step-confirms, step-keeps-sound, step-refused}
 use Rattle.gi_world.proofs.world.World.step.Goals as goal
 
@@ -35,5 +35,5 @@ returns-clause-lower c = confirms-lower c.step-outcome.new.self (invariant_of-se
 pub returns-clause-both : goal.returns-clause-both
 returns-clause-both c = confirms-at-both c.step-outcome.new.self (invariant_of-self c)
 
-pub returns-clause-confirmed : goal.returns-clause-confirmed
-returns-clause-confirmed c = confirms-by-history c.step-outcome.new.self (invariant_of-self c) c.fits-2.ensures
+pub returns-clause-one_quantity : goal.returns-clause-one_quantity
+returns-clause-one_quantity c = one-confirmed-quantity c.step-outcome.new.self (invariant_of-self c) c.fits-2.ensures

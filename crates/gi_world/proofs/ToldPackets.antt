@@ -1,0 +1,250 @@
+-- What a side tells its portfolios are its rows of a table that it has confirmed.
+use Rattle.std.proofs.Common.{arith, ◌≡◌, ◌≤◌, ◌+◌, ◌-◌, ◌⊎◌, inl, inr, ℕ, List, [], ◌∷◌, ◌++◌, length, filter, map, All, Contains, Bool, true, false, cond, ◌&&◌, nat_le, slice_index, Option, Some, Ok, refl, sym, ap, ◌∙◌, subst}
+use Rattle.std.specs.Ordering.{is_lt}
+use Rattle.std.specs.Str.{bytes_eq}
+use Rattle.std.proofs.lemmas.Bool.Decides.{nat_tests}
+use Rattle.std.proofs.lemmas.List.{length-map}
+use Rattle.std.proofs.lemmas.List.Elements.{All-filter, All-get_or, All-head, All-map, All-tail, All-weaker}
+use Rattle.std.proofs.lemmas.Option.{get_or_from_slice_get, slice_get_within}
+use Rattle.std.proofs.lemmas.Slice.Eq.{bytes_eq-Decides}
+use Rattle.gi_pairs.specs.Code.{IsCode}
+use Rattle.gi_pairs.specs.Key.{code_cmp}
+use Rattle.gi_pairs.specs.Row.{IsRow}
+use Rattle.gi_pairs.specs.Table.{IsTable, TableContents, covered, reading}
+use Rattle.gi_pairs.specs.declared.cycle_id.CycleId.{CycleId}
+use Rattle.gi_pairs.specs.declared.pair.Pair.{Pair}
+use Rattle.gi_pairs.specs.declared.row.Row.{Row}
+use Rattle.gi_pairs.specs.declared.side.Side.{Side}
+use Rattle.gi_pairs.specs.declared.side.Side.TheVariants.{I, M}
+use Rattle.gi_pairs.proofs.Building.{In, in_from_contains}
+use Rattle.gi_pairs.proofs.Members.{find_member, from_append, from_map}
+use Rattle.gi_pairs.proofs.Reading.{reading-found}
+use Rattle.gi_lesser.specs.Lesser.{lesser_of}
+use Rattle.gi_messages.specs.Decoding.{decoded}
+use Rattle.gi_messages.specs.Grammar.{FitsAcknow, FitsLine, FitsNomint, FitsNomres}
+use Rattle.gi_messages.specs.declared.line.Line.{Line}
+use Rattle.gi_messages.specs.declared.message.Message.{Message}
+use Rattle.gi_messages.specs.declared.message.Nomint.{Nomint as NomintOf}
+use Rattle.gi_messages.specs.declared.message.Message.TheVariants as messages
+use Rattle.gi_cycles.specs.States.{MatchedCycle, matched_of}
+use Rattle.gi_cycles.specs.declared.cycle_state.CycleState.TheVariants.{Matched}
+use Rattle.gi_desk.specs.History.{frozen_cycle, frozen_table, is_closed, met_by, peer_of, state_of}
+use Rattle.gi_desk.specs.LetOut.{IsFact, let_out, let_out_on_closing, sent}
+use Rattle.gi_desk.specs.Machine.{DeskState}
+use Rattle.gi_desk.specs.Messages.{acknow_of, is_row_of, line_of, on_met, order_of, other_of, own_of, portfolios_in, response_of, to_peer, to_user, told_of, told_packets, with_code}
+use Rattle.gi_desk.specs.Writable.{FitsDesk, FitsMatched, FitsState}
+use Rattle.gi_desk.specs.declared.packet.Packet.{Packet}
+use Rattle.gi_facts.specs.Writable.{FitsFact}
+use Rattle.gi_facts.specs.declared.fact.Fact.{Fact}
+use Rattle.gi_facts.specs.declared.fact.Fact.TheVariants.{Contracted, Noticed, Nominated, Closed, Met}
+use Rattle.gi_desk.proofs.Legality.{legal-front}
+use Rattle.gi_desk.proofs.LettingOut.{closing_lets_out, fact_closes, fact_meets, let_out-is, meeting_lets_out}
+use Rattle.gi_world.specs.Agreement.{IsLegal, IsTold, saved_facts}
+use Rattle.gi_world.specs.Telling.{IsRead, pair_of}
+use Rattle.gi_world.specs.World.{is_telling, tells}
+use Rattle.gi_world.proofs.DeliveredPackets.{closed_fits, closed_is, frozen_fits, none_there, one_there, order_reads, ordered_by, reads, response_reads, saved_fact, some_fact, unanswered_by}
+use Rattle.gi_world.proofs.SentPackets.{all_kept}
+
+-- ---- the portfolios in rows are codes
+
+later_in : (code x y : List ℕ) (ys : List (List ℕ)) → (code ≡ x) ⊎ In x ys → (code ≡ x) ⊎ In x (y ∷ ys)
+later_in code x y ys (inl same) = inl same
+later_in code x y ys (inr later) = inr (inr later)
+
+placed_by : (b c : Bool) (code x y : List ℕ) (ys later : List (List ℕ)) → (In x later → (code ≡ x) ⊎ In x ys) → In x (cond b (y ∷ ys) (cond c (code ∷ y ∷ ys) (y ∷ later)))
+    → (code ≡ x) ⊎ In x (y ∷ ys)
+placed_by true c code x y ys later rest there = inr there
+placed_by false true code x y ys later rest there = there
+placed_by false false code x y ys later rest (inl same) = inr (inl same)
+placed_by false false code x y ys later rest (inr there) = later_in code x y ys (rest there)
+
+in_with : (code x : List ℕ) (xs : List (List ℕ)) → In x (with_code code xs) → (code ≡ x) ⊎ In x xs
+in_with code x [] there = there
+in_with code x (y ∷ ys) there = placed_by (bytes_eq code y) (is_lt (code_cmp code y)) code x y ys (with_code code ys) (in_with code x ys) there
+
+own_code : (side : Side) (row : Row) → IsRow row → IsCode (own_of side row.pair)
+own_code I row is = is.key.initiating
+own_code M row is = is.key.matching
+
+first_or : (code portfolio : List ℕ) (portfolios : List (List ℕ)) → IsCode code → (In portfolio portfolios → IsCode portfolio) → (code ≡ portfolio) ⊎ In portfolio portfolios → IsCode portfolio
+first_or code portfolio portfolios is rest (inl same) = subst IsCode same is
+first_or code portfolio portfolios is rest (inr later) = rest later
+
+is_code : (side : Side) (rows : List Row) (portfolio : List ℕ) → All IsRow rows → In portfolio (portfolios_in side rows) → IsCode portfolio
+is_code side [] portfolio all there = absurd there
+is_code side (row ∷ rows) portfolio all there =
+    first_or (own_of side row.pair) portfolio (portfolios_in side rows) (own_code side row (All-head IsRow row rows all))
+    (is_code side rows portfolio (All-tail IsRow row rows all)) (in_with (own_of side row.pair) portfolio (portfolios_in side rows) there)
+
+-- ---- what a portfolio is told can be written
+
+line_fits : (side : Side) (row : Row) → IsRow row → FitsLine (line_of side row)
+line_fits I row is = record { counterparty = is.key.matching; quantities = is.quantities }
+line_fits M row is = record { counterparty = is.key.initiating; quantities = is.quantities }
+
+told_fits : (side : Side) (point : List ℕ) (cycle : MatchedCycle) (portfolio : List ℕ) → IsCode point → FitsMatched cycle → IsCode portfolio → FitsNomres (told_of side point cycle portfolio)
+told_fits side point cycle portfolio code fits own =
+    let table = cycle.confirmed in
+    let is = fits.confirmed in
+    let rows = filter (is_row_of side portfolio) table.rows in
+    let known = All-filter (is_row_of side portfolio) IsRow table.rows is.all in
+    let whole = All-filter (is_row_of side portfolio) (λ (row : Row). length row.hours ≡ covered table.first table.last) table.rows is.whole in
+    record {
+      point = code;
+      portfolio = own;
+      day = fits.id.day;
+      cycle = fits.id.cycle;
+      begins = is.begins;
+      ordered = is.ordered;
+      ends = is.ends;
+      lines = All-map FitsLine (line_of side) rows (All-weaker IsRow (λ (row : Row). FitsLine (line_of side row)) (line_fits side) rows known);
+      whole = All-map (λ (line : Line). length line.hours ≡ covered table.first table.last) (line_of side) rows whole;
+    }
+
+some_by : {X : Type 0} (b : Bool) (x : X) (some all : List X) → length some ≤ length all → length (cond b (x ∷ some) some) ≤ length (x ∷ all)
+some_by true x some all within = omega (arith, within)
+some_by false x some all within = omega (arith, within)
+
+some_of : {X : Type 0} (p : X → Bool) (xs : List X) → length (filter p xs) ≤ length xs
+some_of p [] = omega arith
+some_of p (x ∷ xs) = some_by (p x) x (filter p xs) xs (some_of p xs)
+
+told_reads : (side : Side) (point : List ℕ) (cycle : MatchedCycle) (portfolio : List ℕ) → IsCode point → FitsMatched cycle → IsCode portfolio
+    → let message = messages.Nomres (told_of side point cycle portfolio) in decoded (to_user portfolio message).body ≡ Ok message
+told_reads side point cycle portfolio code fits own =
+    let rows = filter (is_row_of side portfolio) cycle.confirmed.rows in
+    let many : length (map (line_of side) rows) ≡ length rows = length-map rows (line_of side) in
+    let within = some_of (is_row_of side portfolio) cycle.confirmed.rows in
+    let few = fits.confirmed.few in
+    reads (messages.Nomres (told_of side point cycle portfolio)) (told_fits side point cycle portfolio code fits own) (omega (arith, many, within, few))
+
+-- ---- its lines have the confirmed quantities
+
+pair_is : (side : Side) (portfolio : List ℕ) (pair : Pair) → own_of side pair ≡ portfolio → pair_of side portfolio (other_of side pair) ≡ pair
+pair_is I portfolio pair own = λ t. record { initiating = sym own t; matching = pair.matching }
+pair_is M portfolio pair own = λ t. record { initiating = pair.initiating; matching = sym own t }
+
+row_is : (side : Side) (point : List ℕ) (cycle : MatchedCycle) (portfolio : List ℕ) (row : Row) → IsTable cycle.confirmed → Contains cycle.confirmed.rows row
+    → is_row_of side portfolio row ≡ true → IsRead side (told_of side point cycle portfolio) cycle.confirmed (line_of side row)
+row_is side point cycle portfolio row table there own place quantity at =
+    let t = cycle.confirmed in
+    let hour = t.first + place in
+    let within = slice_get_within row.hours place quantity at in
+    let whole = subst (λ (r : Row). length r.hours ≡ covered t.first t.last) there.2 (table.whole there.0 row there.1) in
+    let covers : (nat_le t.first hour && nat_le hour t.last) ≡ true = grind (arith, nat_tests, within, whole) in
+    let same : hour - t.first ≡ place = omega arith in
+    let pair = pair_is side portfolio row.pair ((bytes_eq-Decides (own_of side row.pair) portfolio).0 own) in
+    sym (
+    ap (λ (p : Pair). reading t p row.direction hour) pair
+    ∙ reading-found t row.pair row.direction hour row (find_member t.rows row table.sorted (in_from_contains row t.rows there)) covers
+    ∙ ap (λ (i : ℕ). slice_index row.hours i) same
+    ∙ get_or_from_slice_get row.hours place quantity 0 at
+    )
+
+pub lines-are : (side : Side) (point : List ℕ) (cycle : MatchedCycle) (portfolio : List ℕ) → IsTable cycle.confirmed
+    → let message = told_of side point cycle portfolio in All (IsRead side message cycle.confirmed) message.lines
+lines-are side point cycle portfolio table =
+    let message = told_of side point cycle portfolio in
+    let is_read : Row → Type 0 = λ row. IsRead side message cycle.confirmed (line_of side row) in
+    All-map (IsRead side message cycle.confirmed) (line_of side) (filter (is_row_of side portfolio) cycle.confirmed.rows)
+    (all_kept is_read (is_row_of side portfolio) cycle.confirmed.rows (λ row there own. row_is side point cycle portfolio row table there own))
+
+-- ---- what each kind of fact tells
+
+-- a packet that tells a portfolio its rows of the lesser of the frozen table and one that a saved fact met
+pub record IsTelling (side : Side) (s : DeskState) (packet : Packet) : Type 0 where
+  pub id : CycleId
+  pub peer : TableContents
+  pub portfolio : List ℕ
+  pub met : peer_of id (saved_facts s) ≡ Some peer
+  pub table : IsTable (lesser_of (frozen_table side s.facts id) peer)
+  pub reads : decoded packet.body ≡ Ok (messages.Nomres (told_of side s.point (matched_of (frozen_cycle side s.facts id) peer) portfolio))
+
+-- what reads as another message tells nothing
+silent : (packet other : Packet) (message : Message) → other ≡ packet → decoded other.body ≡ Ok message → is_telling (Ok message) ≡ false → tells packet ≡ true → ⊥
+silent packet other message same reads is telling =
+    let never : true ≡ false = sym telling ∙ ap tells (sym same) ∙ ap is_telling reads ∙ is in absurd cc
+
+acknow_fits : (document : NomintOf) → FitsNomint document → FitsAcknow (acknow_of document)
+acknow_fits document fits = record { point = fits.point; portfolio = fits.portfolio; day = fits.day; from = fits.from; to = fits.to }
+
+fact_fits : (facts : List Fact) (n : ℕ) (fact : Fact) → All FitsFact facts → IsFact facts n fact → FitsFact fact
+fact_fits facts n fact all is =
+    let from = is.0 in
+    let to = is.1 in
+    subst FitsFact (sym is.2) (All-get_or FitsFact facts (n - 1) fact (omega (arith, from, to)) all)
+
+-- a closing writes to the peer alone
+closing_tells : (side : Side) (s : DeskState) (n : ℕ) (id : CycleId) (packet : Packet) → FitsDesk side s.point s.facts → IsFact s.facts n (Closed id)
+    → Contains (let_out side s.point s.facts n) packet → tells packet ≡ true → ⊥
+closing_tells side s n id packet fits is there telling = by_side side fits there
+  where
+    closed : is_closed id s.facts ≡ true
+    closed = fact_closes s.facts n id is
+
+    out : (side : Side) → let_out side s.point s.facts n ≡ let_out_on_closing side s.point (met_by (frozen_cycle side s.facts id) (peer_of id s.facts))
+    out side = sym (closing_lets_out side s.point s.facts n id is) ∙ ap (let_out_on_closing side s.point) (closed_is side s.facts id closed)
+
+    by_side : (side : Side) → FitsDesk side s.point s.facts → Contains (let_out side s.point s.facts n) packet → ⊥
+    by_side I fits there =
+        let cycle = frozen_cycle I s.facts id in
+        let message = messages.Delord (order_of s.point cycle) in
+        let same = one_there (let_out I s.point s.facts n) (to_peer message) packet (out I ∙ ordered_by s.point cycle (peer_of id s.facts)) there in
+        silent packet (to_peer message) message same (order_reads s.point cycle fits.point (frozen_fits cycle (peer_of id s.facts) (closed_fits I s.point s.facts id fits closed))) refl telling
+    by_side M fits there =
+        none_there (let_out M s.point s.facts n) packet (out M ∙ unanswered_by s.point (frozen_cycle M s.facts id) (peer_of id s.facts)) there
+
+-- what a role writes of a meeting to the peer tells nothing
+response_tells : (side : Side) (point : List ℕ) (cycle : MatchedCycle) (packet : Packet) → IsCode point → FitsMatched cycle → In packet (sent (on_met side point cycle)) → tells packet ≡ true → ⊥
+response_tells I point cycle packet code fits there telling = there
+response_tells M point cycle packet code fits (inr none) telling = none
+response_tells M point cycle packet code fits (inl same) telling =
+    let message = messages.Delres (response_of point cycle) in silent packet (to_peer message) message same (response_reads point cycle code fits) refl telling
+
+told_from : (side : Side) (point : List ℕ) (cycle : MatchedCycle) (packet : Packet) → In packet (told_packets side point cycle)
+    → (portfolio : List ℕ) × In portfolio (portfolios_in side cycle.confirmed.rows) × (to_user portfolio (messages.Nomres (told_of side point cycle portfolio)) ≡ packet)
+unfolding told_packets
+told_from side point cycle packet there =
+    from_map (λ portfolio. to_user portfolio (messages.Nomres (told_of side point cycle portfolio))) packet (portfolios_in side cycle.confirmed.rows) there
+
+-- of a meeting's packets those that tell carry the portfolio's rows
+meeting_tells : (side : Side) (point : List ℕ) (cycle : MatchedCycle) (packet : Packet) → IsCode point → FitsMatched cycle
+    → In packet (sent (on_met side point cycle)) ⊎ In packet (told_packets side point cycle) → tells packet ≡ true
+    → (portfolio : List ℕ) × (decoded packet.body ≡ Ok (messages.Nomres (told_of side point cycle portfolio)))
+meeting_tells side point cycle packet code fits (inl there) telling = absurd (response_tells side point cycle packet code fits there telling)
+meeting_tells side point cycle packet code fits (inr there) telling =
+    let (portfolio, among, same) = told_from side point cycle packet there in
+    let message = messages.Nomres (told_of side point cycle portfolio) in
+    (portfolio, subst (λ (p : Packet). decoded p.body ≡ Ok message) same (told_reads side point cycle portfolio code fits (is_code side cycle.confirmed.rows portfolio fits.confirmed.all among)))
+
+telling_of_fact : (side : Side) (s : DeskState) (n : ℕ) (fact : Fact) (packet : Packet) → IsLegal side s → FitsDesk side s.point s.facts → n ≤ s.saved → IsFact s.facts n fact
+    → Contains (let_out side s.point s.facts n) packet → tells packet ≡ true → IsTelling side s packet
+telling_of_fact side s n (Contracted contract) packet legal fits below is there telling =
+    absurd (none_there (let_out side s.point s.facts n) packet (let_out-is side s.point s.facts n (Contracted contract) is) there)
+telling_of_fact side s n (Noticed notice) packet legal fits below is there telling =
+    absurd (none_there (let_out side s.point s.facts n) packet (let_out-is side s.point s.facts n (Noticed notice) is) there)
+telling_of_fact side s n (Nominated document) packet legal fits below is there telling =
+    let message = messages.Acknow (acknow_of document) in
+    let packet_is = to_user document.portfolio message in
+    let same = one_there (let_out side s.point s.facts n) packet_is packet (let_out-is side s.point s.facts n (Nominated document) is) there in
+    absurd (silent packet packet_is message same (reads message (acknow_fits document (fact_fits s.facts n (Nominated document) fits.facts is)) tt) refl telling)
+telling_of_fact side s n (Closed id) packet legal fits below is there telling = absurd (closing_tells side s n id packet fits is there telling)
+telling_of_fact side s n (Met id peer) packet legal fits below is there telling =
+    let cycle = matched_of (frozen_cycle side s.facts id) peer in
+    let all = fact_meets side s.point s.facts n id peer legal.legal is in
+    let state : state_of side s.facts id ≡ Matched cycle = closed_is side s.facts id all.0 ∙ ap (met_by (frozen_cycle side s.facts id)) all.1 in
+    let matched = subst (λ (met : Option TableContents). FitsState (met_by (frozen_cycle side s.facts id) met)) all.1 (closed_fits side s.point s.facts id fits all.0) in
+    let out = meeting_lets_out side s.point s.facts n id peer cycle legal.legal is (sym state) in
+    let found = in_from_contains packet (sent (on_met side s.point cycle) ++ told_packets side s.point cycle) (subst (λ (packets : List Packet). Contains packets packet) (sym out) there) in
+    let (portfolio, read) =
+    meeting_tells side s.point cycle packet fits.point matched (from_append packet (sent (on_met side s.point cycle)) (told_packets side s.point cycle) found) telling in
+    let saved =
+    fact_meets side s.point (saved_facts s) n id peer (legal-front side s.point s.facts s.saved legal.legal) (saved_fact s.facts s.saved n (Met id peer) is below) in
+    record { id = id; peer = peer; portfolio = portfolio; met = saved.1; table = matched.confirmed; reads = read }
+
+pub told-tells : (side : Side) (s : DeskState) (packet : Packet) → IsLegal side s → FitsDesk side s.point s.facts → IsTold side s packet → IsTelling side s packet
+told-tells side s packet legal fits is =
+    let to = is.to in
+    let within = legal.within in
+    let fact = some_fact s.facts is.n is.from (omega (arith, to, within)) in
+    telling_of_fact side s is.n fact.0 packet legal fits to fact.1 is.let_out_by is.passes
