@@ -1,15 +1,25 @@
 -- A statement that fails leaves the database as it was, or rolls it back.
-use Rattle.std.proofs.Common.{◌⊎◌, inl, inr, ℕ, List, None, Some, Err, Option, false, sym, ◌∙◌, subst, IsTrue, IfOk, IfErr, OnOk, Ok, Result}
+use Rattle.std.proofs.Common.{◌≡◌, ◌⊎◌, inl, inr, ℕ, List, None, Some, Err, Option, false, sym, ◌∙◌, subst, IsTrue, IfOk, IfErr, OnOk, Ok, Result}
 use Rattle.std.proofs.lemmas.Bool.{cases_Bool}
 use Rattle.sqlite_value.specs.Order.{Row}
 use Rattle.sqlite_schema.specs.declared.command.Returning.{Returning}
 use Rattle.sqlite_resolve.specs.declared.compiled.Compiled.{Compiled}
+use Rattle.sqlite_resolve.specs.declared.error.CompileError.{CompileError}
+use Rattle.sqlite_resolve.specs.declared.error.CompileError.TheVariants.{Mismatch}
+use Rattle.sqlite_schema.specs.declared.schema.Schema.{Schema}
 use Rattle.sqlite.specs.declared.error.Error.{Error}
 use Rattle.sqlite.specs.State.{State, IsUnchanged, IsRolledBack, FailsToQuery, FailsToShow, Shown, ShowsRows, IsNotRun, Fails, ExecutesIn, Executes, RunsCommand, shows_rows}
 use Rattle.sqlite.specs.Clock.{timed}
 use Rattle.sqlite.specs.Listing.{understood}
 use Rattle.sqlite.proofs.Callers.{IsPlain}
 use Rattle.gi_store.specs.Keeping.{IsIdle, Keeps}
+
+-- the text is refused, or it is plain
+abbrev pub MayRun : Schema → List ℕ → Type 0
+MayRun schema sql = (understood schema sql ≡ Err Mismatch) ⊎ IsPlain (understood schema sql)
+
+pub not_both : (schema : Schema) (sql : List ℕ) (c : Compiled) → understood schema sql ≡ Err Mismatch → understood schema sql ≡ Ok c → ⊥
+not_both schema sql c refused is = let both : ◌≡◌ {A = Result Compiled CompileError} (Err Mismatch) (Ok c) = sym refused ∙ is in cc
 
 module _ (old new : State) where
   abbrev pub IsUndone : Type 0
@@ -66,19 +76,20 @@ module _ (old new : State) where
   unfolding Shown
   shown_opened sql params rows h = shows_opened sql h.0 _ rows _ h.2
 
-  pub shown_same : (sql : List ℕ) (params : Row) (rows : List Row) → IsPlain (understood old.now.schema sql) → Shown sql params old new rows → IsUnchanged old new
+  pub shown_same : (sql : List ℕ) (params : Row) (rows : List Row) → MayRun old.now.schema sql → Shown sql params old new rows → IsUnchanged old new
   unfolding Shown
-  shown_same sql params rows plain h =
+  shown_same sql params rows (inl refused) h = absurd (not_both old.now.schema sql h.0 refused h.1.is)
+  shown_same sql params rows (inr plain) h =
       let none = (subst IsPlain h.1.is plain).0 in
       (subst (ShowsRows old new sql h.0 (timed params h.0.formats h.1.now) rows) none h.2).3
 
   -- whatever a plain query answers, it leaves the database as it was, or rolls it back
-  pub queried : {X : Type 0} (sql : List ℕ) (params : Row) (items : X → List Row) (r : Result X Error) → IsPlain (understood old.now.schema sql)
+  pub queried : {X : Type 0} (sql : List ℕ) (params : Row) (items : X → List Row) (r : Result X Error) → MayRun old.now.schema sql
       → IfOk r (λ x. Shown sql params old new (items x)) → IfErr r (FailsToQuery sql params old new) → IsUndone
   queried sql params items (Ok x) plain ok err = inl (shown_same sql params (items x) plain ok)
   queried sql params items (Err e) plain ok err = query_undone sql params e err
 
-  pub query_opened : {X : Type 0} (sql : List ℕ) (params : Row) (items : X → List Row) (r : Result X Error) → IsPlain (understood old.now.schema sql)
+  pub query_opened : {X : Type 0} (sql : List ℕ) (params : Row) (items : X → List Row) (r : Result X Error) → MayRun old.now.schema sql
       → IfOk r (λ x. Shown sql params old new (items x)) → OnOk r (IsTrue new.is_open)
   query_opened sql params items (Ok x) plain ok = (shown_same sql params (items x) plain ok).0.is_open
   query_opened sql params items (Err e) plain ok = tt

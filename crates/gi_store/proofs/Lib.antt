@@ -1,3 +1,4 @@
+pub mod Listed
 pub mod Texts
 pub mod Failures
 pub mod Meanings

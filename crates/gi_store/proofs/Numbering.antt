@@ -11,6 +11,7 @@ use Rattle.sqlite_value.specs.declared.value.Value.TheVariants.{Int}
 use Rattle.sqlite_value.specs.Order.{Row, column, value_cmp}
 use Rattle.sqlite_value.proofs.OrderLemmas.{value_cmp-Int}
 use Rattle.sqlite_trees.specs.Tree.{Trees, put_row}
+use Rattle.sqlite_schema.specs.declared.schema.Schema.{Schema}
 use Rattle.sqlite.specs.State.{State}
 use Rattle.gi_facts.specs.declared.fact.Fact.{Fact}
 use Rattle.gi_facts.specs.Decoding.{fact_of}
@@ -96,19 +97,19 @@ read_known s facts h = known_if s (length facts) (record { is_open = h.is_open; 
 
 -- ---- the row of a fact
 
-pub saves : (n k : ℕ) (fact : Fact) (text : List ℕ) (old new : Trees) → AreNumbered (fact_rows old) k → n ≡ k + 1 → text ≡ fact_text fact → PutsRow n text old new → AddsFact n fact old new
-saves n k fact text old new numbered next is puts = (
-  subst (λ t. fact_rows new ≡ fact_rows old ++ row_of n t ∷ []) is
-      (subst (λ m. new facts_tree ≡ put_row (kept_row m text) (old facts_tree) → fact_rows new ≡ fact_rows old ++ row_of m text ∷ []) (sym next)
-      (λ put. ap (map both_columns) put ∙ comes_last k text (old facts_tree) numbered) puts.facts),
+pub saves : (schema : Schema) (n k : ℕ) (fact : Fact) (text : List ℕ) (old new : Trees) → AreNumbered (fact_rows schema old) k → n ≡ k + 1 → text ≡ fact_text fact → PutsRow schema n text old new → AddsFact schema n fact old new
+saves schema n k fact text old new numbered next is puts = (
+  subst (λ t. fact_rows schema new ≡ fact_rows schema old ++ row_of n t ∷ []) is
+      (subst (λ m. new (facts_tree schema) ≡ put_row (kept_row m text) (old (facts_tree schema)) → fact_rows schema new ≡ fact_rows schema old ++ row_of m text ∷ []) (sym next)
+      (λ put. ap (map both_columns) put ∙ comes_last k text (old (facts_tree schema)) numbered) puts.facts),
   puts.others,
 )
 
-pub saved_numbered : (n k : ℕ) (fact : Fact) (old new : Trees) → AreNumbered (fact_rows old) k → n ≡ k + 1 → AddsFact n fact old new → AreNumbered (fact_rows new) n
-saved_numbered n k fact old new numbered next adds =
-    subst (λ rows. AreNumbered rows n) (sym adds.0) (subst (λ m. AreNumbered (fact_rows old ++ row_of m (fact_text fact) ∷ []) m) (sym next) (numbered_more (fact_rows old) k (fact_text fact) numbered))
+pub saved_numbered : (schema : Schema) (n k : ℕ) (fact : Fact) (old new : Trees) → AreNumbered (fact_rows schema old) k → n ≡ k + 1 → AddsFact schema n fact old new → AreNumbered (fact_rows schema new) n
+saved_numbered schema n k fact old new numbered next adds =
+    subst (λ rows. AreNumbered rows n) (sym adds.0) (subst (λ m. AreNumbered (fact_rows schema old ++ row_of m (fact_text fact) ∷ []) m) (sym next) (numbered_more (fact_rows schema old) k (fact_text fact) numbered))
 
-pub saved_facts : (n k : ℕ) (fact : Fact) (facts : List Fact) (old new : Trees) → AreNumbered (fact_rows old) k → n ≡ k + 1 → fact_of (fact_text fact) ≡ Some fact → AddsFact n fact old new → AreFacts (fact_rows old) facts → AreFacts (fact_rows new) (facts ++ fact ∷ [])
-saved_facts n k fact facts old new numbered next reads adds h =
+pub saved_facts : (schema : Schema) (n k : ℕ) (fact : Fact) (facts : List Fact) (old new : Trees) → AreNumbered (fact_rows schema old) k → n ≡ k + 1 → fact_of (fact_text fact) ≡ Some fact → AddsFact schema n fact old new → AreFacts (fact_rows schema old) facts → AreFacts (fact_rows schema new) (facts ++ fact ∷ [])
+saved_facts schema n k fact facts old new numbered next reads adds h =
     subst (λ rows. AreFacts rows (facts ++ fact ∷ [])) (sym adds.0)
-    (subst (λ m. AreFacts (fact_rows old ++ row_of m (fact_text fact) ∷ []) (facts ++ fact ∷ [])) (sym next) (facts_more (fact_rows old) k (fact_text fact) facts fact numbered reads h))
+    (subst (λ m. AreFacts (fact_rows schema old ++ row_of m (fact_text fact) ∷ []) (facts ++ fact ∷ [])) (sym next) (facts_more (fact_rows schema old) k (fact_text fact) facts fact numbered reads h))

@@ -1,8 +1,10 @@
 -- What the two queries of the book answer.
-use Rattle.std.proofs.Common.{◌≡◌, ℕ, suc, ◌+◌, ◌<◌, ◌≤◌, List, [], ◌∷◌, map, length, get_or, All, false, refl, sym, ap, subst, ◌∙◌, arith, drop, inl, inr, Ok, Err, Result, IfOk, IsTrue}
+use Rattle.std.proofs.Common.{◌≡◌, ℕ, suc, ◌+◌, ◌<◌, ◌≤◌, ◌^◌, nat_le, codes, List, [], ◌∷◌, map, length, get_or, All, false, refl, sym, ap, subst, ◌∙◌, arith, drop, inl, inr, Ok, Err, Result, IfOk, IsTrue}
 use Rattle.std.specs.List.{flat_map, AllByRecursion}
 use Rattle.std.specs.List.Sorted.{IsPermutation, IsSorted}
 use Rattle.std.specs.Ordering.{is_lt}
+use Rattle.std.proofs.lemmas.Bool.{cases_Bool}
+use Rattle.sqlite_resolve.specs.declared.error.CompileError.TheVariants.{Mismatch}
 use Rattle.std.proofs.lemmas.List.{get_or-map, length-map}
 use Rattle.std.proofs.lemmas.List.Elements.{All-map}
 use Rattle.std.proofs.lemmas.List.Concat.{flat_map_single}
@@ -18,13 +20,15 @@ use Rattle.sqlite.specs.Listing.{understood}
 use Rattle.sqlite.specs.Held.{Held, state}
 use Rattle.sqlite.specs.Store.{Ghosts}
 use Rattle.sqlite.specs.State.{State, HasCleanDisk, Survives, CommitsShowing, Shown}
-use Rattle.sqlite.proofs.Callers.{IsPlain, reads_as, never_commits, one_permutation}
-use Rattle.gi_store.specs.Tables.{book_schema}
-use Rattle.gi_store.specs.Rows.{fact_rows, book_rows, first_version}
+use Rattle.sqlite.proofs.Callers.{reads_as, never_commits, one_permutation}
+use Rattle.sqlite_trees.specs.Tree.{Trees}
+use Rattle.gi_store.specs.Tables.{HasTables, book_table, facts_table, book_tree, facts_tree}
+use Rattle.gi_store.specs.Rows.{both_columns, facts_in, versions_in, first_version}
 use Rattle.gi_store.specs.Keeping.{AddsNoOutcome, IsFirstBook, Keeps}
-use Rattle.gi_store.proofs.Failures.{shown_same}
+use Rattle.gi_store.proofs.Failures.{MayRun, not_both, shown_same}
 use Rattle.gi_store.specs.Order.{InOrder, ArePutInOrder}
-use Rattle.gi_store.proofs.Texts.{read_version, read_facts, facts_query, version_query, read_version_is, read_facts_is, read_version_plain, read_facts_plain}
+use Rattle.gi_store.proofs.Texts.{read_version, read_facts, facts_query, version_query, IsQuery, MayAsk, version_asked, facts_asked}
+use Rattle.gi_store.proofs.Listed.{is_at}
 
 map_twice : {X Y Z : Type 0} (f : Y → Z) (g : X → Y) (xs : List X) → map f (map g xs) ≡ map (λ x. f (g x)) xs
 map_twice f g [] = refl
@@ -37,16 +41,37 @@ whole (x ∷ xs) = refl
 staged_rows : (rows : List Row) → flat_map (λ r. ([] ∷ r ∷ []) ∷ []) rows ≡ map (λ r. [] ∷ r ∷ []) rows
 staged_rows = flat_map_single (λ r. [] ∷ r ∷ [])
 
-pub reads_version : (old new : State) (rows : List Row) → old.now.schema ≡ book_schema → Shown read_version [] old new rows → IsPermutation (book_rows old.now.trees) rows
-reads_version old new rows has h =
-    let got = reads_as read_version [] old new book_schema has _ read_version_is.0 read_version_plain read_version_is.1 rows h in
-    let a : IsAnswer version_query (overlay old.now.trees []) [] rows = got.answer Null in
-    let staged : a.staged ≡ map (λ r. [] ∷ r ∷ []) (old.now.trees 0) = a.grouped ∙ staged_rows (old.now.trees 0) in
-    let kept : map (λ (o : Output). o.1) a.kept ≡ book_rows old.now.trees =
-    ap (map (λ (o : Output). o.1)) (a.distinct ∙ ap (map (output version_query)) staged) ∙ (map_twice (λ (o : Output). o.1) (output version_query) _ ∙ map_twice (λ e. (output version_query e).1) (λ r. [] ∷ r ∷ []) (old.now.trees 0)) in
+overlay_of : (db : Trees) (tree : ℕ) → overlay db [] tree ≡ db tree
+overlay_of db tree = elim (cases_Bool (nat_le (2 ^ 31) tree)) [ inl high ↦ rw high refl | inr low ↦ rw low refl ]
+
+-- a text that is refused shows nothing
+not_shown : (sql : List ℕ) (old new : State) (rows : List Row) → understood old.now.schema sql ≡ Err Mismatch → Shown sql [] old new rows → ⊥
+unfolding Shown
+not_shown sql old new rows refused h = not_both old.now.schema sql h.0 refused h.1.is
+
+version_rows : (old new : State) (tree : ℕ) (names : List (List ℕ)) (rows : List Row) → IsQuery old.now.schema read_version (version_query tree) names → Shown read_version [] old new rows → IsPermutation (map both_columns (old.now.trees tree)) rows
+version_rows old new tree names rows asked h =
+    let got = reads_as read_version [] old new old.now.schema refl _ asked.command asked.plain asked.unlisted rows h in
+    let a : IsAnswer (version_query tree) (overlay old.now.trees []) [] rows = got.answer Null in
+    let staged : a.staged ≡ map (λ r. [] ∷ r ∷ []) (old.now.trees tree) = a.grouped ∙ (staged_rows (overlay old.now.trees [] tree) ∙ ap (map (λ r. [] ∷ r ∷ [])) (overlay_of old.now.trees tree)) in
+    let kept : map (λ (o : Output). o.1) a.kept ≡ map both_columns (old.now.trees tree) =
+    ap (map (λ (o : Output). o.1)) (a.distinct ∙ ap (map (output (version_query tree))) staged)
+    ∙ (map_twice (λ (o : Output). o.1) (output (version_query tree)) _ ∙ map_twice (λ e. (output (version_query tree) e).1) (λ r. [] ∷ r ∷ []) (old.now.trees tree)) in
     let same = IsPermutation-map (λ (o : Output). o.1) a.kept a.ordered a.same in
     let shown : rows ≡ map (λ (o : Output). o.1) a.ordered = a.shown ∙ whole _ in
-    subst (λ l. IsPermutation (book_rows old.now.trees) l) (sym shown) (subst (λ l. IsPermutation l (map (λ (o : Output). o.1) a.ordered)) kept same)
+    subst (λ l. IsPermutation (map both_columns (old.now.trees tree)) l) (sym shown) (subst (λ l. IsPermutation l (map (λ (o : Output). o.1) a.ordered)) kept same)
+
+version_place : (s : State) → HasTables s.now.schema → MayAsk s.now.schema read_version (version_query (book_tree s.now.schema)) (codes "id" ∷ codes "version" ∷ [])
+version_place s has = version_asked s.now.schema (book_tree s.now.schema) (is_at s.now.schema (codes "book") (book_table (book_tree s.now.schema)) has.book)
+
+facts_place : (s : State) → HasTables s.now.schema → MayAsk s.now.schema read_facts (facts_query (facts_tree s.now.schema)) (codes "n" ∷ codes "body" ∷ [])
+facts_place s has = facts_asked s.now.schema (facts_tree s.now.schema) (is_at s.now.schema (codes "facts") (facts_table (facts_tree s.now.schema)) has.facts)
+
+reads_version : (old new : State) (rows : List Row) → HasTables old.now.schema → Shown read_version [] old new rows → IsPermutation (versions_in old.now) rows
+reads_version old new rows has h = elim (version_place old has) [
+  | inl refused ↦ absurd (not_shown read_version old new rows refused h)
+  | inr asked ↦ version_rows old new (book_tree old.now.schema) _ rows asked h
+]
 
 -- ---- the order
 
@@ -54,8 +79,8 @@ reads_version old new rows has h =
 abbrev IsKeyed : Output → Type 0
 IsKeyed o = o.0 ≡ column o.1 0 ∷ []
 
-keyed_rows : (rows : List Row) → All IsKeyed (map (output facts_query) (map (λ r. [] ∷ r ∷ []) rows))
-keyed_rows rows = All-map IsKeyed (output facts_query) (map (λ r. [] ∷ r ∷ []) rows) (All-map (λ e. IsKeyed (output facts_query e)) (λ r. [] ∷ r ∷ []) rows (λ k d low. refl))
+keyed_rows : (tree : ℕ) (rows : List Row) → All IsKeyed (map (output (facts_query tree)) (map (λ r. [] ∷ r ∷ []) rows))
+keyed_rows tree rows = All-map IsKeyed (output (facts_query tree)) (map (λ r. [] ∷ r ∷ []) rows) (All-map (λ e. IsKeyed (output (facts_query tree) e)) (λ r. [] ∷ r ∷ []) rows (λ k d low. refl))
 
 far_order : (xs : List Row) → ((i j : ℕ) (d : Row) → i ≤ j → j < length xs → is_lt (value_cmp (column (get_or xs j d) 0) (column (get_or xs i d) 0)) ≡ false) → InOrder xs
 far_order [] h = tt
@@ -65,8 +90,8 @@ far_order (x ∷ xs) h = (above xs (λ j d low. h 0 (suc j) d (omega arith) (ome
     above [] k = tt
     above (y ∷ ys) k = (k 0 y (omega arith), above ys (λ j d low. k (suc j) d (omega arith)))
 
-shown_order : (outs : List Output) → All IsKeyed outs → IsSorted (output_cmp facts_query) outs → InOrder (map (λ (o : Output). o.1) outs)
-shown_order outs keyed sorted =
+shown_order : (tree : ℕ) (outs : List Output) → All IsKeyed outs → IsSorted (output_cmp (facts_query tree)) outs → InOrder (map (λ (o : Output). o.1) outs)
+shown_order tree outs keyed sorted =
     far_order (map (λ (o : Output). o.1) outs) (sorted_far (λ a b. is_lt (value_cmp (column a 0) (column b 0))) (ranks_by value_cmp_total (λ r. column r 0)) (map (λ (o : Output). o.1) outs) near)
   where
     near : (k : ℕ) (d : Row) → 0 ≤ k → k + 1 < length (map (λ (o : Output). o.1) outs)
@@ -82,55 +107,66 @@ shown_order outs keyed sorted =
         let s = sorted k o up within in
         rw (later, first) (rw (key-later, key-first, then-Equal) at s)
 
-pub reads_facts : (old new : State) (rows : List Row) → old.now.schema ≡ book_schema → Shown read_facts [] old new rows → ArePutInOrder (fact_rows old.now.trees) rows
-reads_facts old new rows has h =
-    let got = reads_as read_facts [] old new book_schema has _ read_facts_is.0 read_facts_plain read_facts_is.1 rows h in
-    let a : IsAnswer facts_query (overlay old.now.trees []) [] rows = got.answer Null in
-    let staged : a.staged ≡ map (λ r. [] ∷ r ∷ []) (old.now.trees 1) = a.grouped ∙ staged_rows (old.now.trees 1) in
-    let all : a.kept ≡ map (output facts_query) (map (λ r. [] ∷ r ∷ []) (old.now.trees 1)) = a.distinct ∙ ap (map (output facts_query)) staged in
-    let kept : map (λ (o : Output). o.1) a.kept ≡ fact_rows old.now.trees =
-    ap (map (λ (o : Output). o.1)) all ∙ (map_twice (λ (o : Output). o.1) (output facts_query) _ ∙ map_twice (λ e. (output facts_query e).1) (λ r. [] ∷ r ∷ []) (old.now.trees 1)) in
+fact_list : (old new : State) (tree : ℕ) (names : List (List ℕ)) (rows : List Row) → IsQuery old.now.schema read_facts (facts_query tree) names → Shown read_facts [] old new rows → ArePutInOrder (map both_columns (old.now.trees tree)) rows
+fact_list old new tree names rows asked h =
+    let got = reads_as read_facts [] old new old.now.schema refl _ asked.command asked.plain asked.unlisted rows h in
+    let a : IsAnswer (facts_query tree) (overlay old.now.trees []) [] rows = got.answer Null in
+    let staged : a.staged ≡ map (λ r. [] ∷ r ∷ []) (old.now.trees tree) = a.grouped ∙ (staged_rows (overlay old.now.trees [] tree) ∙ ap (map (λ r. [] ∷ r ∷ [])) (overlay_of old.now.trees tree)) in
+    let all : a.kept ≡ map (output (facts_query tree)) (map (λ r. [] ∷ r ∷ []) (old.now.trees tree)) = a.distinct ∙ ap (map (output (facts_query tree))) staged in
+    let kept : map (λ (o : Output). o.1) a.kept ≡ map both_columns (old.now.trees tree) =
+    ap (map (λ (o : Output). o.1)) all ∙ (map_twice (λ (o : Output). o.1) (output (facts_query tree)) _ ∙ map_twice (λ e. (output (facts_query tree) e).1) (λ r. [] ∷ r ∷ []) (old.now.trees tree)) in
     let same = IsPermutation-map (λ (o : Output). o.1) a.kept a.ordered a.same in
     let shown : rows ≡ map (λ (o : Output). o.1) a.ordered = a.shown ∙ whole _ in
-    let keyed : All IsKeyed a.ordered = All-permutation IsKeyed a.kept a.ordered a.same (subst (All IsKeyed) (sym all) (keyed_rows (old.now.trees 1))) in
+    let keyed : All IsKeyed a.ordered = All-permutation IsKeyed a.kept a.ordered a.same (subst (All IsKeyed) (sym all) (keyed_rows tree (old.now.trees tree))) in
     record {
-      same = subst (λ l. IsPermutation (fact_rows old.now.trees) l) (sym shown) (subst (λ l. IsPermutation l (map (λ (o : Output). o.1) a.ordered)) kept same);
-      order = subst InOrder (sym shown) (shown_order a.ordered keyed a.sorted);
+      same = subst (λ l. IsPermutation (map both_columns (old.now.trees tree)) l) (sym shown) (subst (λ l. IsPermutation l (map (λ (o : Output). o.1) a.ordered)) kept same);
+      order = subst InOrder (sym shown) (shown_order tree a.ordered keyed a.sorted);
     }
+
+reads_facts : (old new : State) (rows : List Row) → HasTables old.now.schema → Shown read_facts [] old new rows → ArePutInOrder (facts_in old.now) rows
+reads_facts old new rows has h = elim (facts_place old has) [
+  | inl refused ↦ absurd (not_shown read_facts old new rows refused h)
+  | inr asked ↦ fact_list old new (facts_tree old.now.schema) _ rows asked h
+]
 
 -- ---- the answers
 
-pub version_answer : (old new : State) {X : Type 0} (items : X → List Row) (r : Result X Error) → old.now.schema ≡ book_schema → IfOk r (λ x. Shown read_version [] old new (items x)) → IfOk r (λ x. IsPermutation (book_rows new.now.trees) (items x))
+pub plain_version : (s : State) → HasTables s.now.schema → MayRun s.now.schema read_version
+plain_version s has = elim (version_place s has) [ inl refused ↦ inl refused | inr asked ↦ inr asked.plain ]
+
+pub plain_facts : (s : State) → HasTables s.now.schema → MayRun s.now.schema read_facts
+plain_facts s has = elim (facts_place s has) [ inl refused ↦ inl refused | inr asked ↦ inr asked.plain ]
+
+pub version_answer : (old new : State) {X : Type 0} (items : X → List Row) (r : Result X Error) → HasTables old.now.schema → IfOk r (λ x. Shown read_version [] old new (items x)) → IfOk r (λ x. IsPermutation (versions_in new.now) (items x))
 version_answer old new items (Ok x) has h =
-    let same = shown_same old new read_version [] (items x) (subst (λ s. IsPlain (understood s read_version)) (sym has) read_version_plain) h in
-    subst (λ (d : Database). IsPermutation (book_rows d.trees) (items x)) (sym same.0.now_is) (reads_version old new (items x) has h)
+    let same = shown_same old new read_version [] (items x) (plain_version old has) h in
+    subst (λ (d : Database). IsPermutation (versions_in d) (items x)) (sym same.0.now_is) (reads_version old new (items x) has h)
 version_answer old new items (Err e) has h = tt
 
-pub facts_answer : (old new : State) {X : Type 0} (items : X → List Row) (r : Result X Error) → old.now.schema ≡ book_schema → IfOk r (λ x. Shown read_facts [] old new (items x)) → IfOk r (λ x. ArePutInOrder (fact_rows new.now.trees) (items x))
+pub facts_answer : (old new : State) {X : Type 0} (items : X → List Row) (r : Result X Error) → HasTables old.now.schema → IfOk r (λ x. Shown read_facts [] old new (items x)) → IfOk r (λ x. ArePutInOrder (facts_in new.now) (items x))
 facts_answer old new items (Ok x) has h =
-    let same = shown_same old new read_facts [] (items x) (subst (λ s. IsPlain (understood s read_facts)) (sym has) read_facts_plain) h in
-    subst (λ (d : Database). ArePutInOrder (fact_rows d.trees) (items x)) (sym same.0.now_is) (reads_facts old new (items x) has h)
+    let same = shown_same old new read_facts [] (items x) (plain_facts old has) h in
+    subst (λ (d : Database). ArePutInOrder (facts_in d) (items x)) (sym same.0.now_is) (reads_facts old new (items x) has h)
 facts_answer old new items (Err e) has h = tt
 
-pub plain_version : (s : State) → s.now.schema ≡ book_schema → IsPlain (understood s.now.schema read_version)
-plain_version s has = subst (λ t. IsPlain (understood t read_version)) (sym has) read_version_plain
+no_commit : (sql : List ℕ) (params : Row) (s : State) (db : Trees) → MayRun s.now.schema sql → ¬ CommitsShowing sql params s db
+unfolding CommitsShowing
+no_commit sql params s db (inl refused) h = not_both s.now.schema sql h.0 refused h.1.is
+no_commit sql params s db (inr plain) h = never_commits sql params s db plain h
 
-pub plain_facts : (s : State) → s.now.schema ≡ book_schema → IsPlain (understood s.now.schema read_facts)
-plain_facts s has = subst (λ t. IsPlain (understood t read_facts)) (sym has) read_facts_plain
-
-pub adds_nothing : (sql : List ℕ) (params : Row) (old new : State) → IsPlain (understood old.now.schema sql) → Survives old new (CommitsShowing sql params old) → HasCleanDisk new → AddsNoOutcome old new
-adds_nothing sql params old new plain survives clean db leaves = elim (survives.crash clean db leaves) [ inl was ↦ was | inr commits ↦ absurd (never_commits sql params old db plain commits) ]
+pub adds_nothing : (sql : List ℕ) (params : Row) (old new : State) → MayRun old.now.schema sql → Survives old new (CommitsShowing sql params old) → HasCleanDisk new → AddsNoOutcome old new
+adds_nothing sql params old new plain survives clean db leaves = elim (survives.crash clean db leaves) [ inl was ↦ was | inr commits ↦ absurd (no_commit sql params old db plain commits) ]
 
 -- ---- the one row of the version
 
-pub version_read : {S : Type 0} (g : Ghosts S) (old new : Held S) (rows : List Row) → Keeps (state g old) (state g new) → IsTrue (state g new).is_open → old.schema ≡ book_schema → IsPermutation (book_rows (state g new).now.trees) rows
+pub version_read : {S : Type 0} (g : Ghosts S) (old new : Held S) (rows : List Row) → Keeps (state g old) (state g new) → IsTrue (state g new).is_open → HasTables old.schema → IsPermutation (versions_in (state g new).now) rows
     → rows ≡ first_version ∷ [] → IsFirstBook (state g new).now
 version_read g old new rows kept up has same is = record {
-  tables = ap (λ (d : Database). d.schema) (kept.same up) ∙ has;
-  version = one_permutation first_version (book_rows (state g new).now.trees) (IsPermutation-sym _ _ (subst (λ l. IsPermutation (book_rows (state g new).now.trees) l) is same));
+  tables = subst (λ (d : Database). HasTables d.schema) (sym (kept.same up)) has;
+  version = one_permutation first_version (versions_in (state g new).now) (IsPermutation-sym _ _ (subst (λ l. IsPermutation (versions_in (state g new).now) l) is same));
 }
 
-pub version_missed : {S : Type 0} (g : Ghosts S) (old new : Held S) (rows : List Row) → Keeps (state g old) (state g new) → IsTrue (state g new).is_open → IsPermutation (book_rows (state g new).now.trees) rows
+pub version_missed : {S : Type 0} (g : Ghosts S) (old new : Held S) (rows : List Row) → Keeps (state g old) (state g new) → IsTrue (state g new).is_open → IsPermutation (versions_in (state g new).now) rows
     → IsFirstBook (state g old).now → rows ≡ first_version ∷ []
 version_missed g old new rows kept up same book =
-    one_permutation first_version rows (subst (λ l. IsPermutation l rows) (ap (λ (d : Database). book_rows d.trees) (kept.same up) ∙ book.version) same)
+    one_permutation first_version rows (subst (λ l. IsPermutation l rows) (ap (λ (d : Database). versions_in d) (kept.same up) ∙ book.version) same)

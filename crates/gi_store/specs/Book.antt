@@ -4,6 +4,8 @@ use Rattle.std.specs.Coded.{Coded, code_by, coded×, coded_ℕ, coded_option}
 use Rattle.sqlite_value.specs.declared.value.Value.TheVariants.{Int}
 use Rattle.sqlite_value.specs.Order.{Row, column}
 use Rattle.sqlite_trees.specs.Tree.{Trees}
+use Rattle.sqlite_schema.specs.declared.schema.Schema.{Schema}
+use Rattle.sqlite_rules.specs.Edit.{IsNoIndex}
 use Rattle.sqlite.specs.State.{State}
 use Rattle.sqlite.specs.Held.{Held, held_code}
 use Rattle.gi_facts.specs.declared.fact.Fact.{Fact}
@@ -11,8 +13,8 @@ use Rattle.gi_facts.specs.Writing.{fact_text}
 use Rattle.gi_store.specs.declared.store_fault.StoreFault.{StoreFault}
 use Rattle.gi_store.specs.declared.store_fault.StoreFault.TheVariants.{Version, Gap, Damaged, NotLoaded, NotNext, Store, OutOfMemory}
 use Rattle.gi_store.specs.FaultText.{IsFailure}
-use Rattle.gi_store.specs.Tables.{book_schema, facts_tree}
-use Rattle.gi_store.specs.Rows.{fact_rows, row_of}
+use Rattle.gi_store.specs.Tables.{HasTables, facts_tree}
+use Rattle.gi_store.specs.Rows.{fact_rows, facts_in, row_of}
 use Rattle.gi_store.specs.Order.{ArePutInOrder}
 use Rattle.gi_store.specs.Facts.{AreFacts, StopsIn}
 use Rattle.gi_store.specs.Keeping.{IsFirstBook, IsIdle}
@@ -40,8 +42,8 @@ pub record AreNumbered (rows : List Row) (k : ℕ) : Type 0 where
 -- the connection is open at a book whose rows are 1 to k
 pub record IsKnown (s : State) (k : ℕ) : Type 0 where
   pub is_open : IsTrue s.is_open
-  pub tables : s.now.schema ≡ book_schema
-  pub numbered : AreNumbered (fact_rows s.now.trees) k
+  pub tables : HasTables s.now.schema
+  pub numbered : AreNumbered (facts_in s.now) k
 
 -- A book between its calls: nothing waits to be committed, and where it is loaded, its rows are known.
 pub record IsKept (s : State) (loaded : Option ℕ) : Type 0 where
@@ -61,13 +63,13 @@ IsCounted loaded = IfSome loaded (λ k. k < 4294967295)
 pub record IsRead (s : State) (facts : List Fact) : Type 0 where
   pub is_open : IsTrue s.is_open
   pub book : IsFirstBook s.now
-  pub rows : AreFacts (fact_rows s.now.trees) facts
+  pub rows : AreFacts (facts_in s.now) facts
 
 -- A book of version 1 whose rows, in the order of their numbers, are facts from 1 on up to one of them, which is refused.
 pub record Stops (s : State) (fault : StoreFault) : Type 0 where
   pub book : IsFirstBook s.now
   pub ordered : List Row
-  pub order : ArePutInOrder (fact_rows s.now.trees) ordered
+  pub order : ArePutInOrder (facts_in s.now) ordered
   pub stops : StopsIn ordered fault
 
 -- why a book is not loaded; the failures of the database and want of memory have no cause here
@@ -82,24 +84,25 @@ IsLoadFault s (NotNext n) = ⊥
 
 -- ---- save_next
 
--- the row of the fact comes after the others, and all else stays
-abbrev pub AddsFact : ℕ → Fact → Trees → Trees → Type 0
-AddsFact n fact old new = (fact_rows new ≡ fact_rows old ++ row_of n (fact_text fact) ∷ []) × ((t : ℕ) → t ≢ facts_tree → new t ≡ old t)
+-- the row of the fact comes after the others, and all else but the indexes stays
+abbrev pub AddsFact : Schema → ℕ → Fact → Trees → Trees → Type 0
+AddsFact schema n fact old new = (fact_rows schema new ≡ fact_rows schema old ++ row_of n (fact_text fact) ∷ []) × ((t : ℕ) → t ≢ facts_tree schema → IsNoIndex schema t → new t ≡ old t)
 
 -- the fact's row is there, and each crash from now on leaves it
 pub record IsSaved (n : ℕ) (fact : Fact) (old new : State) : Type 0 where
   pub is_open : IsTrue new.is_open
-  pub tables : new.now.schema ≡ book_schema
-  pub rows : AddsFact n fact old.now.trees new.now.trees
+  pub tables : HasTables new.now.schema
+  pub schema : new.now.schema ≡ old.now.schema
+  pub rows : AddsFact old.now.schema n fact old.now.trees new.now.trees
   pub durable : (db : Trees) → new.may_leave db → db ≡ new.now.trees
 
 -- a crash leaves what it could leave before, or that with the fact's row
 abbrev pub SavesOrLeaves : ℕ → Fact → State → State → Type 0
-SavesOrLeaves n fact old new = (db : Trees) → new.may_leave db → old.may_leave db ⊎ AddsFact n fact old.now.trees db
+SavesOrLeaves n fact old new = (db : Trees) → new.may_leave db → old.may_leave db ⊎ AddsFact old.now.schema n fact old.now.trees db
 
 -- Where rows are known, a crash leaves the rows as they were, or those with the fact's row.
 abbrev pub SavesOrNot : ℕ → Fact → Option ℕ → State → State → Type 0
-SavesOrNot n fact loaded old new = IfSome loaded (λ _. (db : Trees) → new.may_leave db → (db ≡ old.now.trees) ⊎ AddsFact n fact old.now.trees db)
+SavesOrNot n fact loaded old new = IfSome loaded (λ _. (db : Trees) → new.may_leave db → (db ≡ old.now.trees) ⊎ AddsFact old.now.schema n fact old.now.trees db)
 
 -- the answer where so many rows are known: another number is refused, and the next one may fail
 abbrev pub AnswersNext : ℕ → ℕ → Result (Unit {0}) StoreFault → Type 0

@@ -3,6 +3,8 @@ use Rattle.std.specs.Prelude.{◌≡◌, ℕ, pos, List, [], ◌∷◌, map}
 use Rattle.sqlite_value.specs.declared.value.Value.TheVariants.{Null, Int, Text as Words}
 use Rattle.sqlite_value.specs.Order.{Row, column}
 use Rattle.sqlite_trees.specs.Tree.{Trees}
+use Rattle.sqlite_schema.specs.declared.schema.Schema.{Schema}
+use Rattle.sqlite.specs.Effect.{Database}
 use Rattle.gi_store.specs.Tables.{book_tree, facts_tree}
 
 -- SQLite keeps a row of either table as its number, NULL in the place of the column that is the number, and the other column.
@@ -10,12 +12,18 @@ abbrev pub both_columns : Row → Row
 both_columns row = column row 0 ∷ column row 2 ∷ []
 
 -- each row of the table `facts`: its number and its body
-abbrev pub fact_rows : Trees → List Row
-fact_rows db = map both_columns (db facts_tree)
+abbrev pub fact_rows : Schema → Trees → List Row
+fact_rows schema db = map both_columns (db (facts_tree schema))
+
+abbrev pub facts_in : Database → List Row
+facts_in db = fact_rows db.schema db.trees
 
 -- each row of the table `book`: its id and its version
-abbrev pub book_rows : Trees → List Row
-book_rows db = map both_columns (db book_tree)
+abbrev pub book_rows : Schema → Trees → List Row
+book_rows schema db = map both_columns (db (book_tree schema))
+
+abbrev pub versions_in : Database → List Row
+versions_in db = book_rows db.schema db.trees
 
 -- the row with this number and this text
 abbrev pub row_of : ℕ → List ℕ → Row
@@ -32,5 +40,5 @@ kept_version = Int (pos 1) ∷ Null ∷ Int (pos 1) ∷ []
 abbrev pub first_version : Row
 first_version = Int (pos 1) ∷ Int (pos 1) ∷ []
 
-abbrev pub HasFirstVersion : Trees → Type 0
-HasFirstVersion db = book_rows db ≡ first_version ∷ []
+abbrev pub HasFirstVersion : Database → Type 0
+HasFirstVersion db = versions_in db ≡ first_version ∷ []

@@ -1,5 +1,5 @@
 -- The two tables of a book: `book`, whose one row says its version, and `facts`, with a row for each fact.
-use Rattle.std.specs.Prelude.{◌≡◌, ℕ, Bool, true, false, List, [], ◌∷◌, codes, Some}
+use Rattle.std.specs.Prelude.{◌≡◌, ℕ, Bool, true, false, List, [], ◌∷◌, ◌++◌, codes, Option, Some, slice_get, option_map, option_and_then, unwrap_or}
 use Rattle.sqlite_value.specs.declared.keys.Collation.TheVariants.{Binary}
 use Rattle.sqlite_value.specs.declared.value.Value.TheVariants.{Null}
 use Rattle.sqlite_schema.specs.declared.schema.Kind.{Kind}
@@ -7,6 +7,9 @@ use Rattle.sqlite_schema.specs.declared.schema.Kind.TheVariants.{Integer, Text}
 use Rattle.sqlite_schema.specs.declared.schema.Column.{Column}
 use Rattle.sqlite_schema.specs.declared.schema.Table.{Table}
 use Rattle.sqlite_schema.specs.declared.schema.Schema.{Schema}
+use Rattle.sqlite_schema.specs.Names.{table_named}
+use Rattle.sqlite_catalog.specs.Change.{is_used}
+use Rattle.sqlite.specs.Does.{lacks_sequence}
 
 -- A column of this name and affinity, which as SQLite has it takes a value of any type. Whether it takes NULL is told apart.
 abbrev pub named_column : List ℕ → Kind → Bool → Column
@@ -39,22 +42,37 @@ pub record IsBare (table : Table) : Type 0 where
   pub stamps : table.stamps ≡ record { places = []; terms = []; formats = [] }
   pub uncounted : table.is_counted ≡ false
 
-abbrev pub book_tree : ℕ
-book_tree = 0
+abbrev pub book_table : ℕ → Table
+book_table tree = plain_table (codes "book") tree (named_column (codes "id") Integer false) (named_column (codes "version") Integer true)
 
-abbrev pub facts_tree : ℕ
-facts_tree = 1
+abbrev pub facts_table : ℕ → Table
+facts_table tree = plain_table (codes "facts") tree (named_column (codes "n") Integer false) (named_column (codes "body") Text true)
 
-abbrev pub book_table : Table
-book_table = plain_table (codes "book") book_tree (named_column (codes "id") Integer false) (named_column (codes "version") Integer true)
+-- the table that is listed under this name
+unfoldable pub table_at : Schema → List ℕ → Option Table
+table_at schema name = option_and_then (slice_get schema.tables) (table_named schema name)
 
-abbrev pub facts_table : Table
-facts_table = plain_table (codes "facts") facts_tree (named_column (codes "n") Integer false) (named_column (codes "body") Text true)
+-- the tree that has the rows of that table
+unfoldable pub tree_of : Schema → List ℕ → ℕ
+tree_of schema name = unwrap_or (option_map (λ t. t.tree) (table_at schema name)) 0
 
--- the schema of a book: these two tables and nothing else
-unfoldable pub book_schema : Schema
-book_schema = record { tables = book_table ∷ facts_table ∷ []; indexes = []; views = [] }
+abbrev pub book_tree : Schema → ℕ
+book_tree schema = tree_of schema (codes "book")
 
--- nothing at all
-abbrev pub no_schema : Schema
-no_schema = record { tables = []; indexes = []; views = [] }
+abbrev pub facts_tree : Schema → ℕ
+facts_tree schema = tree_of schema (codes "facts")
+
+-- A book's two tables are listed, with these columns and no other rule, in any order and beside any others.
+pub record HasTables (schema : Schema) : Type 0 where
+  pub book : table_at schema (codes "book") ≡ Some (book_table (book_tree schema))
+  pub facts : table_at schema (codes "facts") ≡ Some (facts_table (facts_tree schema))
+
+-- The two tables can be made: no table, index or view has one of the two names, and a table with AUTOINCREMENT has the table that SQLite counts in.
+pub record IsFree (schema : Schema) : Type 0 where
+  pub book : is_used schema (codes "book") ≡ false
+  pub facts : is_used schema (codes "facts") ≡ false
+  pub counted : lacks_sequence schema ≡ false
+
+-- the schema with the two tables after all others, whose rows are in these trees
+abbrev pub with_tables : Schema → ℕ → ℕ → Schema
+with_tables schema book facts = record schema { tables = schema.tables ++ book_table book ∷ facts_table facts ∷ [] }

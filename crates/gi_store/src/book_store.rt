@@ -5,7 +5,7 @@ ghost use Rattle.sqlite.specs.State.{HasCleanDisk};
 ghost use Rattle.sqlite.specs.Held.{Held, state};
 ghost use Rattle.gi_facts.specs.Grammar.{IsWritable};
 ghost use Rattle.gi_store.specs.Facts.{AreFacts};
-ghost use Rattle.gi_store.specs.Rows.{fact_rows};
+ghost use Rattle.gi_store.specs.Rows.{facts_in};
 ghost use Rattle.gi_store.specs.FaultText.{IsFailure, IsRefusal};
 ghost use Rattle.gi_store.specs.Opening.{IsOpenFault};
 ghost use Rattle.gi_store.specs.Book.{AnswersSave, IsLoadFault, IsRead, IsSaved, SavesOrLeaves, SavesOrNot, counted};
@@ -64,8 +64,8 @@ fn counted(rows: usize) -> Option<u32>
 }
 
 impl<S: Alter + Drop> BookStore<S> {
-    /// Opens the book that the database is, or makes one where it has nothing: see `prepare`. It
-    /// is not loaded.
+    /// Opens the book that the database has, or makes one where its tables are missing: see
+    /// `prepare`. It is not loaded.
     pub fn open(alloc: Global, mut connection: Connection<S>) -> Result<BookStore<S>, StoreFault>
         ensures ready { IfOk result (λ book. HasCleanDisk (state S.Store book.connection) → IsReady (state S.Store book.connection)) }
         ensures kept { IfOk result (λ book. HasCleanDisk (state S.Store book.connection) → KeepsOrMakes (state S.Store connection) (state S.Store book.connection)) }
@@ -73,7 +73,7 @@ impl<S: Alter + Drop> BookStore<S> {
         ensures not_loaded { IfOk result (λ book. book.loaded ≡ None) }
         ensures named { IfErr result IsRefusal }
 
-        // Where no disk lies, as in memory, `Version` means that there was something else.
+        // Where no disk lies, as in memory, `Version` means that no book was there or could be made.
         ensures refused { ((c : Held S) → HasCleanDisk (state S.Store c)) → IfErr result (IsOpenFault (state S.Store connection)) }
     {
         prepare(&mut connection)?;
@@ -141,7 +141,7 @@ impl<S: Alter> BookStore<S> {
         ensures saved { HasCleanDisk (state S.Store self.new.connection) → OnOk result (IsSaved n fact.now (state S.Store self.old.connection) (state S.Store self.new.connection)) }
 
         // The facts of the book go on by this one.
-        ensures facts { HasCleanDisk (state S.Store self.new.connection) → OnOk result ((facts : _) → AreFacts (fact_rows (state S.Store self.old.connection).now.trees) facts → AreFacts (fact_rows (state S.Store self.new.connection).now.trees) (facts ++ fact.now ∷ [])) }
+        ensures facts { HasCleanDisk (state S.Store self.new.connection) → OnOk result ((facts : _) → AreFacts (facts_in (state S.Store self.old.connection).now) facts → AreFacts (facts_in (state S.Store self.new.connection).now) (facts ++ fact.now ∷ [])) }
 
         // After a refusal the rows that can be read are as before.
         ensures kept { HasCleanDisk (state S.Store self.new.connection) → OnErr result (Keeps (state S.Store self.old.connection) (state S.Store self.new.connection)) }

@@ -1,21 +1,21 @@
 //! Making a book's tables.
 
-ghost use Rattle.std.specs.Prelude.{◌≡◌, ◌⊎◌, false, IsTrue, OnOk, OnErr};
+ghost use Rattle.std.specs.Prelude.{◌≡◌, false, OnOk, OnErr};
 ghost use Rattle.sqlite.specs.State.{HasCleanDisk};
 ghost use Rattle.sqlite.specs.Held.{state};
-ghost use Rattle.gi_store.specs.Keeping.{IsIdle, IsMade, IsNewBook, KeepsCommitted, MayMakeBook};
-ghost use Rattle.gi_store.specs.Tables.{no_schema};
+ghost use Rattle.gi_store.specs.Keeping.{IsMade, KeepsCommitted, LeavesOrMakes};
+ghost use Rattle.gi_store.specs.Tables.{IsFree};
 
 use sqlite::{Alter, Connection, Error};
 
-/// Makes both tables and the row of the version, in one transaction.
+/// Makes both tables after those that are there, and the row of the version, in one transaction.
 pub fn make_tables<S: Alter>(connection: &mut Connection<S>) -> Result<(), Error>
     requires autocommit { (state S.Store connection.old).in_transaction ≡ false }
-    requires blank { (state S.Store connection.old).now.schema ≡ no_schema }
+    requires free { IsFree (state S.Store connection.old).now.schema }
     ensures early { HasCleanDisk (state S.Store connection.new) → HasCleanDisk (state S.Store connection.old) }
-    ensures made { HasCleanDisk (state S.Store connection.new) → OnOk result (IsMade (state S.Store connection.new)) }
+    ensures made { HasCleanDisk (state S.Store connection.new) → OnOk result (IsMade (state S.Store connection.old) (state S.Store connection.new)) }
     ensures kept { HasCleanDisk (state S.Store connection.new) → OnErr result (KeepsCommitted (state S.Store connection.old) (state S.Store connection.new)) }
-    ensures crash { HasCleanDisk (state S.Store connection.new) → MayMakeBook (state S.Store connection.old) (state S.Store connection.new) }
+    ensures crash { HasCleanDisk (state S.Store connection.new) → LeavesOrMakes (state S.Store connection.old) (state S.Store connection.new) }
 {
     let mut tx = connection.transaction();
     tx.execute(

@@ -9,12 +9,14 @@ ghost use Rattle.gi_store.specs.Opening.{IsOpenFault};
 
 use crate::making::make_tables;
 use crate::store_fault::StoreFault;
-use crate::tables::is_blank;
+use crate::tables::is_free;
 use crate::version::check_version;
 use sqlite::{Alter, Connection};
 
-/// Makes the two tables of a book and the row of its version, all in one transaction, where the
-/// database has nothing. `Version` where it has something else than a book of version 1, and
+/// Makes the two tables of a book and the row of its version, all in one transaction, where
+/// neither table is there; other tables stay as they are. Takes a book of version 1 as it is, with
+/// its tables in any order and beside others. `Version` where there is one table without the
+/// other, one of other columns, another version or none, or something else of these names.
 /// `Store` also where a transaction is under way. No row that was there is changed.
 pub fn prepare<S: Alter>(connection: &mut Connection<S>) -> Result<(), StoreFault>
     ensures early { HasCleanDisk (state S.Store connection.new) → HasCleanDisk (state S.Store connection.old) }
@@ -22,7 +24,7 @@ pub fn prepare<S: Alter>(connection: &mut Connection<S>) -> Result<(), StoreFaul
     // On `Ok` the database is a book of version 1.
     ensures ready { HasCleanDisk (state S.Store connection.new) → OnOk result (IsReady (state S.Store connection.new)) }
 
-    // `Version` means that there was something else than such a book.
+    // `Version` means that there was no such book, and that none could be made.
     ensures refused { HasCleanDisk (state S.Store connection.new) → IfErr result (IsOpenFault (state S.Store connection.old)) }
 
     ensures named { IfErr result IsRefusal }
@@ -30,16 +32,16 @@ pub fn prepare<S: Alter>(connection: &mut Connection<S>) -> Result<(), StoreFaul
     // A refusal leaves what can be read as it was.
     ensures unmade { HasCleanDisk (state S.Store connection.new) → OnErr result (Keeps (state S.Store connection.old) (state S.Store connection.new)) }
 
-    // What was there stays, or there was nothing and is a new book.
+    // What was there stays, with a new book beside it or without.
     ensures kept { HasCleanDisk (state S.Store connection.new) → IsTrue (state S.Store connection.new).is_open → KeepsOrMakes (state S.Store connection.old) (state S.Store connection.new) }
 
-    // A crash at any moment leaves what it could leave before, or a new book where there was nothing.
+    // A crash at any moment leaves what it could leave before, or what was there with a new book.
     ensures crash { HasCleanDisk (state S.Store connection.new) → LeavesOrMakes (state S.Store connection.old) (state S.Store connection.new) }
 {
     if !connection.is_autocommit() {
         return Err(StoreFault::Store);
     }
-    if is_blank(connection.schema()) {
+    if is_free(connection.schema()) {
         make_tables(connection)?;
         return Ok(());
     }

@@ -1,9 +1,13 @@
-//! Whether a database has a book's two tables and nothing else.
+//! Whether a database has a book's two tables, or can take them.
 
-ghost use Rattle.std.specs.Prelude.{◌≡◌, ◌↔◌, [], ◌∷◌, true, false, Some, IsTrue};
-ghost use Rattle.gi_store.specs.Tables.{IsBare, named_column, plain_table, book_schema, no_schema, book_table, facts_table};
+ghost use Rattle.std.specs.Prelude.{◌≡◌, ◌↔◌, [], ◌∷◌, true, false, Some, IsTrue, is_some, option_and_then, slice_get};
+ghost use Rattle.std.specs.List.{list_any};
+ghost use Rattle.gi_store.specs.Tables.{IsBare, IsFree, HasTables, named_column, plain_table, table_at, tree_of};
+ghost use Rattle.sqlite.specs.Does.{lacks_sequence};
+ghost use Rattle.sqlite_schema.specs.Names.{table_named};
 ghost use Rattle.sqlite_schema.specs.declared.schema.Kind.TheVariants.{Integer};
 
+use sqlite_catalog::layout::is_used;
 use sqlite_schema::code::Terms;
 use sqlite_schema::schema::{Column, Kind, Schema, Stamps, Table};
 use sqlite_value::keys::Collation;
@@ -66,39 +70,65 @@ fn has_columns(table: &Table, key: &[u8], value: &[u8], kind: Kind) -> bool
     }
 }
 
-/// Whether the table is the one of this name and tree, with these two columns and no other rule.
-fn is_table(table: &Table, name: &[u8], tree: u32, key: &[u8], value: &[u8], kind: Kind) -> bool
-    ensures { IsTrue result ↔ (table.now ≡ plain_table name.now tree (named_column key.now Integer false) (named_column value.now kind true)) }
+/// Whether the table is one of this name, with these two columns and no other rule.
+fn is_table(table: &Table, name: &[u8], key: &[u8], value: &[u8], kind: Kind) -> bool
+    ensures { IsTrue result ↔ (table.now ≡ plain_table name.now table.now.tree (named_column key.now Integer false) (named_column value.now kind true)) }
 {
     table.name.as_slice() == name
-        && table.tree == tree
         && has_columns(table, key, value, kind)
         && is_keyed(table)
         && is_bare(table)
 }
 
-/// Whether these are the tables of a book.
-fn are_tables(tables: &[Table]) -> bool
-    ensures { IsTrue result ↔ (tables.now ≡ book_table ∷ facts_table ∷ []) }
+/// Whether the table of this name is listed, and has these two columns and no other rule.
+#[tactic(auto, unfolding(crate::specs::Tables::table_at, crate::specs::Tables::tree_of))]
+fn lists_table(schema: &Schema, name: &[u8], key: &[u8], value: &[u8], kind: Kind) -> bool
+    ensures { IsTrue result ↔ (table_at schema.now name.now ≡ Some (plain_table name.now (tree_of schema.now name.now) (named_column key.now Integer false) (named_column value.now kind true))) }
 {
-    match tables {
-        [book, facts] => is_table(book, b"book", 0, b"id", b"version", Kind::Integer)
-            && is_table(facts, b"facts", 1, b"n", b"body", Kind::Text),
-        _ => false,
+    let Some(at) = schema.table_named(name) else {
+        return false;
+    };
+    match schema.tables.as_slice().get(at) {
+        Some(table) => is_table(table, name, key, value, kind),
+        None => false,
     }
 }
 
-/// Whether the database has the two tables of a book, as `prepare` makes them, and nothing else.
-#[tactic(auto, unfolding(crate::specs::Tables::book_schema))]
+/// Whether the two tables of a book are listed, in any order and beside any others.
 pub fn is_book(schema: &Schema) -> bool
-    ensures { IsTrue result ↔ (schema.now ≡ book_schema) }
+    ensures { IsTrue result ↔ HasTables schema.now }
 {
-    are_tables(schema.tables.as_slice()) && schema.indexes.is_empty() && schema.views.is_empty()
+    lists_table(schema, b"book", b"id", b"version", Kind::Integer)
+        && lists_table(schema, b"facts", b"n", b"body", Kind::Text)
 }
 
-/// Whether the database has nothing.
-pub fn is_blank(schema: &Schema) -> bool
-    ensures { IsTrue result ↔ (schema.now ≡ no_schema) }
+/// Whether a table has AUTOINCREMENT.
+fn any_counted(tables: &[Table]) -> bool
+    ensures { result ≡ list_any (λ t. t.is_counted) tables.now }
 {
-    schema.tables.is_empty() && schema.indexes.is_empty() && schema.views.is_empty()
+    tables.iter().any(|t| t.is_counted)
+}
+
+/// Whether a table has AUTOINCREMENT and the table that SQLite counts in is missing.
+fn lacks_sequence(schema: &Schema) -> bool
+    ensures { result ≡ lacks_sequence schema.now }
+{
+    any_counted(schema.tables.as_slice()) && !lists(schema, b"sqlite_sequence")
+}
+
+/// Whether a table of this name is listed.
+fn lists(schema: &Schema, name: &[u8]) -> bool
+    ensures { result ≡ is_some (option_and_then (slice_get schema.now.tables) (table_named schema.now name.now)) }
+{
+    match schema.table_named(name) {
+        Some(at) => schema.tables.as_slice().get(at).is_some(),
+        None => false,
+    }
+}
+
+/// Whether the two tables of a book can be made.
+pub fn is_free(schema: &Schema) -> bool
+    ensures { IsTrue result ↔ IsFree schema.now }
+{
+    !is_used(schema, b"book") && !is_used(schema, b"facts") && !lacks_sequence(schema)
 }

@@ -105,9 +105,81 @@ fn a_book_of_another_version_is_refused(rt: HostRuntime) -> Result<(), Fail> {
     assert_eq!(rt; prepare(&mut connection), Err(StoreFault::Version));
     let opened = BookStore::open(alloc, connection).map(|_| ());
     assert_eq!(rt; opened, Err(StoreFault::Version));
-    let mut other = Connection::open_in_memory(alloc)?;
-    other.execute("CREATE TABLE note (n INTEGER PRIMARY KEY)", &[])?;
-    assert_eq!(rt; prepare(&mut other), Err(StoreFault::Version));
+    Ok(())
+}
+
+const BOOK: &str = "CREATE TABLE book (id INTEGER PRIMARY KEY, version INTEGER NOT NULL)";
+
+const FACTS: &str = "CREATE TABLE facts (n INTEGER PRIMARY KEY, body TEXT NOT NULL)";
+
+const NOTE: &str = "CREATE TABLE note (id INTEGER PRIMARY KEY AUTOINCREMENT, title TEXT UNIQUE)";
+
+const FIRST_VERSION: &str = "INSERT INTO book VALUES (1, 1)";
+
+/// Runs these statements.
+fn run(connection: &mut Connection<MemStore>, statements: &[&str]) -> Result<(), Fail> {
+    for statement in statements {
+        connection.execute(statement, &[])?;
+    }
+    Ok(())
+}
+
+/// A database where these statements were run.
+fn database(alloc: Global, statements: &[&str]) -> Result<Connection<MemStore>, Fail> {
+    let mut connection = Connection::open_in_memory(alloc)?;
+    run(&mut connection, statements)?;
+    Ok(connection)
+}
+
+/// What `prepare` answers in a database where these statements were run.
+fn prepared_after(alloc: Global, statements: &[&str]) -> Result<String, Fail> {
+    let mut connection = database(alloc, statements)?;
+    printed(alloc, prepare(&mut connection))
+}
+
+/// The title of the one note.
+fn title(connection: &mut Connection<MemStore>) -> Result<String, Fail> {
+    let row = connection.query_row("SELECT min(title) FROM note", &[])?;
+    Ok(row.get::<String>(0)?)
+}
+
+#[test]
+fn a_part_of_a_book_is_refused(rt: HostRuntime) -> Result<(), Fail> {
+    let alloc = rt.alloc();
+    let wide = "CREATE TABLE facts (n INTEGER PRIMARY KEY, body TEXT NOT NULL, at TEXT)";
+    let view = "CREATE VIEW facts AS SELECT 1";
+    assert_eq!(rt; prepared_after(alloc, &[BOOK, NOTE])?.as_str(), "Version");
+    assert_eq!(rt; prepared_after(alloc, &[FACTS])?.as_str(), "Version");
+    assert_eq!(rt; prepared_after(alloc, &[BOOK, FACTS])?.as_str(), "Version");
+    assert_eq!(rt;
+        prepared_after(alloc, &[BOOK, wide, FIRST_VERSION])?.as_str(),
+        "Version"
+    );
+    assert_eq!(rt; prepared_after(alloc, &[NOTE, view])?.as_str(), "Version");
+    Ok(())
+}
+
+#[test]
+fn a_book_is_made_beside_other_tables(rt: HostRuntime) -> Result<(), Fail> {
+    let alloc = rt.alloc();
+    let mut connection = database(alloc, &[NOTE, "INSERT INTO note (title) VALUES ('one')"])?;
+    assert_eq!(rt; printed(alloc, prepare(&mut connection))?.as_str(), "Ok");
+    assert_eq!(rt; title(&mut connection)?.as_str(), "one");
+    let mut book = BookStore::open(alloc, connection)?;
+    assert_eq!(rt; loaded(alloc, &mut book)?.as_str(), "");
+    assert_eq!(rt; saved(alloc, &mut book, 1, FIRST)?.as_str(), "Ok");
+    Ok(())
+}
+
+#[test]
+fn a_book_has_its_tables_in_any_order(rt: HostRuntime) -> Result<(), Fail> {
+    let alloc = rt.alloc();
+    let mut connection = database(alloc, &[FACTS, NOTE, BOOK, FIRST_VERSION])?;
+    add(&mut connection, 1, FIRST)?;
+    let mut book = BookStore::open(alloc, connection)?;
+    let one = format!(in alloc; "{FIRST}\n")?;
+    assert_eq!(rt; loaded(alloc, &mut book)?.as_str(), one.as_str());
+    assert_eq!(rt; saved(alloc, &mut book, 2, SECOND)?.as_str(), "Ok");
     Ok(())
 }
 

@@ -1,6 +1,6 @@
-use Rattle.std.proofs.Common.{◌≡◌, IsTrue, rules}
+use Rattle.std.proofs.Common.{IsTrue, rules}
 use Rattle.sqlite.specs.Held.{state}
-use Rattle.gi_store.specs.Tables.{book_schema}
+use Rattle.gi_store.specs.Tables.{HasTables}
 use Rattle.gi_store.proofs.Readings.{version_read, version_missed}
 use Rattle.gi_store.proofs.version.check_version.Goals as goal
 
@@ -9,7 +9,7 @@ returns-then-are_first_version-clause-version g c clean =
     let old = c.args.connection.now in
     let new = c.book_rows.new.connection in
     let up : IsTrue (state g.S.Store new).is_open = c.in_ok-rows.ensures.opened clean in
-    let has : old.schema ≡ book_schema = search rules in
+    let has : HasTables old.schema = search rules in
     (up, version_read g.S.Store old new c.in_ok-rows.rows.items (c.book_rows.ensures.kept clean) up has (c.in_ok-rows.ensures.rows clean) (search rules))
 
 pub returns-clause-refused : goal.returns-clause-refused
