@@ -1,0 +1,7 @@
+mod PartLemmas
+mod NameLemmas
+mod OneInstruction
+mod TakeLemmas
+mod OneScript
+mod MoveLemmas
+pub mod FurtherLemmas

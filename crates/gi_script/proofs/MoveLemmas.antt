@@ -1,0 +1,51 @@
+-- Moves that are read word by word.
+use Rattle.std.proofs.Common.{◌≡◌, ℕ, ◌+◌, List, [], ◌∷◌, ◌++◌, map, length, append-nil, length-append, ap, sym, ◌∙◌, subst, arith, refl}
+use Rattle.std.proofs.lemmas.List.{length-map}
+use Rattle.gi_carrier.specs.Carrier.{IsPlan}
+use Rattle.gi_carrier.specs.Limits.{most_moves}
+use Rattle.gi_carrier.specs.declared.moves.Move.{Move}
+use Rattle.gi_script.specs.Grammar.{SaysMoves}
+use Rattle.gi_script.specs.Verb.{move_text}
+use Rattle.gi_script.proofs.OneInstruction.{texts-one}
+
+-- one move more
+pub texts_push : (moves : List Move) (next : Move) (words : List (List ℕ)) (word : List ℕ) (rest : List (List ℕ)) (all : List (List ℕ))
+    → all ≡ map move_text moves ++ words → words ≡ word ∷ rest → word ≡ move_text next → all ≡ map move_text (moves ++ next ∷ []) ++ rest
+texts_push [] next words word rest all e first is = cc
+texts_push (m ∷ ms) next words word rest all e first is =
+    e ∙ ap (λ (ws : List (List ℕ)). move_text m ∷ ws) (texts_push ms next words word rest (map move_text ms ++ words) refl first is)
+
+-- a word after others is a move's text
+pub text_at : (moves front : List Move) (word : List ℕ) (rest : List (List ℕ)) → map move_text moves ≡ map move_text front ++ word ∷ rest
+    → (m : Move) × (word ≡ move_text m)
+text_at [] [] word rest e = absurd cc
+text_at [] (f ∷ fs) word rest e = absurd cc
+text_at (m ∷ ms) [] word rest e = (m, cc)
+text_at (m ∷ ms) (f ∷ fs) word rest e = let tails : map move_text ms ≡ map move_text fs ++ word ∷ rest = cc in text_at ms fs word rest tails
+
+-- a word that is no move
+pub no_move : (words left : List (List ℕ)) (front : List Move) (word : List ℕ) (rest : List (List ℕ)) → words ≡ map move_text front ++ left → left ≡ word ∷ rest
+    → ((m : Move) → ¬ (word ≡ move_text m)) → (moves : List Move) → ¬ (SaysMoves words moves)
+no_move words left front word rest e first none moves says =
+    let all : map move_text moves ≡ map move_text front ++ word ∷ rest = sym says.are ∙ e ∙ ap (λ (ws : List (List ℕ)). map move_text front ++ ws) first in
+    let found = text_at moves front word rest all in
+    none found.0 found.1
+
+-- a word after the most moves
+pub too_many : (words left : List (List ℕ)) (front : List Move) (word : List ℕ) (rest : List (List ℕ)) → words ≡ map move_text front ++ left → left ≡ word ∷ rest
+    → length front ≡ most_moves → (moves : List Move) → ¬ (SaysMoves words moves)
+too_many words left front word rest e first full moves says =
+    let all : map move_text moves ≡ map move_text front ++ word ∷ rest = sym says.are ∙ e ∙ ap (λ (ws : List (List ℕ)). map move_text front ++ ws) first in
+    let lengths : length moves ≡ length front + length (word ∷ rest) =
+    sym (length-map moves move_text) ∙ ap length all ∙ length-append (map move_text front) (word ∷ rest) ∙ ap (λ (n : ℕ). n + length (word ∷ rest)) (length-map front move_text) in
+    let few = says.plan.1 in
+    omega arith
+
+-- all words are moves
+pub all_moves : (words left : List (List ℕ)) (moves : List Move) → words ≡ map move_text moves ++ left → left ≡ [] → words ≡ map move_text moves
+all_moves words left moves e none = e ∙ ap (λ (ws : List (List ℕ)). map move_text moves ++ ws) none ∙ append-nil (map move_text moves)
+
+pub no_plan : (words : List (List ℕ)) (moves : List Move) → words ≡ map move_text moves → ¬ (IsPlan moves) → (other : List Move) → ¬ (SaysMoves words other)
+no_plan words moves e none other says =
+    let same : other ≡ moves = texts-one other moves (sym says.are ∙ e) in
+    none (subst IsPlan same says.plan)

@@ -1,0 +1,174 @@
+-- A line spells one instruction at most.
+use Rattle.std.proofs.Common.{◌≡◌, ◌⊎◌, inl, inr, ℕ, List, [], ◌∷◌, map, Ok, Result, refl, sym, ap, ◌∙◌, subst, arith, codes}
+use Rattle.std.specs.Str.Parse.{digits_value}
+use Rattle.std.proofs.lemmas.Int.{ints}
+use Rattle.std.proofs.lemmas.List.Splits.{join_with_byte-slice_split}
+use Rattle.std.specs.List.{join_with_byte}
+use Rattle.jiff_core.specs.declared.civil.date.Date.{Date}
+use Rattle.gi_day.specs.Day.{IsDayText}
+use Rattle.gi_day.specs.declared.gas_day.DayFault.{DayFault}
+use Rattle.gi_day.proofs.DayLaws.{read-day_text}
+use Rattle.gi_pairs.specs.Side.{side_text}
+use Rattle.gi_pairs.specs.declared.cycle_id.CycleId.{CycleId}
+use Rattle.gi_pairs.specs.declared.direction.Direction.{Direction}
+use Rattle.gi_pairs.specs.declared.side.Side.{Side}
+use Rattle.gi_processing.specs.declared.contract.Contract.{Contract}
+use Rattle.gi_processing.specs.declared.notice.Notice.{Notice}
+use Rattle.gi_desk.specs.declared.call.Call.TheVariants as calls
+use Rattle.gi_carrier.specs.declared.moves.Move.{Move}
+use Rattle.gi_script.specs.Numbers.{IsNumber}
+use Rattle.gi_script.specs.Verb.{move_text, verb_text}
+use Rattle.gi_script.specs.Words.{space, words_of}
+use Rattle.gi_script.specs.Grammar.{IsDayWord, IsDirectionWord, Says, SaysContract, SaysNotice, SaysCycle, SaysCount, SaysNumber, SaysMoves, SaysOrder, SaysPlan, SpellsPoint}
+use Rattle.gi_script.specs.Laws.{IsOneInstruction}
+use Rattle.gi_script.specs.declared.instruction.Instruction.{Instruction}
+use Rattle.gi_script.specs.declared.instruction.Instruction.TheVariants as instructions
+use Rattle.gi_script.specs.declared.verb.Verb.{Verb}
+use Rattle.gi_script.specs.declared.verb.Verb.TheVariants as verbs
+use Rattle.gi_script.proofs.NameLemmas.{direction-one, move-one, plan_no_side, side-one, verb-one}
+
+-- ---- one word
+
+number-one : (most : ℕ) (word other : List ℕ) (a b : ℕ) → word ≡ other → IsNumber most word a → IsNumber most other b → a ≡ b
+number-one most word other a b same x y = x.value ∙ ap (digits_value 10) same ∙ sym y.value
+
+same_ok : (a b : Date) (r : Result Date DayFault) → r ≡ Ok a → r ≡ Ok b → a ≡ b
+same_ok a b r x y = cc
+
+is_day : (word : List ℕ) (a : Date) → IsDayWord word a → IsDayText a word
+is_day word a x = (let year = x.1 in grind (arith, ints, year.0), x.0)
+
+day-one : (word other : List ℕ) (a b : Date) → word ≡ other → IsDayWord word a → IsDayWord other b → a ≡ b
+day-one word other a b same x y = same_ok a b (Ok a) refl (read-day_text word (Ok a) (x.1, is_day word a x) b y.1 (same ∙ y.0))
+
+way-one : (word other : List ℕ) (a b : Direction) → word ≡ other → IsDirectionWord word a → IsDirectionWord other b → a ≡ b
+way-one word other a b same x y = direction-one a b (sym x ∙ same ∙ y)
+
+-- ---- what follows a verb
+
+contract-one : (words : List (List ℕ)) (a b : Contract) → SaysContract words a → SaysContract words b → a ≡ b
+contract-one words a b x y =
+    let same = sym x.are ∙ y.are in
+    let portfolios : x.portfolio ≡ y.portfolio = cc in
+    let days : x.day ≡ y.day = cc in
+    let directions : x.direction ≡ y.direction = cc in
+    let firms : x.firm ≡ y.firm = cc in
+    let interruptibles : x.interruptible ≡ y.interruptible = cc in
+    let portfolio = sym x.is_portfolio.0 ∙ portfolios ∙ y.is_portfolio.0 in
+    let day = day-one x.day y.day a.day b.day days x.is_day y.is_day in
+    let direction = way-one x.direction y.direction a.direction b.direction directions x.is_direction y.is_direction in
+    let firm = number-one _ x.firm y.firm a.firm b.firm firms x.is_firm y.is_firm in
+    let interruptible = number-one _ x.interruptible y.interruptible a.interruptible b.interruptible interruptibles x.is_interruptible y.is_interruptible in
+    λ i. record { portfolio = portfolio i; day = day i; direction = direction i; firm = firm i; interruptible = interruptible i }
+
+notice-one : (words : List (List ℕ)) (a b : Notice) → SaysNotice words a → SaysNotice words b → a ≡ b
+notice-one words a b x y =
+    let same = sym x.are ∙ y.are in
+    let days : x.day ≡ y.day = cc in
+    let directions : x.direction ≡ y.direction = cc in
+    let firsts : x.first ≡ y.first = cc in
+    let lasts : x.last ≡ y.last = cc in
+    let firms : x.firm ≡ y.firm = cc in
+    let interruptibles : x.interruptible ≡ y.interruptible = cc in
+    let day = day-one x.day y.day a.day b.day days x.is_day y.is_day in
+    let direction = way-one x.direction y.direction a.direction b.direction directions x.is_direction y.is_direction in
+    let first = number-one _ x.first y.first a.first b.first firsts x.is_first y.is_first in
+    let last = number-one _ x.last y.last a.last b.last lasts x.is_last y.is_last in
+    let firm = number-one _ x.firm y.firm a.firm b.firm firms x.is_firm y.is_firm in
+    let interruptible = number-one _ x.interruptible y.interruptible a.interruptible b.interruptible interruptibles x.is_interruptible y.is_interruptible in
+    λ i. record { day = day i; direction = direction i; first = first i; last = last i; firm = firm i; interruptible = interruptible i }
+
+cycle-one : (words : List (List ℕ)) (a b : CycleId) → SaysCycle words a → SaysCycle words b → a ≡ b
+cycle-one words a b x y =
+    let same = sym x.are ∙ y.are in
+    let days : x.day ≡ y.day = cc in
+    let cycles : x.cycle ≡ y.cycle = cc in
+    let day = day-one x.day y.day a.day b.day days x.is_day y.is_day in
+    let cycle = number-one _ x.cycle y.cycle a.cycle b.cycle cycles x.is_cycle y.is_cycle in
+    λ i. record { day = day i; cycle = cycle i }
+
+count-one : (words : List (List ℕ)) (a b : ℕ) → SaysCount words a → SaysCount words b → a ≡ b
+count-one words a b x y =
+    let same = sym x.are ∙ y.are in
+    let word : x.word ≡ y.word = cc in
+    number-one _ x.word y.word a b word x.is_count.number y.is_count.number
+
+figure-one : (words : List (List ℕ)) (a b : ℕ) → SaysNumber words a → SaysNumber words b → a ≡ b
+figure-one words a b x y =
+    let same = sym x.are ∙ y.are in
+    let word : x.word ≡ y.word = cc in
+    number-one _ x.word y.word a b word x.is_number y.is_number
+
+pub texts-one : (a b : List Move) → map move_text a ≡ map move_text b → a ≡ b
+texts-one [] [] e = cc
+texts-one [] (y ∷ ys) e = absurd cc
+texts-one (x ∷ xs) [] e = absurd cc
+texts-one (x ∷ xs) (y ∷ ys) e =
+    let first : move_text x ≡ move_text y = cc in
+    let rest : map move_text xs ≡ map move_text ys = cc in
+    let same = move-one x y first in
+    let others = texts-one xs ys rest in
+    cc
+
+moves-one : (words : List (List ℕ)) (a b : List Move) → SaysMoves words a → SaysMoves words b → a ≡ b
+moves-one words a b x y = texts-one a b (sym x.are ∙ y.are)
+
+-- a text is its words, joined
+body-one : (a b : List ℕ) → words_of a ≡ words_of b → a ≡ b
+body-one a b e =
+    let joined = ap (join_with_byte space) e in
+    sym (join_with_byte-slice_split space a) ∙ joined ∙ join_with_byte-slice_split space b
+
+-- ---- lines
+
+says-one : (verb : Verb) (side : Side) (words : List (List ℕ)) (a b : Instruction) → Says verb side words a → Says verb side words b → a ≡ b
+says-one verbs.Contract side words a b x y = x.1 ∙ ap (λ c. instructions.Call side (calls.Contract c)) (contract-one words x.0 y.0 x.2 y.2) ∙ sym y.1
+says-one verbs.Notice side words a b x y = x.1 ∙ ap (λ c. instructions.Call side (calls.Notice c)) (notice-one words x.0 y.0 x.2 y.2) ∙ sym y.1
+says-one verbs.Submit side words a b x y = x.1 ∙ ap (λ c. instructions.Call side (calls.Submit c)) (body-one x.0 y.0 (sym x.2 ∙ y.2)) ∙ sym y.1
+says-one verbs.Close side words a b x y = x.1 ∙ ap (λ c. instructions.Call side (calls.Close c)) (cycle-one words x.0 y.0 x.2 y.2) ∙ sym y.1
+says-one verbs.Resend side words a b x y = x.1 ∙ ap (λ c. instructions.Call side (calls.Resend c)) (cycle-one words x.0 y.0 x.2 y.2) ∙ sym y.1
+says-one verbs.Halt side words a b x y = x.0 ∙ sym y.0
+says-one verbs.Save side words a b x y = x.1 ∙ ap (instructions.Save side) (count-one words x.0 y.0 x.2 y.2) ∙ sym y.1
+says-one verbs.Deliver side words a b x y = x.1 ∙ ap (instructions.Deliver side) (figure-one words x.0 y.0 x.2 y.2) ∙ sym y.1
+says-one verbs.Restart side words a b x y = x.1 ∙ ap (instructions.Restart side) (figure-one words x.0 y.0 x.2 y.2) ∙ sym y.1
+says-one verbs.Carry side words a b x y = x.0 ∙ sym y.0
+
+order-one : (words : List (List ℕ)) (a b : Instruction) → SaysOrder words a → SaysOrder words b → a ≡ b
+order-one words a b x y =
+    let same = sym x.are ∙ y.are in
+    let sides : side_text y.side ≡ side_text x.side = cc in
+    let verbs : verb_text y.verb ≡ verb_text x.verb = cc in
+    let rests : y.rest ≡ x.rest = cc in
+    let side = side-one y.side x.side sides in
+    let verb = verb-one y.verb x.verb verbs in
+    let says : Says x.verb x.side x.rest b =
+    subst (λ (v : Verb). Says v x.side x.rest b) verb (subst (λ (s : Side). Says y.verb s x.rest b) side (subst (λ (r : List (List ℕ)). Says y.verb y.side r b) rests y.says)) in
+    says-one x.verb x.side x.rest a b x.says says
+
+plan-one : (words : List (List ℕ)) (a b : Instruction) → SaysPlan words a → SaysPlan words b → a ≡ b
+plan-one words a b x y =
+    let same = sym x.are ∙ y.are in
+    let sides : side_text x.side ≡ side_text y.side = cc in
+    let rests : y.rest ≡ x.rest = cc in
+    let side = side-one x.side y.side sides in
+    let moves = moves-one x.rest x.moves y.moves x.is_moves (subst (λ (r : List (List ℕ)). SaysMoves r y.moves) rests y.is_moves) in
+    x.is ∙ ap (λ s. instructions.Plan s x.moves) side ∙ ap (instructions.Plan y.side) moves ∙ sym y.is
+
+-- a line that begins with `plan` does not begin with a side
+pub plan_or_order : (words : List (List ℕ)) (a b : Instruction) → SaysPlan words a → SaysOrder words b → ⊥
+plan_or_order words a b x y =
+    let same = sym x.are ∙ y.are in
+    let first : codes "plan" ≡ side_text y.side = cc in
+    plan_no_side y.side first
+
+words-one : (words : List (List ℕ)) (a b : Instruction) → SaysPlan words a ⊎ SaysOrder words a → SaysPlan words b ⊎ SaysOrder words b → a ≡ b
+words-one words a b (inl x) (inl y) = plan-one words a b x y
+words-one words a b (inl x) (inr y) = absurd (plan_or_order words a b x y)
+words-one words a b (inr x) (inl y) = absurd (plan_or_order words b a y x)
+words-one words a b (inr x) (inr y) = order-one words a b x y
+
+pub instruction-one : IsOneInstruction
+instruction-one line a b x y = words-one (words_of line) a b x.says y.says
+
+pub point-one : (line a b : List ℕ) → SpellsPoint line a → SpellsPoint line b → a ≡ b
+point-one line a b x y = let same = sym x.words ∙ y.words in cc

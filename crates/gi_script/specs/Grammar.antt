@@ -1,0 +1,146 @@
+-- What the lines of a script say.
+use Rattle.std.specs.Prelude.{◌≡◌, ◌⊎◌, ℕ, List, [], ◌∷◌, map, codes}
+use Rattle.std.specs.Str.{IsUtf8}
+use Rattle.jiff_core.specs.declared.civil.date.Date.{Date}
+use Rattle.gi_day.specs.Day.{IsGasYear, day_text}
+use Rattle.gi_pairs.specs.Code.{IsCode}
+use Rattle.gi_pairs.specs.Direction.{direction_text}
+use Rattle.gi_pairs.specs.Quantity.{most_quantity}
+use Rattle.gi_pairs.specs.Side.{side_text}
+use Rattle.gi_pairs.specs.declared.cycle_id.CycleId.{CycleId}
+use Rattle.gi_pairs.specs.declared.direction.Direction.{Direction}
+use Rattle.gi_pairs.specs.declared.side.Side.{Side}
+use Rattle.gi_processing.specs.declared.contract.Contract.{Contract}
+use Rattle.gi_processing.specs.declared.notice.Notice.{Notice}
+use Rattle.gi_desk.specs.declared.call.Call.TheVariants as calls
+use Rattle.gi_carrier.specs.Carrier.{IsPlan}
+use Rattle.gi_carrier.specs.declared.moves.Move.{Move}
+use Rattle.gi_script.specs.Numbers.{IsNumber, IsCount, most_byte, most_permille, most_number}
+use Rattle.gi_script.specs.Verb.{move_text, verb_text}
+use Rattle.gi_script.specs.Words.{words_of}
+use Rattle.gi_script.specs.declared.instruction.Instruction.{Instruction}
+use Rattle.gi_script.specs.declared.instruction.Instruction.TheVariants as instructions
+use Rattle.gi_script.specs.declared.verb.Verb.{Verb}
+use Rattle.gi_script.specs.declared.verb.Verb.TheVariants as verbs
+
+-- ---- one word
+
+abbrev pub IsCodeWord : List ℕ → List ℕ → Type 0
+IsCodeWord word code = (word ≡ code) × IsCode code
+
+abbrev pub IsDayWord : List ℕ → Date → Type 0
+IsDayWord word day = (word ≡ day_text day) × IsGasYear day.year
+
+abbrev pub IsDirectionWord : List ℕ → Direction → Type 0
+IsDirectionWord word direction = word ≡ direction_text direction
+
+abbrev pub IsSideWord : List ℕ → Side → Type 0
+IsSideWord word side = word ≡ side_text side
+
+-- ---- what follows a verb
+
+-- `PORTFOLIO DAY DIRECTION FIRM INTERRUPTIBLE`
+pub record SaysContract (words : List (List ℕ)) (contract : Contract) : Type 0 where
+  pub portfolio : List ℕ
+  pub day : List ℕ
+  pub direction : List ℕ
+  pub firm : List ℕ
+  pub interruptible : List ℕ
+  pub are : words ≡ portfolio ∷ day ∷ direction ∷ firm ∷ interruptible ∷ []
+  pub is_portfolio : IsCodeWord portfolio contract.portfolio
+  pub is_day : IsDayWord day contract.day
+  pub is_direction : IsDirectionWord direction contract.direction
+  pub is_firm : IsNumber most_quantity firm contract.firm
+  pub is_interruptible : IsNumber most_quantity interruptible contract.interruptible
+
+-- `DAY DIRECTION FIRST LAST FIRM INTERRUPTIBLE`
+pub record SaysNotice (words : List (List ℕ)) (notice : Notice) : Type 0 where
+  pub day : List ℕ
+  pub direction : List ℕ
+  pub first : List ℕ
+  pub last : List ℕ
+  pub firm : List ℕ
+  pub interruptible : List ℕ
+  pub are : words ≡ day ∷ direction ∷ first ∷ last ∷ firm ∷ interruptible ∷ []
+  pub is_day : IsDayWord day notice.day
+  pub is_direction : IsDirectionWord direction notice.direction
+  pub is_first : IsNumber most_byte first notice.first
+  pub is_last : IsNumber most_byte last notice.last
+  pub is_firm : IsNumber most_permille firm notice.firm
+  pub is_interruptible : IsNumber most_permille interruptible notice.interruptible
+
+-- `DAY CYCLE`
+pub record SaysCycle (words : List (List ℕ)) (id : CycleId) : Type 0 where
+  pub day : List ℕ
+  pub cycle : List ℕ
+  pub are : words ≡ day ∷ cycle ∷ []
+  pub is_day : IsDayWord day id.day
+  pub is_cycle : IsNumber most_byte cycle id.cycle
+
+-- `COUNT`
+pub record SaysCount (words : List (List ℕ)) (count : ℕ) : Type 0 where
+  pub word : List ℕ
+  pub are : words ≡ word ∷ []
+  pub is_count : IsCount word count
+
+-- `NUMBER`, or `KEEP`
+pub record SaysNumber (words : List (List ℕ)) (number : ℕ) : Type 0 where
+  pub word : List ℕ
+  pub are : words ≡ word ∷ []
+  pub is_number : IsNumber most_number word number
+
+-- `MOVES`
+pub record SaysMoves (words : List (List ℕ)) (moves : List Move) : Type 0 where
+  pub are : words ≡ map move_text moves
+  pub plan : IsPlan moves
+
+-- ---- lines
+
+-- what `SIDE VERB` and these words say; what follows `submit` and a space is the body, spaces and all
+abbrev pub Says : Verb → Side → List (List ℕ) → Instruction → Type 0
+Says verbs.Contract side words instruction =
+    (contract : Contract) × (instruction ≡ instructions.Call side (calls.Contract contract)) × SaysContract words contract
+Says verbs.Notice side words instruction =
+    (notice : Notice) × (instruction ≡ instructions.Call side (calls.Notice notice)) × SaysNotice words notice
+Says verbs.Submit side words instruction =
+    (body : List ℕ) × (instruction ≡ instructions.Call side (calls.Submit body)) × (words ≡ words_of body)
+Says verbs.Close side words instruction =
+    (id : CycleId) × (instruction ≡ instructions.Call side (calls.Close id)) × SaysCycle words id
+Says verbs.Resend side words instruction =
+    (id : CycleId) × (instruction ≡ instructions.Call side (calls.Resend id)) × SaysCycle words id
+Says verbs.Halt side words instruction = (instruction ≡ instructions.Call side calls.Halt) × (words ≡ [])
+Says verbs.Save side words instruction =
+    (count : ℕ) × (instruction ≡ instructions.Save side count) × SaysCount words count
+Says verbs.Deliver side words instruction =
+    (packet : ℕ) × (instruction ≡ instructions.Deliver side packet) × SaysNumber words packet
+Says verbs.Restart side words instruction =
+    (keep : ℕ) × (instruction ≡ instructions.Restart side keep) × SaysNumber words keep
+Says verbs.Carry side words instruction = (instruction ≡ instructions.Carry side) × (words ≡ [])
+
+-- `SIDE VERB` and what the verb wants
+pub record SaysOrder (words : List (List ℕ)) (instruction : Instruction) : Type 0 where
+  pub side : Side
+  pub verb : Verb
+  pub rest : List (List ℕ)
+  pub are : words ≡ side_text side ∷ verb_text verb ∷ rest
+  pub says : Says verb side rest instruction
+
+-- `plan SIDE MOVES`
+pub record SaysPlan (words : List (List ℕ)) (instruction : Instruction) : Type 0 where
+  pub side : Side
+  pub moves : List Move
+  pub rest : List (List ℕ)
+  pub are : words ≡ codes "plan" ∷ side_text side ∷ rest
+  pub is_moves : SaysMoves rest moves
+  pub is : instruction ≡ instructions.Plan side moves
+
+-- A line spells an instruction: it is UTF-8, and its words, parted by one space each, say it.
+pub record Spells (line : List ℕ) (instruction : Instruction) : Type 0 where
+  pub text : IsUtf8 line
+  pub says : SaysPlan (words_of line) instruction ⊎ SaysOrder (words_of line) instruction
+
+-- `point CODE`
+pub record SpellsPoint (line : List ℕ) (point : List ℕ) : Type 0 where
+  pub text : IsUtf8 line
+  pub words : words_of line ≡ codes "point" ∷ point ∷ []
+  pub code : IsCode point

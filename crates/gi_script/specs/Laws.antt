@@ -1,0 +1,13 @@
+-- What holds of all scripts.
+use Rattle.std.specs.Prelude.{◌≡◌, ℕ, List}
+use Rattle.gi_script.specs.Grammar.{Spells}
+use Rattle.gi_script.specs.Script.{IsScript, ScriptContents}
+use Rattle.gi_script.specs.declared.instruction.Instruction.{Instruction}
+
+-- a line spells one instruction at most
+abbrev pub IsOneInstruction : Type 0
+IsOneInstruction = (line : List ℕ) (a b : Instruction) → Spells line a → Spells line b → a ≡ b
+
+-- bytes are one script at most
+abbrev pub IsOneScript : Type 0
+IsOneScript = (bytes : List ℕ) (a b : ScriptContents) → IsScript bytes a → IsScript bytes b → a ≡ b

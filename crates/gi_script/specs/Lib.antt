@@ -1,0 +1,10 @@
+pub mod Words
+pub mod WordsKept
+pub mod Numbers
+pub mod Verb
+pub mod Grammar
+pub mod Script
+pub mod FaultText
+pub mod Reading
+pub mod LinesKept
+pub mod Laws

@@ -1,0 +1,13 @@
+//! What holds of all scripts. These functions do nothing; their clauses are the laws.
+
+ghost use Rattle.gi_script.specs.Laws.{IsOneInstruction, IsOneScript};
+
+/// A line spells one instruction at most.
+pub fn one_instruction()
+    ensures { IsOneInstruction }
+{}
+
+/// Bytes are one script at most.
+pub fn one_script()
+    ensures { IsOneScript }
+{}

@@ -1,0 +1,130 @@
+ghost use Rattle.std.specs.Prelude.{◌≡◌, ◌∷◌, codes, Err, Ok, IfOk, IfErr, MatchResult};
+ghost use Rattle.gi_script.specs.Grammar.{SaysOrder, SaysPlan, Spells, SpellsPoint};
+ghost use Rattle.gi_script.specs.LinesKept.{IsCounted, left};
+ghost use Rattle.gi_script.specs.Reading.{Finds, Reads};
+ghost use Rattle.gi_script.specs.Script.{HasNoPoint, IsFault, IsLineRead, IsScript, IsStopped, ScriptContents, SpellAll};
+ghost use Rattle.gi_script.specs.declared.fault.ScriptFault.TheVariants.{OutOfMemory, Point};
+
+use crate::fault::{LineFault, ScriptFault};
+use crate::instruction::Instruction;
+use crate::line::Line;
+use crate::lines::Lines;
+use crate::order::order;
+use crate::plan::plan;
+use crate::script::Script;
+use crate::verb::{side_named, verb_named};
+use crate::words::Words;
+use gi_pairs::Code;
+use std::alloc::Global;
+
+/// The point that the line `point CODE` names.
+fn point(line: &[u8]) -> Option<Code>
+    ensures { Finds (SpellsPoint line.now) result }
+{
+    let Ok(text) = str::from_utf8(line) else {
+        return None;
+    };
+    let mut words = Words::of(text);
+    let Some("point") = words.next() else {
+        return None;
+    };
+    let point = words.code()?;
+    if !words.is_empty() {
+        return None;
+    }
+    Some(point)
+}
+
+/// What `plan` and these words say.
+fn plan_line(alloc: Global, mut words: Words<'_>) -> Result<Instruction, LineFault>
+    ensures { Reads (SaysPlan (codes "plan" ∷ words.entry)) result }
+{
+    let Some(side) = words.side() else {
+        return Err(LineFault::Unreadable);
+    };
+    match plan(alloc, words) {
+        Ok(plan) => Ok(Instruction::Plan { side, plan }),
+        Err(fault) => Err(fault),
+    }
+}
+
+/// What the first word and those after it say, `SIDE VERB` and what the verb wants.
+fn order_line(alloc: Global, first: &str, mut words: Words<'_>) -> Result<Instruction, LineFault>
+    ensures { Reads (SaysOrder (first.now ∷ words.entry)) result }
+{
+    let Some(side) = side_named(first) else {
+        return Err(LineFault::Unreadable);
+    };
+    let Some(second) = words.next() else {
+        return Err(LineFault::Unreadable);
+    };
+    let Some(verb) = verb_named(second) else {
+        return Err(LineFault::Unreadable);
+    };
+    order(alloc, side, verb, words)
+}
+
+/// The instruction that a line spells.
+fn instruction(alloc: Global, line: &[u8]) -> Result<Instruction, LineFault>
+    ensures { Reads (Spells line.now) result }
+{
+    let Ok(text) = str::from_utf8(line) else {
+        return Err(LineFault::Unreadable);
+    };
+    let mut words = Words::of(text);
+    match words.next() {
+        Some("plan") => plan_line(alloc, words),
+        Some(first) => order_line(alloc, first, words),
+        None => Err(LineFault::Unreadable),
+    }
+}
+
+/// A line and its number.
+fn line(alloc: Global, number: u64, text: &[u8]) -> Result<Line, ScriptFault>
+    ensures { IsLineRead (record { number = number; text = text.now }) result }
+{
+    match instruction(alloc, text) {
+        Ok(instruction) => Ok(Line {
+            number,
+            instruction,
+        }),
+        Err(LineFault::Unreadable) => Err(ScriptFault::Unreadable(number)),
+        Err(LineFault::OutOfMemory) => Err(ScriptFault::OutOfMemory),
+    }
+}
+
+/// The lines after the point's.
+fn further(alloc: Global, mut lines: Lines<'_>) -> Result<Vec<Line>, ScriptFault>
+    requires { IsCounted lines }
+    ensures { MatchResult result (λ read. SpellAll (left lines.entry) read.items) (IsStopped (left lines.entry)) }
+{
+    let mut read = Vec::new(alloc);
+    while let Some((number, text)) = lines.next() {
+        let line = line(alloc, number, text)?;
+        if read.push(line).is_err() {
+            return Err(ScriptFault::OutOfMemory);
+        }
+    }
+    Ok(read)
+}
+
+/// The script that the bytes are. `Point` where the first line that is not empty is not `point` and
+/// a code, or where there is none; `Unreadable` with the number of the first further line that is of
+/// no form. `OutOfMemory` comes where a line that is read wants it: no fault stands before that line.
+pub fn read_script(alloc: Global, bytes: &[u8]) -> Result<Script, ScriptFault>
+    ensures found { IfOk result (IsScript bytes.now) }
+    ensures only { (script : ScriptContents) → IsScript bytes.now script → MatchResult result (λ read. read ≡ script) (λ fault. fault ≡ OutOfMemory) }
+    ensures fault { IfErr result (IsFault bytes.now) }
+    // This takes no memory.
+    ensures point { HasNoPoint bytes.now → result ≡ Err Point }
+{
+    let mut lines = Lines::of(bytes);
+    let Some((_, first)) = lines.next() else {
+        return Err(ScriptFault::Point);
+    };
+    let Some(point) = point(first) else {
+        return Err(ScriptFault::Point);
+    };
+    let read = further(alloc, lines)?;
+    Ok(Script::new(point, read))
+}

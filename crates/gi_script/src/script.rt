@@ -1,0 +1,43 @@
+ghost use Rattle.std.specs.Prelude.{◌≡◌};
+
+use crate::line::Line;
+use gi_pairs::Code;
+use std::marker::Model;
+
+/// What a script asks, in order, at a point.
+#[derive(Debug, Drop)]
+pub struct Script {
+    point: Code,
+    lines: Vec<Line>,
+}
+
+impl Model for Script {
+    ghost use Rattle.gi_script.specs.Script.{ScriptContents};
+
+    ghost Value = { ScriptContents };
+
+    ghost view = { λ s. record { point = s.point; lines = s.lines.items } };
+}
+
+impl Script {
+    /// The script of these lines at the point.
+    pub(crate) fn new(point: Code, lines: Vec<Line>) -> Script
+        ensures { result ≡ record { point = point; lines = lines.items } }
+    {
+        Script { point, lines }
+    }
+
+    /// The interconnection point.
+    pub fn point(&self) -> Code
+        ensures { result ≡ self.now.point }
+    {
+        self.point
+    }
+
+    /// The lines, in order, without the empty ones and the point's.
+    pub fn lines(&self) -> &[Line]
+        ensures { result.now ≡ self.now.lines }
+    {
+        &self.lines
+    }
+}
