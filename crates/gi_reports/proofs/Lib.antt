@@ -1,0 +1,5 @@
+pub mod ColumnLemmas
+pub mod CountLemmas
+pub mod CycleLemmas
+pub mod ConfirmedLemmas
+pub mod PlaceLemmas
