@@ -1,0 +1,5 @@
+mod NewWorld
+mod Numbers
+mod PacketNumbers
+mod RunLaws
+mod SimulationLaws

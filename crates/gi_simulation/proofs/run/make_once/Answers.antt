@@ -1,0 +1,15 @@
+use Rattle.std.proofs.Common.{inr, ap, refl}
+use Rattle.gi_simulation.specs.Simulation.{SimulationState}
+use Rattle.gi_simulation.proofs.RunLaws.{cut-one, on_err, on_err-as}
+use Rattle.gi_simulation.proofs.run.make_once.Goals as goal
+
+pub returns-in_err-outcome-clause-cut : goal.returns-in_err-outcome-clause-cut
+returns-in_err-outcome-clause-cut g c =
+    on_err c.from_residual.result
+    (cut-one g.N.Notes.noting c.args.simulation.now c.make.new.self c.args.line.now c.args.notes.now c.args.notes.now refl c.in_err-outcome.ensures.world)
+
+pub returns-clause-cut : goal.returns-clause-cut
+returns-clause-cut g c =
+    on_err-as c.note.result
+    (λ same. cut-one g.N.Notes.noting c.args.simulation.now c.make.new.self c.args.line.now c.args.notes.now c.note.new.self same
+    (inr (ap (λ (s : SimulationState). s.world) c.in_ok-outcome.ensures.next))) c.note.ensures.kept

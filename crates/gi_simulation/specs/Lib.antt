@@ -1,0 +1,4 @@
+pub mod Simulation
+pub mod OutcomeText
+pub mod Runs
+pub mod Refused

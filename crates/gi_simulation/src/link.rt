@@ -1,0 +1,95 @@
+ghost use Rattle.std.specs.Prelude.{◌≡◌, IfOk, OnErr, OnOk, option_map};
+ghost use Rattle.gi_carrier.specs.Carrier.{IsPlan, given};
+ghost use Rattle.gi_carrier.specs.Kept.{bytes_of};
+ghost use Rattle.gi_simulation.specs.Simulation.{moved_on, new_link, with_message, with_packet, with_packets};
+
+use gi_carrier::{Carrier, Move, Plan, SendFault};
+use gi_desk::{Packet, Recipient};
+use std::alloc::{AllocError, Global};
+use std::marker::Model;
+
+/// The way to one side: what is on it, and the plan by which that comes.
+#[derive(Drop)]
+pub(crate) struct Link {
+    alloc: Global,
+    carrier: Carrier,
+    plan: Plan,
+}
+
+impl Model for Link {
+    ghost use Rattle.gi_simulation.specs.Simulation.{LinkState};
+
+    ghost Value = { LinkState };
+
+    ghost view = { λ l. record { carrier = l.carrier; plan = l.plan } };
+}
+
+/// A plan of these moves, which are those of one.
+fn plan_of(alloc: Global, plan: &[Move]) -> Result<Plan, AllocError>
+    requires { IsPlan plan.now }
+    ensures { IfOk result (λ copy. copy ≡ plan.now) }
+{
+    let moves = Vec::from_slice(alloc, plan)?;
+    Ok(Plan::build(moves).unwrap())
+}
+
+impl Link {
+    /// Nothing is on the way, and every message is to pass.
+    pub(crate) fn new(alloc: Global) -> Result<Link, AllocError>
+        ensures { IfOk result (λ link. link ≡ new_link) }
+    {
+        Ok(Link {
+            alloc,
+            carrier: Carrier::new(alloc),
+            plan: plan_of(alloc, &[Move::Pass])?,
+        })
+    }
+
+    /// What comes is to come by this plan; the carrier's position stays.
+    pub(crate) fn set(&mut self, plan: &Plan) -> Result<(), AllocError>
+        ensures next { OnOk result (self.new ≡ record { carrier = self.old.carrier; plan = plan.now }) }
+        ensures kept { OnErr result (self.new ≡ self.old) }
+    {
+        self.plan = plan_of(self.alloc, plan.as_slice())?;
+        Ok(())
+    }
+
+    /// A message comes to those on the way; where the carrier is full it is lost.
+    fn send(&mut self, message: Vec<u8>) -> Result<(), AllocError>
+        ensures { OnOk result (self.new ≡ with_message self.old message.items) }
+    {
+        match self.carrier.send(message) {
+            Err((_, SendFault::OutOfMemory)) => Err(AllocError),
+            _ => Ok(()),
+        }
+    }
+
+    /// A packet comes to them where it is for the peer.
+    fn send_packet(&mut self, packet: Packet) -> Result<(), AllocError>
+        ensures { OnOk result (self.new ≡ with_packet self.old packet) }
+    {
+        match packet.to {
+            Recipient::Peer => self.send(packet.body.into_vec()),
+            Recipient::User(_) => Ok(()),
+        }
+    }
+
+    /// The packets for the peer come to them, in order.
+    pub(crate) fn send_packets(&mut self, packets: Vec<Packet>) -> Result<(), AllocError>
+        ensures { OnOk result (self.new ≡ with_packets self.old packets.items) }
+    {
+        for packet in packets {
+            self.send_packet(packet)?;
+        }
+        Ok(())
+    }
+
+    /// What the carrier's next move gives. Where memory runs out nothing is changed.
+    pub(crate) fn next(&mut self) -> Result<Option<Vec<u8>>, AllocError>
+        ensures given { IfOk result (λ message. option_map bytes_of message ≡ given self.old.plan self.old.carrier) }
+        ensures next { OnOk result (self.new ≡ moved_on self.old) }
+        ensures kept { OnErr result (self.new ≡ self.old) }
+    {
+        self.carrier.next(&self.plan)
+    }
+}

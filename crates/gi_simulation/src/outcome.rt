@@ -1,0 +1,47 @@
+use gi_desk::Refusal;
+use gi_world::WorldFault;
+use std::fmt;
+
+/// What came of a step.
+#[derive(Clone, Copy, Debug, PartialEq, Eq)]
+pub enum Outcome {
+    /// Recorded as the fact of this number, from 1.
+    Recorded(u32),
+    /// It repeats what the fact of this number says.
+    Repeat(u32),
+    /// The fact of this number is saved.
+    Saved(u32),
+    /// So many packets are let out again, to the peer and to portfolios.
+    Resent(usize),
+    /// The desk is halted.
+    Stopped,
+    /// The desk has started again with so many facts.
+    Restarted(u32),
+    /// There was no fact to save, or the carrier gave nothing.
+    Nothing,
+    /// The desk refused it.
+    Refused(Refusal),
+    /// There is no such packet, or no such restart.
+    NotMade(WorldFault),
+}
+
+impl fmt::Display for Outcome {
+    ghost use Rattle.std.specs.Prelude.{Some};
+    ghost use Rattle.gi_simulation.specs.OutcomeText.{outcome_text};
+
+    ghost output = { λ outcome. Some (outcome_text outcome) };
+
+    fn fmt<W: fmt::Write>(&self, f: &mut fmt::Formatter<W>) -> fmt::Result {
+        match self {
+            Outcome::Recorded(n) => write!(f, "recorded {n}"),
+            Outcome::Repeat(n) => write!(f, "repeat {n}"),
+            Outcome::Saved(n) => write!(f, "saved {n}"),
+            Outcome::Resent(packets) => write!(f, "resent {packets}"),
+            Outcome::Stopped => f.write_str("stopped"),
+            Outcome::Restarted(saved) => write!(f, "restarted {saved}"),
+            Outcome::Nothing => f.write_str("nothing"),
+            Outcome::Refused(refusal) => write!(f, "refused {refusal}"),
+            Outcome::NotMade(fault) => write!(f, "refused {fault}"),
+        }
+    }
+}

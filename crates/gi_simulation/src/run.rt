@@ -1,0 +1,62 @@
+//! The lines of a script, one after the other, each as often as it says.
+
+ghost use Rattle.std.specs.Prelude.{◌≡◌, ◌∷◌, [], OnErr, OnOk};
+ghost use Rattle.gi_simulation.specs.Runs.{IsCutOff, IsRun, times as times_of, turns, turns_of};
+
+use crate::notes::Notes;
+use crate::simulation::Simulation;
+use gi_script::{Instruction, Line};
+use std::alloc::AllocError;
+
+/// How often an instruction is made.
+fn times(instruction: &Instruction) -> u32
+    ensures { result ≡ times_of instruction.now }
+{
+    match instruction {
+        Instruction::Save { count, .. } => *count,
+        _ => 1,
+    }
+}
+
+/// Makes a line once.
+fn make_once<N: Notes>(
+    simulation: &mut Simulation,
+    line: &Line,
+    notes: &mut N,
+) -> Result<(), AllocError>
+    ensures made { OnOk result (IsRun N.noting simulation.old (line.now ∷ []) notes.old notes.new simulation.new) }
+    ensures cut { OnErr result (IsCutOff N.noting simulation.old (line.now ∷ []) notes.old notes.new simulation.new) }
+{
+    let outcome = simulation.make(&line.instruction)?;
+    notes.note(line, outcome)
+}
+
+/// Makes a line as often as it says.
+fn make_line<N: Notes>(
+    simulation: &mut Simulation,
+    line: &Line,
+    notes: &mut N,
+) -> Result<(), AllocError>
+    ensures made { OnOk result (IsRun N.noting simulation.old (turns_of line.now) notes.old notes.new simulation.new) }
+    ensures cut { OnErr result (IsCutOff N.noting simulation.old (turns_of line.now) notes.old notes.new simulation.new) }
+{
+    for _ in 0..times(&line.instruction) {
+        make_once(simulation, line, notes)?;
+    }
+    Ok(())
+}
+
+/// Makes all lines, and notes what came of each; only want of memory ends it before.
+pub(crate) fn run<N: Notes>(
+    simulation: &mut Simulation,
+    lines: &[Line],
+    notes: &mut N,
+) -> Result<(), AllocError>
+    ensures made { OnOk result (IsRun N.noting simulation.old (turns lines.now) notes.old notes.new simulation.new) }
+    ensures cut { OnErr result (IsCutOff N.noting simulation.old (turns lines.now) notes.old notes.new simulation.new) }
+{
+    for line in lines {
+        make_line(simulation, line, notes)?;
+    }
+    Ok(())
+}

@@ -1,0 +1,250 @@
+ghost use Rattle.std.specs.Prelude.{◌≡◌, ◌⊎◌, IfErr, IfOk, OnErr, OnOk, option_map};
+ghost use Rattle.gi_carrier.specs.Carrier.{given};
+ghost use Rattle.gi_carrier.specs.Kept.{bytes_of};
+ghost use Rattle.gi_desk.specs.Queries.{unsaved};
+ghost use Rattle.gi_simulation.specs.Simulation.{after, after_step, answered, link_to, marking, moved_on, new_simulation, number_of as number_in, outcome_of, outcome_without, prepared, shown, side_of_step, step_of, with_link, with_packets};
+ghost use Rattle.gi_world.specs.Headline.{OneConfirmedQuantity};
+ghost use Rattle.gi_world.specs.Histories.{held};
+ghost use Rattle.gi_world.specs.World.{after as world_after, outcome as world_outcome, other, station_of};
+ghost use Rattle.gi_script.specs.declared.instruction.Instruction.TheVariants as instructions;
+ghost use Rattle.gi_world.specs.declared.step.Step.TheVariants as steps;
+ghost use Rattle.gi_world.specs.declared.start_fault.StartFault.TheVariants.{OutOfMemory};
+
+use crate::link::Link;
+use crate::outcome::Outcome;
+use gi_carrier::Plan;
+use gi_desk::{Answer, Call, Desk, Packet, Reply, Role};
+use gi_pairs::{Code, Side};
+use gi_script::Instruction;
+use gi_world::{StartFault, Step, World, WorldFault, WorldReply};
+use std::alloc::{AllocError, Global};
+use std::marker::Model;
+
+/// Both offices, and the carriers between them.
+#[derive(Drop)]
+pub struct Simulation {
+    world: World,
+    to_initiating: Link,
+    to_matching: Link,
+}
+
+impl Model for Simulation {
+    ghost use Rattle.gi_simulation.specs.Simulation.{SimulationState};
+    ghost use Rattle.gi_world.specs.Headline.{OneConfirmedQuantity};
+    ghost use Rattle.gi_world.specs.Histories.{held};
+
+    ghost Value = { SimulationState };
+
+    ghost view = { λ s. record { world = s.world; to_initiating = s.to_initiating; to_matching = s.to_matching } };
+
+    ghost invariant = { λ s. OneConfirmedQuantity (held s.world) };
+}
+
+/// The other side.
+fn peer(side: Side) -> Side
+    ensures { result ≡ other side }
+{
+    match side {
+        Side::I => Side::M,
+        Side::M => Side::I,
+    }
+}
+
+/// The mark of a desk's next fact to save, where there is one.
+fn mark<R: Role>(desk: &Desk<R>) -> Result<Option<Call>, AllocError>
+    ensures { IfOk result (λ call. call ≡ marking (unsaved desk.now)) }
+{
+    let Some((n, fact)) = desk.unsaved() else {
+        return Ok(None);
+    };
+    Ok(Some(Call::MarkSaved {
+        n,
+        fact: fact.copy()?,
+    }))
+}
+
+/// The answer, as it is told.
+fn outcome(reply: &Reply) -> Outcome
+    ensures { result ≡ answered reply.now.out reply.now.answer }
+{
+    match reply.answer {
+        Answer::Recorded { n } => Outcome::Recorded(n),
+        Answer::Repeat { n } => Outcome::Repeat(n),
+        Answer::Saved { n } => Outcome::Saved(n),
+        Answer::Resent => Outcome::Resent(reply.out.as_slice().len()),
+        Answer::Stopped => Outcome::Stopped,
+        Answer::Refused(refusal) => Outcome::Refused(refusal),
+    }
+}
+
+/// The side at which a step is made.
+fn side_of(step: &Step) -> Side
+    ensures { result ≡ side_of_step step.now }
+{
+    match step {
+        Step::Local { side, .. } | Step::Deliver { side, .. } | Step::Restart { side, .. } => *side,
+    }
+}
+
+/// What comes of an instruction that makes no step.
+fn without_step(instruction: &Instruction) -> Option<Outcome>
+    ensures { result ≡ outcome_without instruction.now }
+{
+    match instruction {
+        Instruction::Plan { .. } => None,
+        _ => Some(Outcome::Nothing),
+    }
+}
+
+impl Simulation {
+    /// Both offices without facts, at the interconnection point, and nothing on its way between
+    /// them. `OutOfMemory` is the one fault.
+    pub fn new(alloc: Global, point: Code) -> Result<Simulation, StartFault>
+        ensures value { IfOk result (λ simulation. simulation ≡ new_simulation point) }
+        ensures refused { IfErr result (λ fault. fault ≡ OutOfMemory) }
+    {
+        Ok(Simulation {
+            world: World::new(alloc, point)?,
+            to_initiating: Link::new(alloc)?,
+            to_matching: Link::new(alloc)?,
+        })
+    }
+
+    /// Both desks, and what each let out: every quantity that either side has confirmed or told is the
+    /// lower of the two that both froze when they closed its cycle.
+    pub fn world(&self) -> &World
+        ensures value { result.now ≡ self.now.world }
+        ensures one_quantity { OneConfirmedQuantity (held result.now) }
+    {
+        &self.world
+    }
+
+    /// The plan of the carrier towards a side is set.
+    fn set(&mut self, side: Side, plan: &Plan) -> Result<(), AllocError>
+        ensures next { OnOk result (self.new ≡ with_link side (record { carrier = (link_to side self.old).carrier; plan = plan.now }) self.old) }
+        ensures kept { OnErr result (self.new ≡ self.old) }
+    {
+        match side {
+            Side::I => self.to_initiating.set(plan),
+            Side::M => self.to_matching.set(plan),
+        }
+    }
+
+    /// What the carrier towards a side gives next.
+    fn next(&mut self, side: Side) -> Result<Option<Vec<u8>>, AllocError>
+        ensures given { IfOk result (λ message. option_map bytes_of message ≡ given (link_to side self.old).plan (link_to side self.old).carrier) }
+        ensures next { OnOk result (self.new ≡ with_link side (moved_on (link_to side self.old)) self.old) }
+        ensures kept { OnErr result (self.new ≡ self.old) }
+    {
+        match side {
+            Side::I => self.to_initiating.next(),
+            Side::M => self.to_matching.next(),
+        }
+    }
+
+    /// The packets for the peer, which is this side, go on the way to it.
+    fn send(&mut self, side: Side, packets: Vec<Packet>) -> Result<(), AllocError>
+        ensures next { OnOk result (self.new ≡ with_link side (with_packets (link_to side self.old) packets.items) self.old) }
+        ensures world { self.new.world ≡ self.old.world }
+    {
+        match side {
+            Side::I => self.to_initiating.send_packets(packets),
+            Side::M => self.to_matching.send_packets(packets),
+        }
+    }
+
+    /// The mark of a side's next fact to save, where there is one.
+    fn mark(&self, side: Side) -> Result<Option<Step>, AllocError>
+        ensures { IfOk result (λ step. step ≡ option_map (steps.Local side) (marking (unsaved (station_of side self.now.world).desk))) }
+    {
+        let call = match side {
+            Side::I => mark(self.world.initiating())?,
+            Side::M => mark(self.world.matching())?,
+        };
+        Ok(call.map(|call| Step::Local { side, call }))
+    }
+
+    /// The least number, from 1, of a packet with these bytes that the other side let out.
+    #[tactic(auto, using(crate::proofs::Numbers::number_is))]
+    fn number_of(&self, side: Side, bytes: &[u8]) -> Option<u64>
+        ensures { result ≡ number_in self.now.world side bytes.now }
+    {
+        self.world.number_of(side, bytes)
+    }
+
+    /// The delivery of what the carrier towards a side gives next, where it gives something.
+    fn carry(&mut self, side: Side) -> Result<Option<Step>, AllocError>
+        ensures step { IfOk result (λ step. step ≡ step_of self.old (instructions.Carry side)) }
+        ensures next { OnOk result (self.new ≡ prepared self.old (instructions.Carry side)) }
+        ensures world { self.new.world ≡ self.old.world }
+    {
+        let Some(message) = self.next(side)? else {
+            return Ok(None);
+        };
+        Ok(
+            self.number_of(side, &message)
+                .map(|packet| Step::Deliver { side, packet }),
+        )
+    }
+
+    /// The step that an instruction makes, where it makes one. A plan is set, and a carrier makes
+    /// its move.
+    fn prepare(&mut self, instruction: &Instruction) -> Result<Option<Step>, AllocError>
+        ensures step { IfOk result (λ step. step ≡ step_of self.old instruction.now) }
+        ensures next { OnOk result (self.new ≡ prepared self.old instruction.now) }
+        ensures world { self.new.world ≡ self.old.world }
+    {
+        Ok(match instruction {
+            Instruction::Call { side, call } => Some(Step::Local {
+                side: *side,
+                call: call.copy()?,
+            }),
+            Instruction::Save { side, .. } => self.mark(*side)?,
+            Instruction::Deliver { side, packet } => Some(Step::Deliver {
+                side: *side,
+                packet: *packet as u64,
+            }),
+            Instruction::Restart { side, keep } => Some(Step::Restart {
+                side: *side,
+                keep: *keep,
+            }),
+            Instruction::Plan { side, plan } => {
+                self.set(*side, plan)?;
+                None
+            }
+            Instruction::Carry { side } => self.carry(*side)?,
+        })
+    }
+
+    /// Makes a step; what it lets out for the peer goes on the way there. Where memory runs out the
+    /// world is as it was or has made the step.
+    fn step(&mut self, step: &Step) -> Result<Outcome, AllocError>
+        ensures outcome { IfOk result (λ outcome. outcome ≡ shown (world_outcome self.old.world step.now)) }
+        ensures next { OnOk result (self.new ≡ after_step self.old step.now) }
+        ensures world { OnErr result ((self.new.world ≡ self.old.world) ⊎ (self.new.world ≡ world_after self.old.world step.now)) }
+    {
+        let reply = match self.world.step(step) {
+            Ok(WorldReply::Desk(reply)) => reply,
+            Ok(WorldReply::Restarted { saved }) => return Ok(Outcome::Restarted(saved)),
+            Err(WorldFault::OutOfMemory) => return Err(AllocError),
+            Err(fault) => return Ok(Outcome::NotMade(fault)),
+        };
+        let outcome = outcome(&reply);
+        self.send(peer(side_of(step)), reply.out.into_vec())?;
+        Ok(outcome)
+    }
+
+    /// Makes an instruction's step once; of `save`, one mark. What comes of it, and nothing of a plan
+    /// line, which only sets the plan: the carrier's position stays. Where memory runs out the world
+    /// is as it was or has made the step, and the carriers may have lost messages.
+    pub fn make(&mut self, instruction: &Instruction) -> Result<Option<Outcome>, AllocError>
+        ensures outcome { IfOk result (λ outcome. outcome ≡ outcome_of self.old instruction.now) }
+        ensures next { OnOk result (self.new ≡ after self.old instruction.now) }
+        ensures world { OnErr result ((self.new.world ≡ self.old.world) ⊎ (self.new.world ≡ (after self.old instruction.now).world)) }
+    {
+        let Some(step) = self.prepare(instruction)? else {
+            return Ok(without_step(instruction));
+        };
+        Ok(Some(self.step(&step)?))
+    }
+}

@@ -1,0 +1,79 @@
+ghost use Rattle.std.specs.Prelude.{◌≡◌, [], IfOk, string_bytes};
+ghost use Rattle.gi_simulation.specs.Runs.{side_of as side_of_instruction, step_text};
+
+use crate::notes::Notes;
+use crate::outcome::Outcome;
+use gi_pairs::Side;
+use gi_script::{Instruction, Line};
+use std::alloc::{AllocError, Global};
+use std::marker::Model;
+
+/// The text of a run's steps.
+#[derive(Drop)]
+pub(crate) struct Text {
+    alloc: Global,
+    text: String,
+}
+
+impl Model for Text {
+    ghost use Rattle.std.specs.Prelude.{List, ℕ, string_bytes};
+
+    ghost Value = { List ℕ };
+
+    ghost view = { λ t. string_bytes t.text };
+}
+
+/// The side at which an instruction is made; a plan is of the carrier towards it.
+fn side_of(instruction: &Instruction) -> Side
+    ensures { result ≡ side_of_instruction instruction.now }
+{
+    match instruction {
+        Instruction::Call { side, .. }
+        | Instruction::Save { side, .. }
+        | Instruction::Deliver { side, .. }
+        | Instruction::Restart { side, .. }
+        | Instruction::Plan { side, .. }
+        | Instruction::Carry { side } => *side,
+    }
+}
+
+/// `12 I recorded 4`, and a line feed.
+fn step_line(alloc: Global, line: &Line, outcome: Outcome) -> Result<String, AllocError>
+    ensures { IfOk result (λ text. string_bytes text ≡ step_text line.now outcome) }
+{
+    let (number, side) = (line.number, side_of(&line.instruction));
+    format!(in alloc; "{number} {side} {outcome}\n")
+}
+
+impl Text {
+    /// No step is made.
+    pub(crate) fn new(alloc: Global) -> Text
+        ensures { result ≡ [] }
+    {
+        Text {
+            alloc,
+            text: String::new(alloc),
+        }
+    }
+
+    /// The text.
+    pub(crate) fn into_string(self) -> String
+        ensures { string_bytes result ≡ self }
+    {
+        self.text
+    }
+}
+
+impl Notes for Text {
+    ghost use Rattle.gi_simulation.specs.Runs.{telling};
+
+    ghost noting = { telling };
+
+    fn note(&mut self, line: &Line, outcome: Option<Outcome>) -> Result<(), AllocError> {
+        let Some(outcome) = outcome else {
+            return Ok(());
+        };
+        let text = step_line(self.alloc, line, outcome)?;
+        self.text.push_str(text.as_str())
+    }
+}
