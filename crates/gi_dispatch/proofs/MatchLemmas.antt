@@ -36,3 +36,7 @@ own_refused input first second order fault.ShapeDiffers lines spelled refused = 
 own_refused input first second order fault.Write lines spelled refused = absurd refused
 own_refused input first second order (fault.Day why) lines spelled refused = absurd refused
 own_refused input first second order (fault.Calendar why) lines spelled refused = absurd refused
+own_refused input first second order (fault.Script why) lines spelled refused = absurd refused
+own_refused input first second order (fault.Code why) lines spelled refused = absurd refused
+own_refused input first second order (fault.Store why) lines spelled refused = absurd refused
+own_refused input first second order (fault.BadFact why) lines spelled refused = absurd refused

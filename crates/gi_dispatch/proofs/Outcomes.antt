@@ -81,6 +81,10 @@ module _ (reads : ReadsSpelling) where
   fault_is input fault.Write memory refused = absurd refused
   fault_is input (fault.Day why) memory refused = absurd refused
   fault_is input (fault.Calendar why) memory refused = absurd refused
+  fault_is input (fault.Script why) memory refused = absurd refused
+  fault_is input (fault.Code why) memory refused = absurd refused
+  fault_is input (fault.Store why) memory refused = absurd refused
+  fault_is input (fault.BadFact why) memory refused = absurd refused
 
   -- two readings of one input are one
   same_tables : (input : List ℕ) (order own order' own' : Delord) → SpellsTables input order own

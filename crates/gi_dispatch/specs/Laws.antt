@@ -1,7 +1,7 @@
 -- What holds of all inputs of `match`, and of words.
 use Rattle.std.specs.Prelude.{◌≡◌, ◌≢◌, ℕ, List, [], ◌∷◌, codes}
 use Rattle.clap.specs.declared.error.kind.ErrorKind.TheVariants.{MissingRequiredArgument}
-use Rattle.gi_dispatch.specs.CommandLine.{AsksForHours, AsksForMatch, MeansHours, MeansMatch, objections}
+use Rattle.gi_dispatch.specs.CommandLine.{MeansHours, MeansMatch, asked, hours, match_tables, objections}
 use Rattle.gi_dispatch.specs.Match.{IsAnswer, IsRefused}
 use Rattle.gi_dispatch.specs.declared.fault.Fault.{Fault}
 use Rattle.gi_dispatch.specs.declared.fault.Fault.TheVariants.{OutOfMemory}
@@ -21,12 +21,12 @@ HasOneFault = (input : List ℕ) (why other : Fault) → why ≢ OutOfMemory →
 
 -- to the program's name, alone or with the word `match`, nothing is objected, and it asks for `match`
 abbrev pub MatchIsTaken : Type 0
-MatchIsTaken = (words : List (List ℕ)) → MeansMatch words → (objections words ≡ []) × AsksForMatch words
+MatchIsTaken = (words : List (List ℕ)) → MeansMatch words → (objections words ≡ []) × (asked words ≡ match_tables)
 
 -- to the program's name with the word `hours` and a day, nothing is objected, and it asks for the hours of that day;
 -- without a day, it is the day that is missing
 abbrev pub HoursIsTaken : Type 0
-HoursIsTaken = (words : List (List ℕ)) (day : List ℕ) → MeansHours words day → (objections words ≡ []) × AsksForHours words day
+HoursIsTaken = (words : List (List ℕ)) (day : List ℕ) → MeansHours words day → (objections words ≡ []) × (asked words ≡ hours day)
 
 abbrev pub HoursNeedADay : Type 0
 HoursNeedADay = (program : List ℕ) → objections (program ∷ codes "hours" ∷ []) ≡ MissingRequiredArgument ∷ []

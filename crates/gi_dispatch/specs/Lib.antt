@@ -5,5 +5,8 @@ pub mod Input
 pub mod LineText
 pub mod Lines
 pub mod Match
-pub mod Request
+pub mod ReportWords
 pub mod Laws
+pub mod Reporting
+pub mod Simulating
+pub mod Commands

@@ -1,22 +1,26 @@
 //! The words of a command line.
-ghost use Rattle.std.specs.Prelude.{◌≡◌, IfOk, map};
-ghost use Rattle.clap.specs.Words.{FailsBy, app_of, subcommand_of, subcommand_rows_of};
-ghost use Rattle.gi_dispatch.specs.CommandLine.{objections, the_program};
-ghost use Rattle.gi_dispatch.specs.Request.{IsRequested};
+ghost use Rattle.std.specs.Prelude.{◌≡◌, IfOk, codes, false, map, option_map};
+ghost use Rattle.clap.specs.Words.{FailsBy, app_of, first_of, found_of, rows_of, rule_of, subcommand_rows_of};
+ghost use Rattle.gi_dispatch.specs.CommandLine.{asked, asked_of, hours_asked, meaning, objections, option as option_rule, report_asked, report_over as report_over_of, the_program, value_of as value_at, word as word_rule};
 
+use crate::request::{Book, Mistake, Report, ReportKind, Request, kind_named, side_named};
 use clap::{Arg, ArgMatches, Command, Error};
+use gi_pairs::Side;
 use std::alloc::{AllocError, Global};
 use std::convert::AsStr;
 
 const PROGRAM_HELP: &str = "\
 With no command `match` is meant. A fault is one line on standard error, `gi_dispatch: ` and its
-name (a wrong command line is told in more words), and nothing on standard output.
+name (a wrong command line is told in more words), and nothing on standard output, unless memory or
+a writer fails.
 
-Exit status: 0 done, 1 refused input or a reader or writer that failed, 2 wrong command line, 4 want
-of memory.
+Exit status: 0 done, 1 refused input or a reader or writer that failed, 2 wrong command line, 3 a
+book that failed or is none, 4 want of memory.
 
 Examples: gi_dispatch match < examples/match.txt
-          gi_dispatch hours 2026-01-15";
+          gi_dispatch hours 2026-01-15
+          gi_dispatch simulate < scenarios/plain_exchange.script
+          gi_dispatch report confirmed I < scenarios/plain_exchange.script";
 
 const HOURS_HELP: &str = "\
 DAY is a gas day from 2000-01-01 to 2199-12-31, written YYYY-MM-DD. It starts at 06:00 Central
@@ -36,13 +40,56 @@ portfolio pair, direction and hour the lower of the two quantities, in kWh/h.
 Faults, the first of: Read, TooLarge (over 67,108,864 bytes), Lines (not two lines), `order: ` or
 `own: ` with what is wrong with that line, ShapeDiffers (another point, day, cycle or hours), Write.";
 
-/// What a command line asks for.
-#[derive(Clone, Copy, Debug, PartialEq, Eq)]
-pub enum Request<'a> {
-    /// The lesser of an order and an own table.
-    Match,
-    /// The hours and cycles of the day that the word names.
-    Hours(&'a str),
+const SIMULATE_HELP: &str = "\
+Standard input is a script: both operators' desks and the carriers between them, step by step. Its
+first line is `point CODE`, and each further one, with SIDE `I` or `M`, is one of
+
+  SIDE contract PORTFOLIO DAY DIRECTION FIRM INTERRUPTIBLE      kWh/h in each hour
+  SIDE notice DAY DIRECTION FIRST LAST FIRM INTERRUPTIBLE       hours, and per mille
+  SIDE submit BODY                                              a NOMINT, to the end of the line
+  SIDE close DAY CYCLE
+  SIDE resend DAY CYCLE
+  SIDE halt
+  SIDE save COUNT                                               the next COUNT unsaved facts
+  SIDE deliver NUMBER                                           that packet of the other side
+  SIDE restart KEEP                                             from the first KEEP facts
+  SIDE carry                                                    what the carrier gives to SIDE
+  plan SIDE MOVES                                               pass, drop, repeat, hold
+
+Standard output gets a line for each step: the number of the script's line, the side, and what came
+of it. Two lines with what each side holds come last.
+
+Faults, the first of: Read, TooLarge (over 67,108,864 bytes), Point (no first line `point CODE`),
+`line N: Unreadable`, Write. None of them makes a step.";
+
+const REPORT_HELP: &str = "\
+KIND is `open` (closed cycles that are not confirmed), `confirmed` (confirmed quantities in kWh/h,
+hour by hour) or `refused` (how many submissions of each portfolio were refused), and SIDE is `I` or
+`M`. Standard input is a script as for `simulate`, whose steps are made and not told. With --book
+and --point the side's desk is read from its book instead, standard input is not read, and `refused`
+has no lines.
+
+Faults: those of `simulate`. With a book, the first of: CodeText (CODE is no code), Version, Gap N,
+Damaged N or Store (the file is no book of version 1, or fails), BadFact N (no desk records fact N
+after those before it), Write.";
+
+/// A word that has to be there.
+fn word<'a>(alloc: Global, name: &'a str, help: &'a str) -> Arg<'a>
+    ensures rule { rule_of result ≡ word_rule name.entry.now }
+    ensures local { result.global ≡ false }
+{
+    Arg::new(alloc, name).required(true).help(help)
+}
+
+/// An option with a value.
+fn option<'a>(alloc: Global, name: &'a str, value: &'a str, help: &'a str) -> Arg<'a>
+    ensures rule { rule_of result ≡ option_rule name.entry.now }
+    ensures local { result.global ≡ false }
+{
+    Arg::new(alloc, name)
+        .long(name)
+        .value_name(value)
+        .help(help)
 }
 
 /// The commands and options that the program knows, with what their help teaches.
@@ -52,29 +99,111 @@ fn commands<'a>(alloc: Global) -> Result<Command<'a>, AllocError>
     let match_command = Command::new(alloc, "match")
         .about("Answers an order with the lesser of two tables")
         .after_help(MATCH_HELP);
-    let day = Arg::new(alloc, "DAY").required(true).help("The gas day");
     let hours_command = Command::new(alloc, "hours")
         .about("Tells the hours and cycles of a gas day")
         .after_help(HOURS_HELP)
-        .arg(day)?;
+        .arg(word(alloc, "DAY", "The gas day"))?;
+    let simulate_command = Command::new(alloc, "simulate")
+        .about("Makes the steps of a script at both operators' desks")
+        .after_help(SIMULATE_HELP);
+    let report_command = Command::new(alloc, "report")
+        .about("Tells what a side holds after a script, or in its book")
+        .after_help(REPORT_HELP)
+        .arg(word(alloc, "KIND", "open, confirmed or refused"))?
+        .arg(word(alloc, "SIDE", "I or M"))?
+        .arg(option(
+            alloc,
+            "book",
+            "FILE",
+            "The side's book, in place of a script",
+        ))?
+        .arg(option(alloc, "point", "CODE", "The point that the book is of"))?;
     Command::new(alloc, "gi_dispatch")
         .version("0.1.0")
         .about("The dispatch offices of two adjacent gas transmission operators")
         .after_help(PROGRAM_HELP)
         .subcommand(match_command)?
-        .subcommand(hours_command)
+        .subcommand(hours_command)?
+        .subcommand(simulate_command)?
+        .subcommand(report_command)
 }
 
-/// What was entered: `hours` with its word, and else `match`.
-fn request_of<'a>(matches: &ArgMatches<'a>) -> Request<'a>
-    ensures { IsRequested (subcommand_rows_of matches.now) result }
+/// The value that was entered under a name.
+fn value_of<'a>(matches: &ArgMatches<'a>, name: &str) -> Option<&'a str>
+    ensures { option_map (λ s. s.now) result ≡ first_of name.now (rows_of (found_of matches.now)) }
 {
-    let Some(hours) = matches.subcommand_matches("hours") else {
-        return Request::Match;
-    };
-    match hours.get_str("DAY") {
+    matches.get_str(name)
+}
+
+/// What `hours` is asked.
+fn hours_of<'a>(matches: &ArgMatches<'a>) -> Request<'a>
+    ensures { meaning result ≡ hours_asked (first_of (codes "DAY") (rows_of (found_of matches.now))) }
+{
+    match value_of(matches, "DAY") {
         Some(day) => Request::Hours(day),
         None => Request::Match,
+    }
+}
+
+/// A report of this kind and side: over a book where it is named by its file and its point.
+fn report_over<'a>(
+    kind: ReportKind,
+    side: Side,
+    file: Option<&'a str>,
+    point: Option<&'a str>,
+) -> Request<'a>
+    ensures { meaning result ≡ report_over_of kind side (option_map (λ s. s.now) file.entry) (option_map (λ s. s.now) point.entry) }
+{
+    let book = match (file, point) {
+        (None, None) => None,
+        (Some(file), Some(point)) => Some(Book { file, point }),
+        _ => return Request::Mistaken(Mistake::Unpaired),
+    };
+    Request::Report(Report { kind, side, book })
+}
+
+/// The word that was entered under a name, the empty one where none was.
+fn word_of<'a>(matches: &ArgMatches<'a>, name: &str) -> &'a str
+    ensures { result.now ≡ value_at name.now (rows_of (found_of matches.now)) }
+{
+    match value_of(matches, name) {
+        Some(word) => word,
+        None => "",
+    }
+}
+
+/// What `report` is asked.
+fn report_of<'a>(matches: &ArgMatches<'a>) -> Request<'a>
+    ensures { meaning result ≡ report_asked (rows_of (found_of matches.now)) }
+{
+    let kind_word = word_of(matches, "KIND");
+    let Some(kind) = kind_named(kind_word) else {
+        return Request::Mistaken(Mistake::Kind(kind_word));
+    };
+    let side_word = word_of(matches, "SIDE");
+    let Some(side) = side_named(side_word) else {
+        return Request::Mistaken(Mistake::Side(side_word));
+    };
+    report_over(
+        kind,
+        side,
+        value_of(matches, "book"),
+        value_of(matches, "point"),
+    )
+}
+
+/// What was entered, and else `match`.
+fn request_of<'a>(matches: &ArgMatches<'a>) -> Request<'a>
+    ensures { meaning result ≡ asked_of (subcommand_rows_of matches.now) }
+{
+    let Some((name, entered)) = matches.subcommand() else {
+        return Request::Match;
+    };
+    match name {
+        "hours" => hours_of(entered),
+        "simulate" => Request::Simulate,
+        "report" => report_of(entered),
+        _ => Request::Match,
     }
 }
 
@@ -82,8 +211,7 @@ fn request_of<'a>(matches: &ArgMatches<'a>) -> Request<'a>
 /// are errors of `clap`, whose text is for the user.
 pub fn requested<'a, S: AsStr>(alloc: Global, words: &'a [S]) -> Result<Request<'a>, Error>
     ensures refused { FailsBy (objections (map S.text words.entry.now)) result }
-    ensures asked { IfOk result
-        (IsRequested (subcommand_of the_program (map S.text words.entry.now))) }
+    ensures asked { IfOk result (λ request. meaning request ≡ asked (map S.text words.entry.now)) }
 {
     let program = commands(alloc)?;
     let matches = program.try_get_matches_from(words)?;

@@ -2,6 +2,7 @@
 #![tactic(auto)]
 
 mod answer;
+mod books;
 mod command_line;
 mod commands;
 mod fault;
@@ -9,6 +10,9 @@ mod hours;
 mod input;
 mod laws;
 mod lines;
+mod reporting;
+mod request;
+mod simulating;
 mod two_places;
 
 use commands::{dispatch, reported};
@@ -33,13 +37,7 @@ fn words<R: Env + AllocGlobal>(rt: &R) -> Result<Vec<String>, Fault> {
 fn main(rt: HostRuntime) -> ExitCode {
     let (mut input, mut output, mut errors) = (rt.stdin(), rt.stdout(), rt.stderr());
     let done = match words(&rt) {
-        Ok(words) => dispatch(
-            rt.alloc(),
-            words.as_slice(),
-            &mut input,
-            &mut output,
-            &mut errors,
-        ),
+        Ok(words) => dispatch(&rt, words.as_slice(), &mut input, &mut output, &mut errors),
         Err(fault) => reported(Err(fault), &mut errors),
     };
     match done {

@@ -1,6 +1,8 @@
 //! The program from words and bytes to bytes: what it prints, and its faults in their order.
 mod bad_lines;
+mod books;
 mod days;
+mod scripts;
 mod streams;
 
 use crate::commands::dispatch;
@@ -88,12 +90,13 @@ fn refused(input: &'static [&'static str], fault: Fault, errors: &'static [&'sta
 }
 
 /// Whether a run goes as the case says.
-fn holds(alloc: Global, case: &Case) -> Result<bool, AllocError> {
+fn holds(rt: &HostRuntime, case: &Case) -> Result<bool, AllocError> {
+    let alloc = rt.alloc();
     let input = text_of(alloc, case.input)?;
     let mut bytes = input.as_bytes();
     let mut output = Vec::new(alloc);
     let mut errors = Vec::new(alloc);
-    let result = dispatch(alloc, case.words, &mut bytes, &mut output, &mut errors);
+    let result = dispatch(rt, case.words, &mut bytes, &mut output, &mut errors);
     Ok(
         result == case.result
             && output.as_slice() == text_of(alloc, case.output)?.as_bytes()
@@ -162,7 +165,7 @@ fn answers_and_refuses(rt: HostRuntime) -> Result<(), Fail> {
         ),
     ];
     for case in &cases {
-        assert!(rt; holds(rt.alloc(), case)?, "{:?}", case.errors);
+        assert!(rt; holds(&rt, case)?, "{:?}", case.errors);
     }
     Ok(())
 }

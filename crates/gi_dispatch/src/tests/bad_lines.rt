@@ -1,7 +1,7 @@
 //! Lines that are no DELORD: each field missing, of another type and out of range.
 use super::{ORDER, OWN, text_of};
 use crate::commands::dispatch;
-use std::alloc::{AllocError, Global};
+use std::alloc::AllocError;
 use std::test::Fail;
 
 /// A part of the order's line, what stands in its place, and the name of the fault.
@@ -72,18 +72,13 @@ const CHANGES: [(&str, &str, &str); 47] = [
 ];
 
 /// Whether `match` refuses these two lines with this line on the errors, and no output.
-fn is_refused(alloc: Global, lines: &[&str], error: &str) -> Result<bool, AllocError> {
+fn is_refused(rt: &HostRuntime, lines: &[&str], error: &str) -> Result<bool, AllocError> {
+    let alloc = rt.alloc();
     let input = text_of(alloc, lines)?;
     let mut bytes = input.as_bytes();
     let mut output = Vec::new(alloc);
     let mut errors = Vec::new(alloc);
-    let result = dispatch(
-        alloc,
-        &["gi_dispatch"],
-        &mut bytes,
-        &mut output,
-        &mut errors,
-    );
+    let result = dispatch(rt, &["gi_dispatch"], &mut bytes, &mut output, &mut errors);
     let refused = result.is_err_and(|fault| fault.status() == 1);
     Ok(refused && output.is_empty() && errors.as_slice() == error.as_bytes())
 }
@@ -95,12 +90,12 @@ fn names_the_first_wrong_field(rt: HostRuntime) -> Result<(), Fail> {
         let line = ORDER.replacen(alloc, part, other, 1)?;
         let error = format!(in alloc; "gi_dispatch: order: {name}\n")?;
         assert!(rt;
-            is_refused(alloc, &[line.as_str(), "{}"], error.as_str())?,
+            is_refused(&rt, &[line.as_str(), "{}"], error.as_str())?,
             "order: {name}"
         );
         let error = format!(in alloc; "gi_dispatch: own: {name}\n")?;
         assert!(rt;
-            is_refused(alloc, &[OWN, line.as_str()], error.as_str())?,
+            is_refused(&rt, &[OWN, line.as_str()], error.as_str())?,
             "own: {name}"
         );
     }

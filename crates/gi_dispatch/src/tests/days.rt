@@ -3,16 +3,16 @@ use super::text_of;
 use crate::commands::dispatch;
 use crate::fault::Fault;
 use gi_day::DayFault;
-use std::alloc::Global;
 use std::test::Fail;
 
 /// What `hours` answers to a word, and what it writes to the output and to the errors.
-fn told(alloc: Global, day: &str) -> (Result<(), Fault>, Vec<u8>, Vec<u8>) {
+fn told(rt: &HostRuntime, day: &str) -> (Result<(), Fault>, Vec<u8>, Vec<u8>) {
+    let alloc = rt.alloc();
     let mut output = Vec::new(alloc);
     let mut errors = Vec::new(alloc);
     let mut none = b"".as_slice();
     let words = ["gi_dispatch", "hours", day];
-    let result = dispatch(alloc, &words, &mut none, &mut output, &mut errors);
+    let result = dispatch(rt, &words, &mut none, &mut output, &mut errors);
     (result, output, errors)
 }
 
@@ -56,7 +56,7 @@ fn tells_the_cycles_of_a_day(rt: HostRuntime) -> Result<(), Fail> {
             "cycle 35 start 2200-01-01T02:00Z first 24",
         ),
     ] {
-        let (result, output, errors) = told(alloc, day);
+        let (result, output, errors) = told(&rt, day);
         assert!(rt; result == Ok(()), "{day}");
         assert!(rt; errors.is_empty());
         let begin = text_of(alloc, &[head, first, second])?;
@@ -76,7 +76,7 @@ fn refuses_what_is_no_gas_day(rt: HostRuntime) -> Result<(), Fail> {
         ("1999-12-31", DayFault::DayRange, "gi_dispatch: DayRange"),
         ("2200-01-01", DayFault::DayRange, "gi_dispatch: DayRange"),
     ] {
-        let (result, output, errors) = told(rt.alloc(), day);
+        let (result, output, errors) = told(&rt, day);
         assert!(rt; result == Err(Fault::Day(fault)), "{day}");
         assert!(rt; output.is_empty());
         assert!(rt;

@@ -2,7 +2,6 @@
 use super::{ORDER, OWN, RESPONSE, text_of};
 use crate::commands::dispatch;
 use crate::fault::Fault;
-use std::alloc::Global;
 use std::io;
 use std::io::{ErrorKind, Read, Write};
 use std::test::Fail;
@@ -23,8 +22,8 @@ impl Read for Interrupted {
 
 /// A reader that gives so many bytes.
 #[derive(Drop)]
-struct Long {
-    left: usize,
+pub(crate) struct Long {
+    pub(crate) left: usize,
 }
 
 impl Read for Long {
@@ -87,10 +86,11 @@ impl Write for Narrow {
 }
 
 /// What `match` answers to a reader, and what it writes to the output and to the errors.
-fn matched(alloc: Global, input: &mut impl Read) -> (Result<(), Fault>, Vec<u8>, Vec<u8>) {
+fn matched(rt: &HostRuntime, input: &mut impl Read) -> (Result<(), Fault>, Vec<u8>, Vec<u8>) {
+    let alloc = rt.alloc();
     let mut output = Vec::new(alloc);
     let mut errors = Vec::new(alloc);
-    let result = dispatch(alloc, &["gi_dispatch"], input, &mut output, &mut errors);
+    let result = dispatch(rt, &["gi_dispatch"], input, &mut output, &mut errors);
     (result, output, errors)
 }
 
@@ -100,7 +100,7 @@ fn reads_byte_by_byte(rt: HostRuntime) -> Result<(), Fail> {
     // The last line feed may be missing.
     let bytes = input.as_str().trim_end().as_bytes();
     let (result, output, errors) = matched(
-        rt.alloc(),
+        &rt,
         &mut Dripping {
             bytes,
             is_ready: false,
@@ -115,13 +115,13 @@ fn reads_byte_by_byte(rt: HostRuntime) -> Result<(), Fail> {
 #[test]
 fn tells_that_a_reader_fails(rt: HostRuntime) -> Result<(), Fail> {
     let input = text_of(rt.alloc(), &[ORDER, OWN])?;
-    let (result, output, errors) = matched(rt.alloc(), &mut input.as_bytes().chain(Broken));
+    let (result, output, errors) = matched(&rt, &mut input.as_bytes().chain(Broken));
     assert!(rt; result == Err(Fault::Read));
     assert!(rt; output.is_empty());
     assert!(rt; errors.as_slice() == b"gi_dispatch: Read\n".as_slice());
     let error = io::Error::from(ErrorKind::Interrupted);
     let mut reader = Interrupted { calls: 0, error };
-    let (result, ..) = matched(rt.alloc(), &mut reader);
+    let (result, ..) = matched(&rt, &mut reader);
     assert!(rt; result == Err(Fault::Read));
     assert!(rt; reader.calls == 134_217_728);
     Ok(())
@@ -129,9 +129,9 @@ fn tells_that_a_reader_fails(rt: HostRuntime) -> Result<(), Fail> {
 
 #[test]
 fn takes_input_up_to_the_limit(rt: HostRuntime) {
-    let (result, ..) = matched(rt.alloc(), &mut Long { left: 67_108_864 });
+    let (result, ..) = matched(&rt, &mut Long { left: 67_108_864 });
     assert!(rt; result == Err(Fault::Lines));
-    let (result, output, errors) = matched(rt.alloc(), &mut Long { left: 67_108_865 });
+    let (result, output, errors) = matched(&rt, &mut Long { left: 67_108_865 });
     assert!(rt; result == Err(Fault::TooLarge));
     assert!(rt; output.is_empty());
     assert!(rt; errors.as_slice() == b"gi_dispatch: TooLarge\n".as_slice());
@@ -145,7 +145,7 @@ fn tells_that_a_writer_fails(rt: HostRuntime) -> Result<(), Fail> {
         for room in [0, 100] {
             let mut errors = Vec::new(alloc);
             let mut bytes = input.as_bytes();
-            let result = dispatch(alloc, &words, &mut bytes, &mut Narrow { room }, &mut errors);
+            let result = dispatch(&rt, &words, &mut bytes, &mut Narrow { room }, &mut errors);
             assert!(rt; result == Err(Fault::Write));
             assert!(rt; errors.as_slice() == b"gi_dispatch: Write\n".as_slice());
         }
@@ -154,7 +154,7 @@ fn tells_that_a_writer_fails(rt: HostRuntime) -> Result<(), Fail> {
     let mut none = b"".as_slice();
     let mut narrow = Narrow { room: 0 };
     let result = dispatch(
-        alloc,
+        &rt,
         &["gi_dispatch"],
         &mut none,
         &mut narrow,
@@ -165,17 +165,18 @@ fn tells_that_a_writer_fails(rt: HostRuntime) -> Result<(), Fail> {
 }
 
 /// What the program answers to words, with no input, and what it writes.
-fn said(alloc: Global, words: &[&str]) -> (Result<(), Fault>, Vec<u8>, Vec<u8>) {
+fn said(rt: &HostRuntime, words: &[&str]) -> (Result<(), Fault>, Vec<u8>, Vec<u8>) {
+    let alloc = rt.alloc();
     let mut output = Vec::new(alloc);
     let mut errors = Vec::new(alloc);
     let mut none = b"".as_slice();
-    let result = dispatch(alloc, words, &mut none, &mut output, &mut errors);
+    let result = dispatch(rt, words, &mut none, &mut output, &mut errors);
     (result, output, errors)
 }
 
 #[test]
 fn teaches(rt: HostRuntime) {
-    let (result, output, errors) = said(rt.alloc(), &["gi_dispatch", "--version"]);
+    let (result, output, errors) = said(&rt, &["gi_dispatch", "--version"]);
     assert!(rt; result == Ok(()));
     assert!(rt; output.as_slice() == b"gi_dispatch 0.1.0\n".as_slice());
     assert!(rt; errors.is_empty());
@@ -185,7 +186,7 @@ fn teaches(rt: HostRuntime) {
         &["gi_dispatch", "match", "-h"],
         &["gi_dispatch", "hours", "--help"],
     ] {
-        let (result, output, errors) = said(rt.alloc(), words);
+        let (result, output, errors) = said(&rt, words);
         assert!(rt; result == Ok(()));
         assert!(rt; output.len() > 200);
         assert!(rt; errors.is_empty());
@@ -194,7 +195,7 @@ fn teaches(rt: HostRuntime) {
 
 #[test]
 fn tells_a_wrong_command_line(rt: HostRuntime) {
-    let (result, output, errors) = said(rt.alloc(), &["gi_dispatch", "match", "extra"]);
+    let (result, output, errors) = said(&rt, &["gi_dispatch", "match", "extra"]);
     let text =
         b"error: unexpected argument 'extra' found\n\nUsage: gi_dispatch match\n\nFor more information, try '--help'.\n";
     assert!(rt; result == Err(Fault::CommandLine));
@@ -205,7 +206,7 @@ fn tells_a_wrong_command_line(rt: HostRuntime) {
         &["gi_dispatch", "--all"],
         &["gi_dispatch", "match", "-x"],
     ] {
-        let (result, output, errors) = said(rt.alloc(), words);
+        let (result, output, errors) = said(&rt, words);
         assert!(rt; result == Err(Fault::CommandLine));
         assert!(rt; output.is_empty());
         assert!(rt; !errors.is_empty());

@@ -1,8 +1,7 @@
-use Rattle.std.proofs.Common.{◌≡◌, ◌∙◌, ap, sym, refl, map, List, ℕ, true, subst}
+use Rattle.std.proofs.Common.{◌≡◌, ◌∙◌, ap, sym, refl, map, List, ℕ, true}
 use Rattle.clap.specs.Words.{App, app_of, fault_of, is_simple as is_simple_app, is_simple_and_free, subcommand_of}
 use Rattle.clap.proofs.OnLiterals.{clap_on_literals}
-use Rattle.gi_dispatch.specs.CommandLine.{Entered, the_program}
-use Rattle.gi_dispatch.specs.Request.{IsRequested}
+use Rattle.gi_dispatch.specs.CommandLine.{asked_of, the_program}
 use Rattle.gi_dispatch.proofs.command_line.requested.Goals as goal
 
 is_simple : is_simple_and_free the_program ≡ true
@@ -25,4 +24,4 @@ returns-clause-asked g c =
     let words : List (List ℕ) = map g.S.AsStr.text c.args.words.now in
     let program_is : app_of c.in_ok-program.program ≡ the_program = c.in_ok-program.ensures in
     let entered = (c.in_ok-matches.ensures.matches (ap is_simple_app program_is ∙ is_plain)).1 in
-    subst (λ (e : Entered). IsRequested e c.request_of.result) (entered ∙ ap (λ (a : App). subcommand_of a words) program_is) c.request_of.ensures
+    c.request_of.ensures ∙ ap asked_of (entered ∙ ap (λ (a : App). subcommand_of a words) program_is)
