@@ -3,3 +3,6 @@ mod Numbers
 mod PacketNumbers
 mod RunLaws
 mod SimulationLaws
+mod OnItsWay
+mod SoundSimulation
+mod Waiting

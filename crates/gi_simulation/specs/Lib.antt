@@ -2,3 +2,4 @@ pub mod Simulation
 pub mod OutcomeText
 pub mod Runs
 pub mod Refused
+pub mod OnItsWay

@@ -1,6 +1,7 @@
 //! Both offices and the carriers between them, run by a script.
 #![tactic(auto)]
 
+mod laws;
 mod link;
 mod notes;
 mod outcome;
@@ -10,6 +11,7 @@ mod simulated;
 mod simulation;
 mod text;
 
+pub use laws::what_is_carried_is_delivered;
 pub use outcome::Outcome;
 pub use refused::refused_submissions;
 pub use simulated::{Simulated, simulate};

@@ -1,6 +1,7 @@
 ghost use Rattle.std.specs.Prelude.{◌≡◌, IfOk, OnErr, OnOk, option_map};
 ghost use Rattle.gi_carrier.specs.Carrier.{IsPlan, given};
 ghost use Rattle.gi_carrier.specs.Kept.{bytes_of};
+ghost use Rattle.gi_simulation.specs.OnItsWay.{WaitedOrCame};
 ghost use Rattle.gi_simulation.specs.Simulation.{moved_on, new_link, with_message, with_packet, with_packets};
 
 use gi_carrier::{Carrier, Move, Plan, SendFault};
@@ -56,7 +57,8 @@ impl Link {
 
     /// A message comes to those on the way; where the carrier is full it is lost.
     fn send(&mut self, message: Vec<u8>) -> Result<(), AllocError>
-        ensures { OnOk result (self.new ≡ with_message self.old message.items) }
+        ensures kept { OnErr result (self.new ≡ self.old) }
+        ensures sent { OnOk result (self.new ≡ with_message self.old message.items) }
     {
         match self.carrier.send(message) {
             Err((_, SendFault::OutOfMemory)) => Err(AllocError),
@@ -66,7 +68,8 @@ impl Link {
 
     /// A packet comes to them where it is for the peer.
     fn send_packet(&mut self, packet: Packet) -> Result<(), AllocError>
-        ensures { OnOk result (self.new ≡ with_packet self.old packet) }
+        ensures kept { OnErr result (self.new ≡ self.old) }
+        ensures sent { OnOk result (self.new ≡ with_packet self.old packet) }
     {
         match packet.to {
             Recipient::Peer => self.send(packet.body.into_vec()),
@@ -74,9 +77,10 @@ impl Link {
         }
     }
 
-    /// The packets for the peer come to them, in order.
+    /// The packets for the peer come to them, in order. Where memory runs out only those before come.
     pub(crate) fn send_packets(&mut self, packets: Vec<Packet>) -> Result<(), AllocError>
-        ensures { OnOk result (self.new ≡ with_packets self.old packets.items) }
+        ensures sent { OnOk result (self.new ≡ with_packets self.old packets.items) }
+        ensures came { WaitedOrCame self.old packets.items self.new }
     {
         for packet in packets {
             self.send_packet(packet)?;

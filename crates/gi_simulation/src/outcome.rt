@@ -21,7 +21,7 @@ pub enum Outcome {
     Nothing,
     /// The desk refused it.
     Refused(Refusal),
-    /// There is no such packet, or no such restart.
+    /// There is no such packet or no such restart, or a local step holds a delivery.
     NotMade(WorldFault),
 }
 

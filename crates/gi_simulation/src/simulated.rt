@@ -1,4 +1,5 @@
 ghost use Rattle.std.specs.Prelude.{◌≡◌, [], IfErr, IfOk, false, string_bytes, true};
+ghost use Rattle.gi_simulation.specs.OnItsWay.{AllIsDelivered, OnlySentWaits};
 ghost use Rattle.gi_simulation.specs.Runs.{IsCutOff, gathered, run as run_of, telling, text_of, turns};
 ghost use Rattle.gi_simulation.specs.Simulation.{new_simulation};
 ghost use Rattle.gi_world.specs.Headline.{OneConfirmedQuantity};
@@ -33,6 +34,8 @@ pub fn simulate(alloc: Global, script: &Script) -> Result<Simulated, StartFault>
     ensures simulation { IfOk result (λ it. it.complete ≡ true
         → it.simulation ≡ run_of (new_simulation script.now.point) (turns script.now.lines)) }
     ensures one_quantity { IfOk result (λ it. OneConfirmedQuantity (held it.simulation.world)) }
+    ensures waits { IfOk result (λ it. OnlySentWaits it.simulation) }
+    ensures delivers { IfOk result (λ it. AllIsDelivered it.simulation) }
     ensures cut { IfOk result (λ it. it.complete ≡ false
         → IsCutOff telling (new_simulation script.now.point) (turns script.now.lines) [] (string_bytes it.text) it.simulation) }
     ensures refused { IfErr result (λ fault. fault ≡ OutOfMemory) }
@@ -40,6 +43,7 @@ pub fn simulate(alloc: Global, script: &Script) -> Result<Simulated, StartFault>
     let mut simulation = Simulation::new(alloc, script.point())?;
     let mut text = Text::new(alloc);
     let complete = run(&mut simulation, script.lines(), &mut text).is_ok();
+    // Its clauses hold of any simulation.
     simulation.world();
     Ok(Simulated {
         simulation,

@@ -2,6 +2,7 @@ ghost use Rattle.std.specs.Prelude.{◌≡◌, ◌⊎◌, IfErr, IfOk, OnErr, On
 ghost use Rattle.gi_carrier.specs.Carrier.{given};
 ghost use Rattle.gi_carrier.specs.Kept.{bytes_of};
 ghost use Rattle.gi_desk.specs.Queries.{unsaved};
+ghost use Rattle.gi_simulation.specs.OnItsWay.{AllIsDelivered, OnlySentWaits, WereLetOut};
 ghost use Rattle.gi_simulation.specs.Simulation.{after, after_step, answered, link_to, marking, moved_on, new_simulation, number_of as number_in, outcome_of, outcome_without, prepared, shown, side_of_step, step_of, with_link, with_packets};
 ghost use Rattle.gi_world.specs.Headline.{OneConfirmedQuantity};
 ghost use Rattle.gi_world.specs.Histories.{held};
@@ -29,15 +30,14 @@ pub struct Simulation {
 }
 
 impl Model for Simulation {
+    ghost use Rattle.gi_simulation.specs.OnItsWay.{IsSound};
     ghost use Rattle.gi_simulation.specs.Simulation.{SimulationState};
-    ghost use Rattle.gi_world.specs.Headline.{OneConfirmedQuantity};
-    ghost use Rattle.gi_world.specs.Histories.{held};
 
     ghost Value = { SimulationState };
 
     ghost view = { λ s. record { world = s.world; to_initiating = s.to_initiating; to_matching = s.to_matching } };
 
-    ghost invariant = { λ s. OneConfirmedQuantity (held s.world) };
+    ghost invariant = { λ s. IsSound (record { world = s.world; to_initiating = s.to_initiating; to_matching = s.to_matching }) };
 }
 
 /// The other side.
@@ -111,10 +111,13 @@ impl Simulation {
     }
 
     /// Both desks, and what each let out: every quantity that either side has confirmed or told is the
-    /// lower of the two that both froze when they closed its cycle.
+    /// lower of the two that both froze when they closed its cycle. Only what the other side let out
+    /// is on its way to a side, so that it can be delivered.
     pub fn world(&self) -> &World
         ensures value { result.now ≡ self.now.world }
         ensures one_quantity { OneConfirmedQuantity (held result.now) }
+        ensures waits { OnlySentWaits self.now }
+        ensures delivers { AllIsDelivered self.now }
     {
         &self.world
     }
@@ -144,6 +147,7 @@ impl Simulation {
 
     /// The packets for the peer, which is this side, go on the way to it.
     fn send(&mut self, side: Side, packets: Vec<Packet>) -> Result<(), AllocError>
+        requires { WereLetOut (other side) self.now.world packets.items }
         ensures next { OnOk result (self.new ≡ with_link side (with_packets (link_to side self.old) packets.items) self.old) }
         ensures world { self.new.world ≡ self.old.world }
     {
@@ -235,13 +239,16 @@ impl Simulation {
     }
 
     /// Makes an instruction's step once; of `save`, one mark. What comes of it, and nothing of a plan
-    /// line, which only sets the plan: the carrier's position stays. Where memory runs out the world
-    /// is as it was or has made the step, and the carriers may have lost messages.
+    /// line, which only sets the plan: the carrier's position stays. What a carrier gives is always
+    /// delivered. Where memory runs out the world is as it was or has made the step, and the carriers
+    /// may have lost messages.
     pub fn make(&mut self, instruction: &Instruction) -> Result<Option<Outcome>, AllocError>
         ensures outcome { IfOk result (λ outcome. outcome ≡ outcome_of self.old instruction.now) }
         ensures next { OnOk result (self.new ≡ after self.old instruction.now) }
+        ensures delivers { AllIsDelivered self.old }
         ensures world { OnErr result ((self.new.world ≡ self.old.world) ⊎ (self.new.world ≡ (after self.old instruction.now).world)) }
     {
+        self.world();
         let Some(step) = self.prepare(instruction)? else {
             return Ok(without_step(instruction));
         };

@@ -1,9 +1,12 @@
 use Rattle.std.proofs.Common.{◌≡◌, rules}
+use Rattle.gi_simulation.specs.Simulation.{new_link}
 use Rattle.gi_world.specs.World.{new_world}
-use Rattle.gi_simulation.proofs.NewWorld.{new_one_quantity}
+use Rattle.gi_simulation.proofs.SoundSimulation.{new_sound}
 use Rattle.gi_simulation.proofs.simulation.Simulation.new.Goals as goal
 
 pub invariant_of-result : goal.invariant_of-result
 invariant_of-result c =
-    let is : c.in_ok-new.field-0 ≡ new_world c.args.point = search rules in
-    new_one_quantity c.args.point c.in_ok-new.field-0 is
+    let world : c.in_ok-new.field-0 ≡ new_world c.args.point = search rules in
+    let initiating : c.in_ok-new-2.field-0 ≡ new_link = search rules in
+    let matching : c.in_ok-new-3.field-0 ≡ new_link = search rules in
+    new_sound c.args.point _ (λ t. record { world = world t; to_initiating = initiating t; to_matching = matching t })
