@@ -5,11 +5,9 @@ use Rattle.clap.specs.Words.{App, IsAmong, Kinds, Row, Rule, fault_of, first_of,
 use Rattle.clap.specs.declared.error.kind.ErrorKind.{ErrorKind}
 use Rattle.clap.specs.declared.error.kind.ErrorKind.TheVariants.{DisplayHelp, DisplayVersion}
 use Rattle.gi_pairs.specs.declared.side.Side.{Side}
-use Rattle.gi_dispatch.specs.ReportWords.{kind_named, side_named}
-use Rattle.gi_dispatch.specs.declared.request.Book.{Book}
-use Rattle.gi_dispatch.specs.declared.request.ReportKind.{ReportKind}
-use Rattle.gi_dispatch.specs.declared.request.Request.{Request}
-use Rattle.gi_dispatch.specs.declared.request.Request.TheVariants as request
+use Rattle.gi_commands.specs.Asked.{Asked, hours, match_tables, mistaken, report, simulate}
+use Rattle.gi_commands.specs.ReportWords.{kind_named, side_named}
+use Rattle.gi_commands.specs.declared.request.ReportKind.{ReportKind}
 
 -- ---- the commands and options that the program knows
 
@@ -37,15 +35,6 @@ abbrev pub objections : List (List ℕ) → Kinds
 objections words = fault_of the_program words
 
 -- ---- what is asked for
-
--- one of the commands; a report of this kind and side, over a script or over the book in a file, for this point; or
--- a report in wrong words
-pub data Asked : Type 0 where
-  match_tables : Asked
-  hours : List ℕ → Asked
-  simulate : Asked
-  report : ReportKind → Side → Option (List ℕ × List ℕ) → Asked
-  mistaken : Asked
 
 -- what was entered, as `clap` tells it: the command's name, and the values of its words
 abbrev pub Entered : Type 0
@@ -88,18 +77,6 @@ asked_of (Some entered) = asked_by entered.0 entered.1
 -- what the words ask for, as `clap` reads them
 abbrev pub asked : List (List ℕ) → Asked
 asked words = asked_of (subcommand_of the_program words)
-
--- what a request asks for
-abbrev pub book_of : Option Book → Option (List ℕ × List ℕ)
-book_of None = None
-book_of (Some book) = Some (book.file.now, book.point.now)
-
-abbrev pub meaning : Request → Asked
-meaning request.Match = match_tables
-meaning (request.Hours day) = hours day.now
-meaning request.Simulate = simulate
-meaning (request.Report wanted) = report wanted.kind wanted.side (book_of wanted.book)
-meaning (request.Mistaken why) = mistaken
 
 -- ---- words that are always right, and words that ask for no command
 

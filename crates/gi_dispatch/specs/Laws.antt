@@ -1,23 +1,8 @@
--- What holds of all inputs of `match`, and of words.
-use Rattle.std.specs.Prelude.{◌≡◌, ◌≢◌, ℕ, List, [], ◌∷◌, codes}
+-- What holds of all words.
+use Rattle.std.specs.Prelude.{◌≡◌, ℕ, List, [], ◌∷◌, codes}
 use Rattle.clap.specs.declared.error.kind.ErrorKind.TheVariants.{MissingRequiredArgument}
-use Rattle.gi_dispatch.specs.CommandLine.{MeansHours, MeansMatch, asked, hours, match_tables, objections}
-use Rattle.gi_dispatch.specs.Match.{IsAnswer, IsRefused}
-use Rattle.gi_dispatch.specs.declared.fault.Fault.{Fault}
-use Rattle.gi_dispatch.specs.declared.fault.Fault.TheVariants.{OutOfMemory}
-
--- an input has one answer at most
-abbrev pub HasOneAnswer : Type 0
-HasOneAnswer = (input text other : List ℕ) → IsAnswer input text → IsAnswer input other → text ≡ other
-
--- an input that is refused has no answer
-abbrev pub HasNoAnswer : Type 0
-HasNoAnswer = (input text : List ℕ) (why : Fault) → why ≢ OutOfMemory → IsRefused input why → ¬ (IsAnswer input text)
-
--- and one fault at most
-abbrev pub HasOneFault : Type 0
-HasOneFault = (input : List ℕ) (why other : Fault) → why ≢ OutOfMemory → other ≢ OutOfMemory
-    → IsRefused input why → IsRefused input other → why ≡ other
+use Rattle.gi_commands.specs.Asked.{hours, match_tables}
+use Rattle.gi_dispatch.specs.CommandLine.{MeansHours, MeansMatch, asked, objections}
 
 -- to the program's name, alone or with the word `match`, nothing is objected, and it asks for `match`
 abbrev pub MatchIsTaken : Type 0

@@ -1,10 +1,11 @@
 //! The words of a command line.
 ghost use Rattle.std.specs.Prelude.{◌≡◌, IfOk, codes, false, map, option_map};
 ghost use Rattle.clap.specs.Words.{FailsBy, app_of, first_of, found_of, rows_of, rule_of, subcommand_rows_of};
-ghost use Rattle.gi_dispatch.specs.CommandLine.{asked, asked_of, hours_asked, meaning, objections, option as option_rule, report_asked, report_over as report_over_of, the_program, value_of as value_at, word as word_rule};
+ghost use Rattle.gi_commands.specs.Asked.{meaning};
+ghost use Rattle.gi_dispatch.specs.CommandLine.{asked, asked_of, hours_asked, objections, option as option_rule, report_asked, report_over as report_over_of, the_program, value_of as value_at, word as word_rule};
 
-use crate::request::{Book, Mistake, Report, ReportKind, Request, kind_named, side_named};
 use clap::{Arg, ArgMatches, Command, Error};
+use gi_commands::{Book, Mistake, Report, ReportKind, Request, kind_named, side_named};
 use gi_pairs::Side;
 use std::alloc::{AllocError, Global};
 use std::convert::AsStr;
@@ -60,7 +61,8 @@ Standard output gets a line for each step: the number of the script's line, the 
 of it. Two lines with what each side holds come last.
 
 Faults, the first of: Read, TooLarge (over 67,108,864 bytes), Point (no first line `point CODE`),
-`line N: Unreadable`, Write. None of them makes a step.";
+`line N: Unreadable`, before any step; then Write. Where memory runs out in a step, the lines of
+those before it are written.";
 
 const REPORT_HELP: &str = "\
 KIND is `open` (closed cycles that are not confirmed), `confirmed` (confirmed quantities in kWh/h,
@@ -70,8 +72,8 @@ and --point the side's desk is read from its book instead, standard input is not
 has no lines.
 
 Faults: those of `simulate`. With a book, the first of: CodeText (CODE is no code), Version, Gap N,
-Damaged N or Store (the file is no book of version 1, or fails), BadFact N (no desk records fact N
-after those before it), Write.";
+Damaged N or Store (the file is not there, is no database, or fails), BadFact N (no desk records
+fact N after those before it), Write.";
 
 /// A word that has to be there.
 fn word<'a>(alloc: Global, name: &'a str, help: &'a str) -> Arg<'a>

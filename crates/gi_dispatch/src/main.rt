@@ -1,22 +1,12 @@
 //! The dispatch offices of two adjacent gas transmission operators, as a program of commands.
 #![tactic(auto)]
 
-mod answer;
-mod books;
 mod command_line;
-mod commands;
-mod fault;
-mod hours;
-mod input;
+mod dispatching;
 mod laws;
-mod lines;
-mod reporting;
-mod request;
-mod simulating;
-mod two_places;
 
-use commands::{dispatch, reported};
-use fault::Fault;
+use dispatching::{dispatch, reported};
+use gi_commands::Fault;
 use std::env;
 use std::io::ErrorKind;
 use std::process::ExitCode;

@@ -5,8 +5,8 @@ mod days;
 mod scripts;
 mod streams;
 
-use crate::commands::dispatch;
-use crate::fault::{Fault, Line};
+use crate::dispatching::dispatch;
+use gi_commands::{Fault, Line};
 use std::alloc::{AllocError, Global};
 use std::test::Fail;
 

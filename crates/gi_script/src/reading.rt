@@ -110,7 +110,7 @@ fn further(alloc: Global, mut lines: Lines<'_>) -> Result<Vec<Line>, ScriptFault
 
 /// The script that the bytes are. `Point` where the first line that is not empty is not `point` and
 /// a code, or where there is none; `Unreadable` with the number of the first further line that is of
-/// no form. `OutOfMemory` comes where a line that is read wants it: no fault stands before that line.
+/// no form. `OutOfMemory` where memory runs out; `Point` wants none.
 pub fn read_script(alloc: Global, bytes: &[u8]) -> Result<Script, ScriptFault>
     ensures found { IfOk result (IsScript bytes.now) }
     ensures only { (script : ScriptContents) → IsScript bytes.now script → MatchResult result (λ read. read ≡ script) (λ fault. fault ≡ OutOfMemory) }

@@ -1,6 +1,6 @@
 //! Lines that are no DELORD: each field missing, of another type and out of range.
 use super::{ORDER, OWN, text_of};
-use crate::commands::dispatch;
+use crate::dispatching::dispatch;
 use std::alloc::AllocError;
 use std::test::Fail;
 

@@ -2,8 +2,8 @@
 ghost use Rattle.std.specs.Prelude.{IfOk};
 ghost use Rattle.gi_facts.specs.Grammar.{IsWritable};
 
-use crate::commands::dispatch;
-use crate::fault::Fault;
+use crate::dispatching::dispatch;
+use gi_commands::Fault;
 use gi_facts::{Fact, FactFault, decode_fact};
 use gi_pairs::CodeText;
 use gi_store::{BookStore, StoreFault};

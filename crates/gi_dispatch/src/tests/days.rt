@@ -1,7 +1,7 @@
 //! What `hours` prints, and its faults.
 use super::text_of;
-use crate::commands::dispatch;
-use crate::fault::Fault;
+use crate::dispatching::dispatch;
+use gi_commands::Fault;
 use gi_day::DayFault;
 use std::test::Fail;
 

@@ -1,7 +1,7 @@
 //! What `simulate` and `report` print of a script, and their faults.
 use super::streams::Long;
-use crate::commands::dispatch;
-use crate::fault::Fault;
+use crate::dispatching::dispatch;
+use gi_commands::Fault;
 use gi_script::ScriptFault;
 use std::alloc::{AllocError, Global};
 use std::test::Fail;

@@ -1,7 +1,7 @@
 //! Readers and writers that fail, inputs at the limit, and what the words ask for.
 use super::{ORDER, OWN, RESPONSE, text_of};
-use crate::commands::dispatch;
-use crate::fault::Fault;
+use crate::dispatching::dispatch;
+use gi_commands::Fault;
 use std::io;
 use std::io::{ErrorKind, Read, Write};
 use std::test::Fail;

@@ -1,0 +1,8 @@
+pub mod HoursLemmas
+pub mod LineLemmas
+pub mod MatchLemmas
+pub mod ShapeLemmas
+pub mod CommandLemmas
+pub mod Outcomes
+pub mod SimulatingLemmas
+pub mod BookFaults

@@ -1,0 +1,86 @@
+-- The first line of an input, and the lines after it.
+use Rattle.std.proofs.Common.{◌≡◌, ◌≢◌, ℕ, ◌+◌, ◌<◌, ◌≤◌, Bool, true, false, ◌==◌, List, [], ◌∷◌, length, take, drop, refl, arith, subst, Some, None, one-add, add-one, not, cond}
+use Rattle.std.specs.List.{onto_first, position, position_or_len}
+use Rattle.std.proofs.lemmas.Option.{cond_some}
+use Rattle.std.proofs.lemmas.Bool.Decides.{nat_tests}
+use Rattle.std.specs.Prelude.{nat_lt}
+use Rattle.gi_commands.specs.Lines.{lines}
+
+abbrev ends_line : ℕ → Bool
+ends_line byte = byte == 10
+
+-- how many bytes stand before the first line feed
+abbrev before : List ℕ → ℕ
+before bytes = position_or_len ends_line bytes
+
+pub lines-empty : lines [] ≡ []
+unfolding lines
+lines-empty = refl
+
+lines-line_feed : (byte : ℕ) (bytes : List ℕ) → ends_line byte ≡ true → lines (byte ∷ bytes) ≡ [] ∷ lines bytes
+unfolding lines
+lines-line_feed byte bytes ended = rw ended refl
+
+lines-other : (byte : ℕ) (bytes : List ℕ) → ends_line byte ≡ false → lines (byte ∷ bytes) ≡ onto_first byte (lines bytes)
+unfolding lines
+lines-other byte bytes other = rw other refl
+
+-- one byte more in front, by whether it ends a line
+before-cons : (byte : ℕ) (bytes : List ℕ) (ended : Bool) → ends_line byte ≡ ended
+    → (before bytes < length bytes → lines bytes ≡ take (before bytes) bytes ∷ lines (drop (before bytes + 1) bytes))
+    → let n = cond (not ended) (1 + before bytes) 0 in
+    n < length (byte ∷ bytes) → lines (byte ∷ bytes) ≡ take n (byte ∷ bytes) ∷ lines (drop (n + 1) (byte ∷ bytes))
+before-cons byte bytes true is rest within = lines-line_feed byte bytes is
+before-cons byte bytes false is rest within =
+    let fewer : before bytes < length bytes = omega arith in
+    rw (lines-other byte bytes is, rest fewer) (simp (one-add, add-one) refl)
+
+lines-before : (bytes : List ℕ) → before bytes < length bytes
+    → lines bytes ≡ take (before bytes) bytes ∷ lines (drop (before bytes + 1) bytes)
+lines-before [] within = absurd (omega arith)
+lines-before (byte ∷ bytes) within = before-cons byte bytes (ends_line byte) refl (lines-before bytes) within
+
+-- the first line ends at the first line feed
+pub lines-ended : (bytes : List ℕ) (at : ℕ) → position ends_line bytes ≡ Some at
+    → lines bytes ≡ take at bytes ∷ lines (drop (at + 1) bytes)
+lines-ended bytes at found =
+    let parts = cond_some (nat_lt (before bytes) (length bytes)) (before bytes) at found in
+    let within : before bytes < length bytes = grind (arith, nat_tests, parts.0) in
+    subst (λ (n : ℕ). lines bytes ≡ take n bytes ∷ lines (drop (n + 1) bytes)) parts.1 (lines-before bytes within)
+
+-- where no line feed stands, the first byte is none
+not_ended : (byte : ℕ) (bytes : List ℕ) (ended : Bool) → ends_line byte ≡ ended
+    → length (byte ∷ bytes) ≤ cond (not ended) (1 + before bytes) 0
+    → (ends_line byte ≡ false) × (length bytes ≤ before bytes)
+not_ended byte bytes true is all = absurd (omega arith)
+not_ended byte bytes false is all = (is, omega arith)
+
+one_line : (byte : ℕ) (bytes : List ℕ) → length (byte ∷ bytes) ≤ before (byte ∷ bytes)
+    → lines (byte ∷ bytes) ≡ (byte ∷ bytes) ∷ []
+one_line byte [] all =
+    let first = not_ended byte [] (ends_line byte) refl all in
+    rw (lines-other byte [] first.0, lines-empty) refl
+one_line byte (next ∷ bytes) all =
+    let first = not_ended byte (next ∷ bytes) (ends_line byte) refl all in
+    rw (lines-other byte (next ∷ bytes) first.0, one_line next bytes first.1) refl
+
+no_position : (bytes : List ℕ) → position ends_line bytes ≡ None → length bytes ≤ before bytes
+no_position bytes none = grind (arith, nat_tests, none)
+
+-- with no line feed all is one line
+pub lines-unended : (bytes : List ℕ) → 0 < length bytes → position ends_line bytes ≡ None → lines bytes ≡ bytes ∷ []
+lines-unended [] some none = absurd (omega arith)
+lines-unended (byte ∷ bytes) some none = one_line byte bytes (no_position (byte ∷ bytes) none)
+
+onto_some : (byte : ℕ) (rest : List (List ℕ)) → onto_first byte rest ≢ []
+onto_some byte [] empty = cc
+onto_some byte (line ∷ rest) empty = cc
+
+cons_some : (byte : ℕ) (bytes : List ℕ) (ended : Bool) → ends_line byte ≡ ended → lines (byte ∷ bytes) ≢ []
+cons_some byte bytes true is empty = let line = lines-line_feed byte bytes is in cc
+cons_some byte bytes false is empty = onto_some byte (lines bytes) (rw (lines-other byte bytes is) at empty)
+
+-- where a byte is left, a line is
+pub lines-some : (bytes : List ℕ) → 0 < length bytes → lines bytes ≢ []
+lines-some [] some = absurd (omega arith)
+lines-some (byte ∷ bytes) some = cons_some byte bytes (ends_line byte) refl

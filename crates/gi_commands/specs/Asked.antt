@@ -1,0 +1,28 @@
+-- What can be asked of the program.
+use Rattle.std.specs.Prelude.{ℕ, List, Option, None, Some}
+use Rattle.gi_pairs.specs.declared.side.Side.{Side}
+use Rattle.gi_commands.specs.declared.request.Book.{Book}
+use Rattle.gi_commands.specs.declared.request.ReportKind.{ReportKind}
+use Rattle.gi_commands.specs.declared.request.Request.{Request}
+use Rattle.gi_commands.specs.declared.request.Request.TheVariants as request
+
+-- one of the commands; a report of this kind and side, over a script or over the book in a file, for this point; or
+-- a report in wrong words
+pub data Asked : Type 0 where
+  match_tables : Asked
+  hours : List ℕ → Asked
+  simulate : Asked
+  report : ReportKind → Side → Option (List ℕ × List ℕ) → Asked
+  mistaken : Asked
+
+-- what a request asks for
+abbrev pub book_of : Option Book → Option (List ℕ × List ℕ)
+book_of None = None
+book_of (Some book) = Some (book.file.now, book.point.now)
+
+abbrev pub meaning : Request → Asked
+meaning request.Match = match_tables
+meaning (request.Hours day) = hours day.now
+meaning request.Simulate = simulate
+meaning (request.Report wanted) = report wanted.kind wanted.side (book_of wanted.book)
+meaning (request.Mistaken why) = mistaken

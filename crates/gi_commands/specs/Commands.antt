@@ -1,0 +1,66 @@
+-- What a command does, and its faults: what the definition of each says.
+use Rattle.std.specs.Prelude.{◌≡◌, ◌⊎◌, ℕ, List, Option, None, Some}
+use Rattle.std.specs.Option.{IfSome}
+use Rattle.std.specs.Io.KnownBytes.{Keeps}
+use Rattle.gi_pairs.specs.Code.{IsCode}
+use Rattle.gi_commands.specs.Asked.{Asked, hours, match_tables, mistaken, report, simulate}
+use Rattle.gi_commands.specs.Hours.{IsFirstHoursFault, TellsHours}
+use Rattle.gi_commands.specs.Match.{Answers, IsFirstFault}
+use Rattle.gi_commands.specs.Reporting.{IsFirstFileFault, ReportsBook}
+use Rattle.gi_commands.specs.Simulating.{CutsShort, HasReport, HasScript, IsFirstScriptFault, Reports, Simulates}
+use Rattle.gi_commands.specs.declared.fault.Fault.{Fault}
+use Rattle.gi_commands.specs.declared.fault.Fault.TheVariants as fault
+
+-- what is asked for is what the output gains; of what the reader has left, where it tells that
+abbrev pub Does : Asked → Option (List ℕ) → Option (List ℕ) → Option (List ℕ) → Type 0
+Does match_tables remaining old new = IfSome remaining (λ input. Answers input old new)
+Does (hours day) remaining old new = TellsHours day old new
+Does simulate remaining old new = IfSome remaining (λ input. Simulates input old new)
+Does (report kind side None) remaining old new = IfSome remaining (λ input. Reports kind side input old new)
+Does (report kind side (Some book)) remaining old new = ReportsBook kind side book.1 old new
+Does mistaken remaining old new = ⊥
+
+-- the first fault
+abbrev pub IsFaultOf : Asked → Option (List ℕ) → Fault → Type 0
+IsFaultOf match_tables remaining why = IfSome remaining (λ input. IsFirstFault input why)
+IsFaultOf (hours day) remaining why = IsFirstHoursFault day why
+IsFaultOf simulate remaining why = IfSome remaining (λ input. IsFirstScriptFault HasScript input why)
+IsFaultOf (report kind side None) remaining why = IfSome remaining (λ input. IsFirstScriptFault (HasReport kind side) input why)
+IsFaultOf (report kind side (Some book)) remaining why = IsFirstFileFault kind side book.1 why
+IsFaultOf mistaken remaining why = (why ≡ fault.CommandLine) ⊎ (why ≡ fault.OutOfMemory)
+
+-- After a fault nothing is written, but where a writer failed.
+abbrev pub LeavesNothing : Option (List ℕ) → Option (List ℕ) → Fault → Type 0
+LeavesNothing old new fault.Write = Unit {0}
+LeavesNothing old new _ = Keeps old new
+
+-- of a script, where memory ran out, the lines of the first steps may be
+abbrev pub LeavesFront : Option (List ℕ) → Option (List ℕ) → Option (List ℕ) → Fault → Type 0
+LeavesFront remaining old new fault.Write = Unit {0}
+LeavesFront remaining old new fault.OutOfMemory = IfSome remaining (λ input. CutsShort input old new)
+LeavesFront remaining old new _ = Keeps old new
+
+abbrev pub Leaves : Asked → Option (List ℕ) → Option (List ℕ) → Option (List ℕ) → Fault → Type 0
+Leaves match_tables remaining old new why = LeavesNothing old new why
+Leaves (hours day) remaining old new why = LeavesNothing old new why
+Leaves simulate remaining old new why = LeavesFront remaining old new why
+Leaves (report kind side book) remaining old new why = LeavesNothing old new why
+Leaves mistaken remaining old new why = LeavesNothing old new why
+
+-- `hours`, the report of a book and wrong words read nothing
+abbrev pub MayRead : Asked → Option (List ℕ) → Option (List ℕ) → Type 0
+MayRead match_tables old new = Unit {0}
+MayRead (hours day) old new = Keeps old new
+MayRead simulate old new = Unit {0}
+MayRead (report kind side None) old new = Unit {0}
+MayRead (report kind side (Some book)) old new = Keeps old new
+MayRead mistaken old new = Keeps old new
+
+-- a report of a book whose point is no code
+abbrev pub HasNoCode : Asked → Type 0
+HasNoCode match_tables = ⊥
+HasNoCode (hours day) = ⊥
+HasNoCode simulate = ⊥
+HasNoCode (report kind side None) = ⊥
+HasNoCode (report kind side (Some book)) = ¬ (IsCode book.1)
+HasNoCode mistaken = ⊥

@@ -1,0 +1,171 @@
+ghost use Rattle.std.specs.Prelude.{◌≡◌, IfErr, IfSome, OnOk, Err};
+ghost use Rattle.std.specs.Io.KnownBytes.{Appends};
+ghost use Rattle.gi_pairs.specs.Code.{IsCode};
+ghost use Rattle.gi_commands.specs.Asked.{book_of, meaning, report as asks_report};
+ghost use Rattle.gi_commands.specs.Commands.{Does, HasNoCode, IsFaultOf, Leaves, LeavesFront, LeavesNothing, MayRead};
+ghost use Rattle.gi_commands.specs.Fault.{no_code};
+ghost use Rattle.gi_commands.specs.Hours.{IsFirstHoursFault, TellsHours};
+ghost use Rattle.gi_commands.specs.Match.{Answers, IsFirstFault};
+ghost use Rattle.gi_commands.specs.Reporting.{IsFirstFileFault, ReportsBook};
+ghost use Rattle.gi_commands.specs.Simulating.{HasReport, HasScript, IsFirstScriptFault, Reports, Simulates};
+
+use crate::books::file_report;
+use crate::fault::Fault;
+use crate::hours::hours_text;
+use crate::input::{Calls, read_input};
+use crate::matching::answer;
+use crate::reporting::script_report;
+use crate::request::{Book, Report, ReportKind, Request};
+use crate::simulating::simulated;
+use gi_pairs::Side;
+use std::alloc::Global;
+use std::io::{Read, Write};
+
+/// Reads the order and the own table, and writes the response to them.
+fn match_tables<R: Read, W: Write>(
+    alloc: Global,
+    input: &mut R,
+    output: &mut W,
+) -> Result<(), Fault>
+    ensures done { OnOk result (IfSome (R.remaining input.old) (λ bytes.
+        Answers bytes (W.contents output.old) (W.contents output.new))) }
+    ensures leaves { IfErr result (LeavesNothing (W.contents output.old) (W.contents output.new)) }
+    ensures first { IfErr result (λ fault. IfSome (R.remaining input.old) (λ bytes.
+        IsFirstFault bytes fault)) }
+{
+    let bytes = read_input(alloc, input, &mut Calls::none())?;
+    let text = answer(alloc, bytes.as_slice())?;
+    match output.write_all(text.as_slice()) {
+        Ok(()) => Ok(()),
+        Err(_) => Err(Fault::Write),
+    }
+}
+
+/// Writes the hours and cycles of a day.
+fn tell_hours<W: Write>(alloc: Global, day: &str, output: &mut W) -> Result<(), Fault>
+    ensures done { OnOk result (TellsHours day.now (W.contents output.old) (W.contents output.new)) }
+    ensures leaves { IfErr result (LeavesNothing (W.contents output.old) (W.contents output.new)) }
+    ensures first { IfErr result (IsFirstHoursFault day.now) }
+{
+    let text = hours_text(alloc, day)?;
+    match output.write_all(text.as_bytes()) {
+        Ok(()) => Ok(()),
+        Err(_) => Err(Fault::Write),
+    }
+}
+
+/// Writes a text, all of it.
+fn write_text<W: Write>(text: &[u8], output: &mut W) -> Result<(), Fault>
+    ensures written { OnOk result (Appends (W.contents output.old) (W.contents output.new) text.now) }
+    ensures failed { IfErr result (λ fault. fault ≡ Fault.Write) }
+{
+    match output.write_all(text) {
+        Ok(()) => Ok(()),
+        Err(_) => Err(Fault::Write),
+    }
+}
+
+/// Makes the steps of the script that is read, and writes what came of each. Where memory runs out
+/// in one, the lines of those before it are written.
+fn simulate_script<R: Read, W: Write>(
+    alloc: Global,
+    input: &mut R,
+    output: &mut W,
+) -> Result<(), Fault>
+    ensures done { OnOk result (IfSome (R.remaining input.old) (λ bytes.
+        Simulates bytes (W.contents output.old) (W.contents output.new))) }
+    ensures leaves { IfErr result (LeavesFront (R.remaining input.old) (W.contents output.old) (W.contents output.new)) }
+    ensures first { IfErr result (λ fault. IfSome (R.remaining input.old) (λ bytes.
+        IsFirstScriptFault HasScript bytes fault)) }
+{
+    let bytes = read_input(alloc, input, &mut Calls::none())?;
+    let written = simulated(alloc, bytes.as_slice())?;
+    write_text(written.text.as_bytes(), output)?;
+    if written.complete {
+        Ok(())
+    } else {
+        Err(Fault::OutOfMemory)
+    }
+}
+
+/// Writes the report of a side after the steps of the script that is read.
+fn report_script<R: Read, W: Write>(
+    alloc: Global,
+    kind: ReportKind,
+    side: Side,
+    input: &mut R,
+    output: &mut W,
+) -> Result<(), Fault>
+    ensures done { OnOk result (IfSome (R.remaining input.old) (λ bytes.
+        Reports kind side bytes (W.contents output.old) (W.contents output.new))) }
+    ensures leaves { IfErr result (LeavesNothing (W.contents output.old) (W.contents output.new)) }
+    ensures first { IfErr result (λ fault. IfSome (R.remaining input.old) (λ bytes.
+        IsFirstScriptFault (HasReport kind side) bytes fault)) }
+{
+    let bytes = read_input(alloc, input, &mut Calls::none())?;
+    let text = script_report(alloc, kind, side, bytes.as_slice())?;
+    write_text(text.as_bytes(), output)
+}
+
+/// Writes the report of a side's book in a file.
+fn report_book<W: Write>(
+    rt: &HostRuntime,
+    kind: ReportKind,
+    side: Side,
+    book: Book<'_>,
+    output: &mut W,
+) -> Result<(), Fault>
+    ensures done { OnOk result (ReportsBook kind side book.entry.point.now (W.contents output.old) (W.contents output.new)) }
+    ensures leaves { IfErr result (LeavesNothing (W.contents output.old) (W.contents output.new)) }
+    ensures first { IfErr result (IsFirstFileFault kind side book.entry.point.now) }
+    ensures code { ¬ (IsCode book.entry.point.now) → result ≡ Err no_code }
+{
+    let text = file_report(rt, kind, side, book)?;
+    write_text(text.as_bytes(), output)
+}
+
+/// Writes a report: of a book in a file where one is named, and nothing is read, and else of the
+/// script that is read.
+fn report<R: Read, W: Write>(
+    rt: &HostRuntime,
+    wanted: Report<'_>,
+    input: &mut R,
+    output: &mut W,
+) -> Result<(), Fault>
+    ensures done { OnOk result (Does (asks_report wanted.entry.kind wanted.entry.side (book_of wanted.entry.book))
+        (R.remaining input.old) (W.contents output.old) (W.contents output.new)) }
+    ensures first { IfErr result (IsFaultOf (asks_report wanted.entry.kind wanted.entry.side (book_of wanted.entry.book)) (R.remaining input.old)) }
+    ensures leaves { IfErr result (LeavesNothing (W.contents output.old) (W.contents output.new)) }
+    ensures unread { MayRead (asks_report wanted.entry.kind wanted.entry.side (book_of wanted.entry.book)) (R.remaining input.old) (R.remaining input.new) }
+    ensures code { HasNoCode (asks_report wanted.entry.kind wanted.entry.side (book_of wanted.entry.book)) → result ≡ Err no_code }
+{
+    match wanted.book {
+        Some(book) => report_book(rt, wanted.kind, wanted.side, book, output),
+        None => report_script(rt.alloc(), wanted.kind, wanted.side, input, output),
+    }
+}
+
+/// Does what a request asks for, and answers the fault, if any: after a fault nothing is written,
+/// unless memory ran out in a script's step or the writer failed, and then perhaps a part. `Write`,
+/// where the writer fails, comes after every other fault.
+pub fn perform<R: Read, W: Write>(
+    rt: &HostRuntime,
+    request: Request<'_>,
+    input: &mut R,
+    output: &mut W,
+) -> Result<(), Fault>
+    ensures done { OnOk result (Does (meaning request.entry) (R.remaining input.old) (W.contents output.old) (W.contents output.new)) }
+    ensures first { IfErr result (IsFaultOf (meaning request.entry) (R.remaining input.old)) }
+    ensures leaves { IfErr result (Leaves (meaning request.entry) (R.remaining input.old) (W.contents output.old) (W.contents output.new)) }
+    ensures unread { MayRead (meaning request.entry) (R.remaining input.old) (R.remaining input.new) }
+    ensures code { HasNoCode (meaning request.entry) → result ≡ Err no_code }
+{
+    let alloc = rt.alloc();
+    match request {
+        Request::Match => match_tables(alloc, input, output),
+        Request::Hours(day) => tell_hours(alloc, day, output),
+        Request::Simulate => simulate_script(alloc, input, output),
+        Request::Report(wanted) => report(rt, wanted, input, output),
+        Request::Mistaken(_) => Err(Fault::CommandLine),
+    }
+}

@@ -1,0 +1,26 @@
+//! What can be asked of the program, and what each command does: what it reads, calls and writes,
+//! and its faults in their order.
+#![tactic(auto)]
+
+mod books;
+mod commands;
+mod fault;
+mod hours;
+mod input;
+mod laws;
+mod lines;
+mod matching;
+mod reporting;
+mod request;
+mod simulating;
+mod two_places;
+
+pub use commands::perform;
+pub use fault::{Fault, Line};
+pub use hours::hours_text;
+pub use input::{Calls, read_input};
+pub use laws::one_outcome;
+pub use matching::answer;
+pub use reporting::{book_report, script_report};
+pub use request::{Book, Mistake, Report, ReportKind, Request, kind_named, side_named};
+pub use simulating::{Written, simulated};

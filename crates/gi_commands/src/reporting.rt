@@ -1,0 +1,101 @@
+//! What `report` writes of a script's end, and of a book.
+
+ghost use Rattle.std.specs.Prelude.{◌≡◌, IfErr, IfOk, List, string_bytes};
+ghost use Rattle.sqlite.specs.Held.{state};
+ghost use Rattle.sqlite.specs.State.{HasCleanDisk};
+ghost use Rattle.gi_facts.specs.declared.fact.Fact.{Fact};
+ghost use Rattle.gi_store.specs.Book.{IsRead};
+ghost use Rattle.gi_commands.specs.Reporting.{HasBookReport, IsBookFault, IsBookReport, IsReport, IsRowsFault};
+ghost use Rattle.gi_commands.specs.Simulating.{IsNoScript, IsScriptReport};
+
+use crate::fault::Fault;
+use crate::request::ReportKind;
+use gi_day::Calendar;
+use gi_desk::{Desk, Role};
+use gi_initiator::Initiating;
+use gi_matcher::Matching;
+use gi_pairs::{Code, Side};
+use gi_reports::{confirmed_report, open_report, refused_report};
+use gi_script::read_script;
+use gi_simulation::refused_submissions;
+use gi_store::BookStore;
+use sqlite::Alter;
+use std::alloc::{AllocError, Global};
+
+/// The report of a desk, and of its refused submissions.
+fn desk_report<R: Role>(
+    alloc: Global,
+    kind: ReportKind,
+    desk: &Desk<R>,
+    submissions: &[Option<Code>],
+) -> Result<String, AllocError>
+    ensures { IfOk result (λ text. IsReport kind R.SIDE desk.now submissions.now (string_bytes text)) }
+{
+    match kind {
+        ReportKind::Open => open_report(alloc, desk),
+        ReportKind::Confirmed => confirmed_report(alloc, desk),
+        ReportKind::Refused => refused_report(alloc, submissions),
+    }
+}
+
+/// What `report` writes for an input: the report of a side after the script's steps. The fault is
+/// the script's, or `OutOfMemory`.
+pub fn script_report(
+    alloc: Global,
+    kind: ReportKind,
+    side: Side,
+    input: &[u8],
+) -> Result<String, Fault>
+    ensures text { IfOk result (λ text. IsScriptReport kind side input.now (string_bytes text)) }
+    ensures fault { IfErr result (IsNoScript input.now) }
+{
+    let script = read_script(alloc, input)?;
+    let (simulation, submissions) = refused_submissions(alloc, side, &script)?;
+    let world = simulation.world();
+    Ok(match side {
+        Side::I => desk_report(alloc, kind, world.initiating(), &submissions)?,
+        Side::M => desk_report(alloc, kind, world.matching(), &submissions)?,
+    })
+}
+
+/// The report of a book's desk, replayed from its facts.
+fn replayed_report<R: Role, S: Alter>(
+    alloc: Global,
+    kind: ReportKind,
+    point: Code,
+    book: &mut BookStore<S>,
+) -> Result<String, Fault>
+    ensures of_rows { HasCleanDisk (state S.Store book.new.connection) →
+        IfOk result (λ text. (facts : List Fact) × IsRead (state S.Store book.new.connection) facts × IsBookReport kind R.SIDE point facts (string_bytes text)) }
+    ensures refused_rows { HasCleanDisk (state S.Store book.new.connection) →
+        IfErr result (IsRowsFault R.SIDE point (state S.Store book.old.connection) (state S.Store book.new.connection)) }
+    ensures reported { IfOk result (λ text. HasBookReport kind R.SIDE point (string_bytes text)) }
+    ensures fault { IfErr result (IsBookFault R.SIDE point) }
+{
+    let facts = book.load()?;
+    let desk = Desk::<R>::replay(alloc, Calendar::new()?, point, facts)?;
+    Ok(desk_report(alloc, kind, &desk, &[])?)
+}
+
+/// What `report` writes of a book: the report of the side's desk, replayed from its facts.
+/// `refused` has no lines, since refusals are no facts. The faults of `load`, then `BadFact` for the
+/// first fact that no desk of this side and point records after those before it, and `OutOfMemory`.
+pub fn book_report<S: Alter>(
+    alloc: Global,
+    kind: ReportKind,
+    side: Side,
+    point: Code,
+    book: &mut BookStore<S>,
+) -> Result<String, Fault>
+    ensures of_rows { HasCleanDisk (state S.Store book.new.connection) →
+        IfOk result (λ text. (facts : List Fact) × IsRead (state S.Store book.new.connection) facts × IsBookReport kind side point facts (string_bytes text)) }
+    ensures refused_rows { HasCleanDisk (state S.Store book.new.connection) →
+        IfErr result (IsRowsFault side point (state S.Store book.old.connection) (state S.Store book.new.connection)) }
+    ensures reported { IfOk result (λ text. HasBookReport kind side point (string_bytes text)) }
+    ensures fault { IfErr result (IsBookFault side point) }
+{
+    match side {
+        Side::I => replayed_report::<Initiating, S>(alloc, kind, point, book),
+        Side::M => replayed_report::<Matching, S>(alloc, kind, point, book),
+    }
+}

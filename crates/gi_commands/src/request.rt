@@ -1,0 +1,102 @@
+//! What a command line asks for.
+
+ghost use Rattle.std.specs.Prelude.{◌≡◌, Some};
+ghost use Rattle.gi_commands.specs.ReportWords.{kind_named as kind_named_by, mistake_text, side_named as side_named_by};
+
+use gi_pairs::Side;
+use std::fmt;
+
+/// Which report is asked for.
+#[derive(Clone, Copy, Debug, PartialEq, Eq)]
+pub enum ReportKind {
+    /// The closed cycles that are not confirmed.
+    Open,
+    /// What is confirmed, hour by hour.
+    Confirmed,
+    /// The refused submissions of each portfolio.
+    Refused,
+}
+
+/// A book in a file, and the interconnection point that it is of.
+#[derive(Clone, Copy, Debug, PartialEq, Eq)]
+pub struct Book<'a> {
+    pub file: &'a str,
+    pub point: &'a str,
+}
+
+/// A report of a side: over its book, or else over a script.
+#[derive(Clone, Copy, Debug, PartialEq, Eq)]
+pub struct Report<'a> {
+    pub kind: ReportKind,
+    pub side: Side,
+    pub book: Option<Book<'a>>,
+}
+
+/// What is wrong with the words of `report`, where `clap` objects to nothing.
+#[derive(Clone, Copy, Debug, PartialEq, Eq)]
+pub enum Mistake<'a> {
+    /// The word is no kind of report.
+    Kind(&'a str),
+    /// The word is no side.
+    Side(&'a str),
+    /// One of `--book` and `--point` without the other.
+    Unpaired,
+}
+
+/// What a command line asks for.
+#[derive(Clone, Copy, Debug, PartialEq, Eq)]
+pub enum Request<'a> {
+    /// The lesser of an order and an own table.
+    Match,
+    /// The hours and cycles of the day that the word names.
+    Hours(&'a str),
+    /// What comes of a script's steps.
+    Simulate,
+    /// A report.
+    Report(Report<'a>),
+    /// A report, in wrong words.
+    Mistaken(Mistake<'a>),
+}
+
+impl fmt::Display for Mistake<'_> {
+    ghost output = { λ mistake. Some (mistake_text mistake) };
+
+    fn fmt<W: fmt::Write>(&self, f: &mut fmt::Formatter<W>) -> fmt::Result {
+        match self {
+            Mistake::Kind(word) => write!(
+                f,
+                "error: invalid value '{word}' for '<KIND>'\n  [possible values: open, confirmed, refused]\n"
+            ),
+            Mistake::Side(word) => write!(
+                f,
+                "error: invalid value '{word}' for '<SIDE>'\n  [possible values: I, M]\n"
+            ),
+            Mistake::Unpaired => {
+                f.write_str("error: '--book <FILE>' and '--point <CODE>' need each other\n")
+            }
+        }
+    }
+}
+
+/// The kind of report that a word names.
+pub fn kind_named(word: &str) -> Option<ReportKind>
+    ensures { result ≡ kind_named_by word.now }
+{
+    match word {
+        "open" => Some(ReportKind::Open),
+        "confirmed" => Some(ReportKind::Confirmed),
+        "refused" => Some(ReportKind::Refused),
+        _ => None,
+    }
+}
+
+/// The side that a word names.
+pub fn side_named(word: &str) -> Option<Side>
+    ensures { result ≡ side_named_by word.now }
+{
+    match word {
+        "I" => Some(Side::I),
+        "M" => Some(Side::M),
+        _ => None,
+    }
+}

@@ -1,0 +1,68 @@
+//! What `simulate` writes of a script.
+
+ghost use Rattle.std.specs.Prelude.{◌≡◌, ◌++◌, IfErr, IfOk, OnErr, OnOk, false, string_bytes, true};
+ghost use Rattle.gi_commands.specs.Simulating.{HasScript, IsCutShort, IsNoScript, IsSimulation, counts_of};
+
+use crate::fault::Fault;
+use gi_reports::counts_line;
+use gi_script::read_script;
+use gi_simulation::{Simulation, simulate};
+use std::alloc::{AllocError, Global};
+
+/// What is written of a script.
+#[derive(Debug, Drop)]
+pub struct Written {
+    pub text: String,
+    /// Whether that is all; else memory ran out, and these are lines of the first steps.
+    pub complete: bool,
+}
+
+/// A line of what each side holds.
+fn counts(alloc: Global, simulation: &Simulation) -> Result<String, AllocError>
+    ensures { IfOk result (λ text. string_bytes text ≡ counts_of simulation.now) }
+{
+    let world = simulation.world();
+    let mut text = counts_line(alloc, world.initiating())?;
+    let matching = counts_line(alloc, world.matching())?;
+    text.push_str(matching.as_str())?;
+    Ok(text)
+}
+
+/// Adds a line of what each side holds. Where memory runs out the text is as it was.
+fn add_counts(alloc: Global, text: &mut String, simulation: &Simulation) -> Result<(), AllocError>
+    ensures added { OnOk result (string_bytes text.new ≡ string_bytes text.old ++ counts_of simulation.now) }
+    ensures kept { OnErr result (string_bytes text.new ≡ string_bytes text.old) }
+{
+    let counts = counts(alloc, simulation)?;
+    text.push_str(counts.as_str())
+}
+
+/// What `simulate` writes for an input: a line of each step of the script, and two of what the
+/// sides then hold. The fault is the script's. Where memory runs out in a step, or for its line, the
+/// lines of those before it are written.
+pub fn simulated(alloc: Global, input: &[u8]) -> Result<Written, Fault>
+    ensures text { IfOk result (λ written. written.complete ≡ true → IsSimulation input.now (string_bytes written.text)) }
+    ensures cut { IfOk result (λ written. written.complete ≡ false → IsCutShort input.now (string_bytes written.text)) }
+    ensures script { IfOk result (λ written. HasScript input.now) }
+    ensures fault { IfErr result (IsNoScript input.now) }
+{
+    let script = read_script(alloc, input)?;
+    let made = simulate(alloc, &script)?;
+    let mut text = made.text;
+    if !made.complete {
+        return Ok(Written {
+            text,
+            complete: false,
+        });
+    }
+    match add_counts(alloc, &mut text, &made.simulation) {
+        Ok(()) => Ok(Written {
+            text,
+            complete: true,
+        }),
+        Err(_) => Ok(Written {
+            text,
+            complete: false,
+        }),
+    }
+}

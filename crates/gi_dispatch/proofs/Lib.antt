@@ -1,7 +1,0 @@
-pub mod HoursLemmas
-pub mod LineLemmas
-pub mod MatchLemmas
-pub mod ShapeLemmas
-pub mod CommandLemmas
-pub mod Outcomes
-pub mod SimulatingLemmas
