@@ -15,6 +15,3 @@ pub use moves::Move;
 pub use plan::{MOST_MOVES, Plan};
 pub use plan_fault::PlanFault;
 pub use send_fault::SendFault;
-
-#[cfg(test)]
-mod tests;

@@ -5,4 +5,3 @@ pub mod ShapeLemmas
 pub mod CommandLemmas
 pub mod Outcomes
 pub mod SimulatingLemmas
-pub mod BookFaults

@@ -35,6 +35,12 @@ pub record IsBookReport (kind : ReportKind) (side : Side) (point : List ℕ) (fa
 abbrev pub HasBookReport : ReportKind → Side → List ℕ → List ℕ → Type 0
 HasBookReport kind side point text = (facts : List Fact) × IsBookReport kind side point facts text
 
+-- why facts have no report: they make no desk, or memory ran out
+abbrev pub IsFactsFault : Side → List ℕ → List Fact → Fault → Type 0
+IsFactsFault side point facts (fault.BadFact n) = bad_fact side point facts ≡ Some n
+IsFactsFault side point facts fault.OutOfMemory = Unit {0}
+IsFactsFault side point facts _ = ⊥
+
 -- why a book has no report: some facts make no desk, or the store failed or memory ran out
 abbrev pub IsBookFault : Side → List ℕ → Fault → Type 0
 IsBookFault side point (fault.BadFact n) = (facts : List Fact) × (bad_fact side point facts ≡ Some n)

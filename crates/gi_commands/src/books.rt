@@ -6,12 +6,12 @@ ghost use Rattle.gi_commands.specs.Fault.{no_code};
 ghost use Rattle.gi_commands.specs.Reporting.{HasBookReport, IsFileFault};
 
 use crate::fault::Fault;
-use crate::reporting::book_report;
+use crate::reporting::facts_report;
 use crate::request::{Book, ReportKind};
+use gi_files::facts_of_file;
+use gi_initiator::Initiating;
+use gi_matcher::Matching;
 use gi_pairs::{Code, CodeText, Side};
-use gi_store::{BookStore, StoreFault};
-use sqlite::Connection;
-use std::fs;
 
 /// The report of a side's book in a file. `CodeText` where the point is no code, whatever the file
 /// is; a file that is not there is `Store`, and is not made.
@@ -26,13 +26,9 @@ pub fn file_report(
     ensures code { ¬ (IsCode book.entry.point.now) → result ≡ Err no_code }
 {
     let point = Code::read(book.point)?;
-    if !fs::exists(rt, book.file).unwrap_or(true) {
-        return Err(Fault::Store(StoreFault::Store));
+    let facts = facts_of_file(rt, book.file)?;
+    match side {
+        Side::I => facts_report::<Initiating>(rt.alloc(), kind, point, facts),
+        Side::M => facts_report::<Matching>(rt.alloc(), kind, point, facts),
     }
-    let connection = match Connection::open(rt, book.file) {
-        Ok(connection) => connection,
-        Err(error) => return Err(Fault::from(StoreFault::from(error))),
-    };
-    let mut book = BookStore::open(rt.alloc(), connection)?;
-    book_report(rt.alloc(), kind, side, point, &mut book)
 }

@@ -5,13 +5,13 @@ ghost use Rattle.sqlite.specs.Held.{state};
 ghost use Rattle.sqlite.specs.State.{HasCleanDisk};
 ghost use Rattle.gi_facts.specs.declared.fact.Fact.{Fact};
 ghost use Rattle.gi_store.specs.Book.{IsRead};
-ghost use Rattle.gi_commands.specs.Reporting.{HasBookReport, IsBookFault, IsBookReport, IsReport, IsRowsFault};
+ghost use Rattle.gi_commands.specs.Reporting.{HasBookReport, IsBookFault, IsBookReport, IsFactsFault, IsReport, IsRowsFault};
 ghost use Rattle.gi_commands.specs.Simulating.{IsNoScript, IsScriptReport};
 
 use crate::fault::Fault;
 use crate::request::ReportKind;
 use gi_day::Calendar;
-use gi_desk::{Desk, Role};
+use gi_desk::{Desk, Fact, Role};
 use gi_initiator::Initiating;
 use gi_matcher::Matching;
 use gi_pairs::{Code, Side};
@@ -58,6 +58,20 @@ pub fn script_report(
     })
 }
 
+/// The report of the desk that is replayed from these facts.
+pub(crate) fn facts_report<R: Role>(
+    alloc: Global,
+    kind: ReportKind,
+    point: Code,
+    facts: Vec<Fact>,
+) -> Result<String, Fault>
+    ensures reported { IfOk result (λ text. IsBookReport kind R.SIDE point facts.items (string_bytes text)) }
+    ensures fault { IfErr result (IsFactsFault R.SIDE point facts.items) }
+{
+    let desk = Desk::<R>::replay(alloc, Calendar::new()?, point, facts)?;
+    Ok(desk_report(alloc, kind, &desk, &[])?)
+}
+
 /// The report of a book's desk, replayed from its facts.
 fn replayed_report<R: Role, S: Alter>(
     alloc: Global,
@@ -72,9 +86,7 @@ fn replayed_report<R: Role, S: Alter>(
     ensures reported { IfOk result (λ text. HasBookReport kind R.SIDE point (string_bytes text)) }
     ensures fault { IfErr result (IsBookFault R.SIDE point) }
 {
-    let facts = book.load()?;
-    let desk = Desk::<R>::replay(alloc, Calendar::new()?, point, facts)?;
-    Ok(desk_report(alloc, kind, &desk, &[])?)
+    facts_report::<R>(alloc, kind, point, book.load()?)
 }
 
 /// What `report` writes of a book: the report of the side's desk, replayed from its facts.

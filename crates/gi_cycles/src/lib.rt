@@ -12,6 +12,3 @@ pub use cycle_state::CycleState;
 pub use frozen::Frozen;
 pub use matched::Matched;
 pub use meet_fault::MeetFault;
-
-#[cfg(test)]
-mod tests;

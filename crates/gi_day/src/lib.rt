@@ -8,6 +8,3 @@ mod gas_day;
 pub use calendar::{Calendar, CalendarFault};
 pub use day_frame::{DayFrame, NoSuchCycle};
 pub use gas_day::{DayFault, GasDay};
-
-#[cfg(test)]
-mod tests;

@@ -1,4 +1,47 @@
 //! One operator's desk: a machine over its list of facts. What is not saved is not said.
+//!
+//! A desk reads no file, no clock and no message by itself. It takes one [`Call`] after the other
+//! ([`Desk::step`]) and gives a [`Reply`] to each: an [`Answer`], and the packets that may leave
+//! now. What it knows is a list of facts, of which the first so many are saved:
+//!
+//! ```text
+//!             call
+//!               │   Desk::outcome: what it comes to, by the facts
+//!       ┌───────┼──────────────┬───────────────┐
+//!   a refusal   a new fact     a repeat        the mark of fact n, a resending
+//!       │       │              │               │   Desk::out: what a saved fact lets out
+//!       │       │              └── packets ────┴── packets
+//!       │       │   Desk::apply: the change
+//!       │       └── recorded as fact n, unsaved: nothing leaves
+//!       │
+//!       └── reply: answer and packets
+//!
+//!    recorded ── the store writes fact n ── MarkSaved n ── saved: its packets leave
+//! ```
+//!
+//! Whoever drives a desk has four duties, in this order: to make the call; to write each fact that
+//! it recorded to the store, as the row of its number; to tell the desk that the fact stands there
+//! for good; and only then to send what that lets out.
+//!
+//! ```text
+//! let mut desk = Desk::<Initiating>::replay(alloc, calendar, point, book.load()?)?;
+//! loop {
+//!     let reply = desk.step(&next_call());
+//!     send(reply.out);
+//!     while let Some((n, fact)) = desk.unsaved() {
+//!         let fact = fact.copy()?;
+//!         book.save_next(n, &fact)?;
+//!         send(desk.step(&Call::MarkSaved { n, fact }).out);
+//!     }
+//! }
+//! ```
+//!
+//! A desk that starts again is made of its saved facts ([`Desk::replay`]). Packets may be lost or
+//! come twice, so what saved facts let out can be let out again ([`Call::Resend`]).
+//!
+//! Read [`Call`], [`Answer`] and [`Refusal`] first, then [`Desk`]; [`Role`] is what differs between
+//! the two operators (`gi_initiator`, `gi_matcher`), and [`Desk::confirmed`] and [`Desk::told`] are
+//! what comes of a cycle. The laws of any number of calls are the functions of `laws.rt`.
 #![tactic(auto)]
 
 mod answer;
@@ -47,6 +90,3 @@ pub use replay_fault::ReplayFault;
 pub use reply::Reply;
 pub use role::Role;
 pub use stage_name::StageName;
-
-#[cfg(test)]
-mod tests;

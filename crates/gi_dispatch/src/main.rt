@@ -12,9 +12,6 @@ use std::io::ErrorKind;
 use std::process::ExitCode;
 use std::rt::Env;
 
-#[cfg(test)]
-mod tests;
-
 /// The words of the command line; a word that is not text is a wrong command line.
 fn words<R: Env + AllocGlobal>(rt: &R) -> Result<Vec<String>, Fault> {
     match env::args(rt) {

@@ -18,6 +18,3 @@ pub use laws::{
     same_facts_are_equal, writes_fact,
 };
 pub use same::same_table;
-
-#[cfg(test)]
-mod tests;

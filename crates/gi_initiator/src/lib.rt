@@ -9,8 +9,3 @@ mod response;
 pub use initiating::Initiating;
 pub use order::order_for;
 pub use response::take_response;
-
-#[cfg(test)]
-mod desk_tests;
-#[cfg(test)]
-mod tests;

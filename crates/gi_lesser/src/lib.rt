@@ -6,6 +6,3 @@ mod lesser_rule;
 
 pub use laws::lessens_both_ways;
 pub use lesser_rule::lesser;
-
-#[cfg(test)]
-mod tests;

@@ -9,6 +9,3 @@ mod response;
 pub use matching::Matching;
 pub use order::take_order;
 pub use response::response_for;
-
-#[cfg(test)]
-mod tests;

@@ -31,6 +31,3 @@ pub use message::{
     Acknow, Delord, Delres, LAST_CYCLE, LAST_VERSION, MOST_BYTES, Message, Nomint, Nomres,
 };
 pub use message_fault::MessageFault;
-
-#[cfg(test)]
-mod tests;

@@ -12,6 +12,3 @@ pub use judging::MOST_LINES;
 pub use nomination_fault::NominationFault;
 pub use setting::Setting;
 pub use verdict::Verdict;
-
-#[cfg(test)]
-mod tests;

@@ -22,6 +22,3 @@ pub use quantity::{Quantity, QuantityRange};
 pub use row::Row;
 pub use side::Side;
 pub use table::{LAST_HOUR, MOST_PROCESSED_ROWS, MOST_ROWS, Table, TableFault};
-
-#[cfg(test)]
-mod tests;

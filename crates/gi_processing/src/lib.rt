@@ -16,6 +16,3 @@ pub use contracts::{Contracts, MOST_PORTFOLIOS};
 pub use notice::{MOST_PERMILLE, Notice};
 pub use notice_fault::NoticeFault;
 pub use processing::processed;
-
-#[cfg(test)]
-mod tests;

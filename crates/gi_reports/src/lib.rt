@@ -16,6 +16,3 @@ pub use cycles::closed_cycles;
 pub use laws::{counts_each_once, keeps_first_places};
 pub use open::open_report;
 pub use refused::{refused_counts, refused_report};
-
-#[cfg(test)]
-mod tests;

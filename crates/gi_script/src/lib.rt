@@ -20,6 +20,3 @@ pub use laws::{one_instruction, one_script};
 pub use line::Line;
 pub use reading::read_script;
 pub use script::Script;
-
-#[cfg(test)]
-mod tests;

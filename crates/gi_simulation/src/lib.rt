@@ -1,4 +1,18 @@
 //! Both offices and the carriers between them, run by a script.
+//!
+//! A [`Simulation`] is a world (`gi_world`) with a carrier towards each side (`gi_carrier`): what a
+//! desk lets out for the peer goes on the way, and a line `carry` of the script delivers what the
+//! carrier then gives, by its plan of losses, repeats and delays.
+//!
+//! ```text
+//! let script = read_script(alloc, bytes)?;
+//! let made = simulate(alloc, &script)?;
+//! print(made.text);                                   // a line for each step
+//! let desk = made.simulation.world().initiating();    // the offices after them
+//! ```
+//!
+//! [`simulate`] makes a script and tells what came of each step, [`refused_submissions`] makes it
+//! and counts; [`Simulation::make`] makes one instruction, for who has no script.
 #![tactic(auto)]
 
 mod laws;
@@ -16,6 +30,3 @@ pub use outcome::Outcome;
 pub use refused::refused_submissions;
 pub use simulated::{Simulated, simulate};
 pub use simulation::Simulation;
-
-#[cfg(test)]
-mod tests;

@@ -1,4 +1,19 @@
 //! The book of a desk: an operator's facts, one row each, in a database.
+//!
+//! A [`BookStore`] is handed a connection, to memory or to a file, and makes the book's two tables
+//! where they are missing ([`prepare`]). It is loaded before it is written, and each fact is saved
+//! as the row that comes next:
+//!
+//! ```text
+//! let mut book = BookStore::open(alloc, Connection::open(rt, file)?)?;
+//! let facts = book.load()?;                  // all of them, or the first gap or damaged row
+//! book.save_next(n, &fact)?;                 // row n, for good once this is `Ok`
+//! ```
+//!
+//! A crash at any moment of a save leaves the rows as before or with that one. After a refused save
+//! the row may be there or not, so the book has to be loaded again. What is said of a database
+//! stands under one premise: nobody else wrote the file, and the disk returned what was written
+//! (`HasCleanDisk`); in memory it always holds ([`memory_is_clean`]).
 #![tactic(auto)]
 
 mod book_store;
@@ -16,6 +31,3 @@ pub use book_store::BookStore;
 pub use laws::memory_is_clean;
 pub use preparing::prepare;
 pub use store_fault::StoreFault;
-
-#[cfg(test)]
-mod tests;

@@ -1,0 +1,6 @@
+//! Books: what the cases about them call.
+#![tactic(auto)]
+
+mod books;
+
+pub use books::Books;

@@ -1,0 +1,52 @@
+use crate::fault::Fault;
+use crate::subject::Subject;
+
+/// Whether a line of cases is a call: a line that is empty, or a comment, or an answer is none.
+fn is_call(line: &str) -> bool {
+    !line.is_empty() && !line.starts_with('#') && !line.starts_with("= ")
+}
+
+/// Adds the lines of an answer, each behind `= `.
+fn add_answer(answer: &str, text: &mut String) -> Result<(), Fault> {
+    for line in answer.lines() {
+        text.push_str("= ")?;
+        text.push_str(line)?;
+        text.push_str("\n")?;
+    }
+    Ok(())
+}
+
+/// Adds a line of cases, and the answer to a call. An answer that stands in the file is left out.
+fn add_line<S: Subject>(
+    rt: &HostRuntime,
+    subject: &mut S,
+    line: &str,
+    text: &mut String,
+) -> Result<(), Fault> {
+    if line.starts_with("= ") {
+        return Ok(());
+    }
+    text.push_str(line)?;
+    text.push_str("\n")?;
+    if !is_call(line) {
+        return Ok(());
+    }
+    let mut answer = String::new(rt.alloc());
+    if !subject.answer(rt, line, &mut answer)? {
+        answer.push_str("no such call")?;
+    }
+    add_answer(answer.as_str(), text)
+}
+
+/// The cases, each call with what it answers now.
+pub fn answered<S: Subject>(
+    rt: &HostRuntime,
+    mut subject: S,
+    cases: &str,
+) -> Result<String, Fault> {
+    let mut text = String::new(rt.alloc());
+    for line in cases.lines() {
+        add_line(rt, &mut subject, line, &mut text)?;
+    }
+    Ok(text)
+}

@@ -1,0 +1,13 @@
+//! The form of cases as text: a line is a call, and the lines behind `= ` under it are its answer.
+//! What a subject calls is the matter of the crates above.
+#![tactic(auto)]
+
+mod cases;
+mod fault;
+mod subject;
+mod words;
+
+pub use cases::answered;
+pub use fault::Fault;
+pub use subject::Subject;
+pub use words::Words;

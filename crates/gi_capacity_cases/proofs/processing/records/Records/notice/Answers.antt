@@ -1,0 +1,9 @@
+use Rattle.gi_capacity_cases.proofs.RecordsLaws.{sound_noticed}
+use Rattle.gi_capacity_cases.proofs.processing.records.Records.notice.Goals as goal
+
+pub invariant_of-self : goal.invariant_of-self
+invariant_of-self c =
+    let old = c.args.self.now in
+    record {
+      sound = sound_noticed c.notice.result old.contracts c.notice.new.self c.args.notice old.book.documents c.notice.ensures.added c.notice.ensures.kept old.sound;
+    }

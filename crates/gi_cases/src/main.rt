@@ -1,0 +1,68 @@
+//! Cases as text: each line of standard input is a call to one of the crates below, and each answer
+//! is printed under its call. A file of cases has calls and answers, so that it is its own
+//! expectation: `gi_cases SUBJECT < cases/SUBJECT/NAME.txt` prints the file again where all holds.
+#![tactic(auto)]
+
+use gi_book_cases::Books;
+use gi_calls::{Fault, answered};
+use gi_capacity_cases::{Nominations, Processing, Repeated};
+use gi_desk_cases::{Desks, Roles};
+use gi_message_cases::{Facts, Messages};
+use gi_script_cases::{Carriers, Reports, Scripts};
+use gi_table_cases::{Cycles, Days, Tables};
+use gi_world_cases::{Simulations, Worlds};
+use std::env;
+use std::io::{self, Write};
+use std::process::ExitCode;
+
+/// The cases with their answers, of the subject that the word names.
+fn answers(rt: &HostRuntime, subject: &str, cases: &str) -> Result<String, Fault> {
+    let alloc = rt.alloc();
+    match subject {
+        "books" => answered(rt, Books::new(), cases),
+        "carriers" => answered(rt, Carriers::new(alloc), cases),
+        "cycles" => answered(rt, Cycles::new(), cases),
+        "days" => answered(rt, Days::new(), cases),
+        "desks" => answered(rt, Desks::new(alloc), cases),
+        "facts" => answered(rt, Facts::new(), cases),
+        "messages" => answered(rt, Messages::new(), cases),
+        "nominations" => answered(rt, Repeated::of(Nominations::new()), cases),
+        "processing" => answered(rt, Repeated::of(Processing::new()), cases),
+        "reports" => answered(rt, Reports::new(alloc), cases),
+        "roles" => answered(rt, Roles::new(), cases),
+        "scripts" => answered(rt, Scripts::new(alloc), cases),
+        "simulations" => answered(rt, Simulations::new(alloc), cases),
+        "tables" => answered(rt, Tables::new(), cases),
+        "worlds" => answered(rt, Worlds::new(alloc), cases),
+        _ => Err(Fault::NoSubject),
+    }
+}
+
+/// The subject that the command line names.
+fn subject_named(rt: &HostRuntime) -> Result<String, Fault> {
+    let Ok(mut words) = env::args(rt) else {
+        return Err(Fault::NoSubject);
+    };
+    let _program = words.next();
+    words.next().ok_or(Fault::NoSubject)
+}
+
+/// Reads the cases and prints them with their answers.
+fn run(rt: &HostRuntime) -> Result<(), Fault> {
+    let subject = subject_named(rt)?;
+    let cases = io::read_to_string(rt.alloc(), rt.stdin()).map_err(|_| Fault::Read)?;
+    let text = answers(rt, subject.as_str(), cases.as_str())?;
+    rt.stdout()
+        .write_all(text.as_bytes())
+        .map_err(|_| Fault::Write)
+}
+
+fn main(rt: HostRuntime) -> ExitCode {
+    match run(&rt) {
+        Ok(()) => ExitCode::SUCCESS,
+        Err(fault) => {
+            let _ = writeln!(rt.stderr(), "gi_cases: {fault:?}");
+            ExitCode::FAILURE
+        }
+    }
+}

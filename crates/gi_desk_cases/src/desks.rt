@@ -1,0 +1,135 @@
+//! One desk of either side: what it answers to calls, and what it tells.
+
+pub mod calls;
+mod facts;
+mod queries;
+mod steps;
+pub mod texts;
+
+use facts::{chosen, fact_of};
+use gi_calls::{Fault, Subject, Words};
+use gi_day::Calendar;
+use gi_desk::{Desk, Fact, ReplayFault, Role};
+use gi_initiator::Initiating;
+use gi_matcher::Matching;
+use gi_pairs::{Code, Side};
+use queries::told;
+use std::alloc::{AllocError, Global};
+use std::fmt::Write;
+use steps::stepped;
+
+/// The desk that the calls are made of.
+#[derive(Drop)]
+enum Seat {
+    Empty,
+    Initiating(Desk<Initiating>),
+    Matching(Desk<Matching>),
+}
+
+/// The calls of the subject `desks`.
+#[derive(Drop)]
+pub struct Desks {
+    seat: Seat,
+    /// What replays choose from, by number.
+    given: Vec<Fact>,
+}
+
+/// A side's desk of these facts.
+fn seat_of(alloc: Global, side: Side, point: Code, facts: Vec<Fact>) -> Result<Seat, ReplayFault> {
+    let Ok(calendar) = Calendar::new() else {
+        return Err(ReplayFault::OutOfMemory);
+    };
+    Ok(match side {
+        Side::I => Seat::Initiating(Desk::replay(alloc, calendar, point, facts)?),
+        Side::M => Seat::Matching(Desk::replay(alloc, calendar, point, facts)?),
+    })
+}
+
+/// Makes a call of the desk, or asks it.
+fn asked<R: Role>(
+    alloc: Global,
+    desk: &mut Desk<R>,
+    line: &str,
+    text: &mut String,
+) -> Result<bool, Fault> {
+    Ok(stepped(alloc, desk, line, text)? || told(alloc, desk, line, text)?)
+}
+
+impl Desks {
+    pub fn new(alloc: Global) -> Desks {
+        Desks {
+            seat: Seat::Empty,
+            given: Vec::new(alloc),
+        }
+    }
+
+    /// Gives a fact to the replays that follow.
+    fn give(&mut self, fact: Fact) -> Result<(), AllocError> {
+        self.given.push(fact)?;
+        Ok(())
+    }
+
+    /// Puts a side's desk of these facts here, where they make one.
+    fn seat(
+        &mut self,
+        alloc: Global,
+        side: Side,
+        point: Code,
+        facts: Vec<Fact>,
+        text: &mut String,
+    ) -> Result<(), Fault> {
+        match seat_of(alloc, side, point, facts) {
+            Ok(seat) => {
+                self.seat = seat;
+                text.push_str("ok")?;
+            }
+            Err(fault) => write!(text, "{fault}")?,
+        }
+        Ok(())
+    }
+
+    /// Replays the facts that the words number.
+    fn replay(
+        &mut self,
+        alloc: Global,
+        words: Words<'_>,
+        text: &mut String,
+    ) -> Result<bool, Fault> {
+        let mut words = words;
+        let (Some(side), Some(point)) = (words.side(), words.code()) else {
+            return Ok(false);
+        };
+        let Some(facts) = chosen(alloc, &self.given, words.rest())? else {
+            return Ok(false);
+        };
+        self.seat(alloc, side, point, facts, text)?;
+        Ok(true)
+    }
+}
+
+impl Subject for Desks {
+    fn answer(&mut self, rt: &HostRuntime, call: &str, text: &mut String) -> Result<bool, Fault> {
+        let alloc = rt.alloc();
+        let mut words = Words::of(call);
+        match words.next() {
+            "new" => {
+                self.given.clear();
+                self.replay(alloc, words, text)
+            }
+            "fact" if words.rest().starts_with('{') => {
+                let Some(fact) = fact_of(alloc, words.rest()) else {
+                    return Ok(false);
+                };
+                self.give(fact)?;
+                text.push_str("ok")?;
+                Ok(true)
+            }
+            "replay" => self.replay(alloc, words, text),
+            _ => match &mut self.seat {
+                Seat::Empty => Ok(false),
+                Seat::Initiating(desk) => asked(alloc, desk, call, text),
+                Seat::Matching(desk) => asked(alloc, desk, call, text),
+            },
+        }
+    }
+}

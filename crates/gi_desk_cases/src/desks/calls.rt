@@ -1,0 +1,103 @@
+//! The calls of a desk as text.
+
+use super::facts::fact_of;
+use gi_calls::Words;
+use gi_desk::{Body, Call, Desk, Role};
+use gi_pairs::{Code, CycleId};
+use gi_processing::{Contract, Notice};
+use std::alloc::{AllocError, Global};
+
+/// The next words as a cycle.
+pub fn cycle_of(words: &mut Words<'_>) -> Option<CycleId> {
+    Some(CycleId {
+        day: words.day()?,
+        cycle: words.byte()?,
+    })
+}
+
+/// The words behind a portfolio as its contract.
+pub fn contract_of(portfolio: Code, words: Words<'_>) -> Option<Contract> {
+    let mut words = words;
+    Some(Contract {
+        portfolio,
+        day: words.day()?,
+        direction: words.direction()?,
+        firm: words.quantity()?,
+        interruptible: words.quantity()?,
+    })
+}
+
+/// The words as a contract.
+fn contract(words: Words<'_>) -> Option<Call> {
+    let mut words = words;
+    let portfolio = words.code()?;
+    Some(Call::Contract(contract_of(portfolio, words)?))
+}
+
+/// The words as a notice.
+fn notice(words: Words<'_>) -> Option<Call> {
+    let mut words = words;
+    Some(Call::Notice(Notice {
+        day: words.day()?,
+        direction: words.direction()?,
+        first: words.byte()?,
+        last: words.byte()?,
+        firm: u16::try_from(words.number()?).ok()?,
+        interruptible: u16::try_from(words.number()?).ok()?,
+    }))
+}
+
+/// The number of `spaces 5`.
+fn spaces(text: &str) -> Option<u32> {
+    text.strip_prefix("spaces ")?.parse::<u32>().ok()
+}
+
+/// The bytes of the text; of `spaces 5`, five spaces.
+fn body(alloc: Global, text: &str) -> Result<Body, AllocError> {
+    let bytes = match spaces(text) {
+        Some(count) => vec![in alloc; b' '; count as usize]?,
+        None => Vec::from_slice(alloc, text.as_bytes())?,
+    };
+    Ok(Body::from(bytes))
+}
+
+/// The mark of the next fact to save.
+fn save<R: Role>(desk: &Desk<R>) -> Result<Option<Call>, AllocError> {
+    let Some((n, fact)) = desk.unsaved() else {
+        return Ok(None);
+    };
+    Ok(Some(Call::MarkSaved {
+        n,
+        fact: fact.copy()?,
+    }))
+}
+
+/// The words as the mark of a fact.
+fn mark(alloc: Global, words: Words<'_>) -> Option<Call> {
+    let mut words = words;
+    Some(Call::MarkSaved {
+        n: words.number()?,
+        fact: fact_of(alloc, words.rest())?,
+    })
+}
+
+/// The call that the line makes of the desk.
+pub fn call_of<R: Role>(
+    alloc: Global,
+    desk: &Desk<R>,
+    line: &str,
+) -> Result<Option<Call>, AllocError> {
+    let mut words = Words::of(line);
+    Ok(match words.next() {
+        "contract" => contract(words),
+        "notice" => notice(words),
+        "submit" => Some(Call::Submit(body(alloc, words.rest())?)),
+        "close" => cycle_of(&mut words).map(|id| Call::Close(id)),
+        "deliver" => Some(Call::Deliver(body(alloc, words.rest())?)),
+        "resend" => cycle_of(&mut words).map(|id| Call::Resend(id)),
+        "save" => save(desk)?,
+        "mark" => mark(alloc, words),
+        "halt" => Some(Call::Halt),
+        _ => None,
+    })
+}

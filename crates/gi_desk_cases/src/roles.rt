@@ -1,0 +1,119 @@
+//! The parts of the two operators in the exchange of a cycle: what each decides of the other's
+//! message, and what it sends.
+
+mod comparing;
+mod deciding;
+mod sending;
+mod tables;
+
+use crate::desks::calls::cycle_of;
+use comparing::compared;
+use deciding::decided;
+use gi_calls::{Fault, Subject, Words};
+use gi_cycles::{Collecting, CycleState};
+use gi_desk::Role;
+use gi_initiator::Initiating;
+use gi_matcher::Matching;
+use gi_pairs::MOST_PROCESSED_ROWS;
+use sending::sent;
+use std::alloc::Global;
+use std::fmt::Write;
+use tables::table_of;
+
+/// The calls of the subject `roles`.
+#[derive(Drop)]
+pub struct Roles {
+    /// How far the cycle is that the calls are about.
+    state: Option<CycleState>,
+}
+
+/// Which side a role is.
+fn side(words: Words<'_>, text: &mut String) -> Result<bool, Fault> {
+    let side = match words.rest() {
+        "Initiating" => Initiating::SIDE,
+        "Matching" => Matching::SIDE,
+        _ => return Ok(false),
+    };
+    write!(text, "{side}")?;
+    Ok(true)
+}
+
+impl Roles {
+    pub fn new() -> Roles {
+        Roles { state: None }
+    }
+
+    /// The cycle collects nominations.
+    fn collect(&mut self, words: Words<'_>, text: &mut String) -> Result<bool, Fault> {
+        let mut words = words;
+        let Some(id) = cycle_of(&mut words) else {
+            return Ok(false);
+        };
+        self.state = Some(CycleState::Collecting(Collecting::new(id)));
+        text.push_str("ok")?;
+        Ok(true)
+    }
+
+    /// Closes the cycle with a table.
+    fn close(&mut self, alloc: Global, line: &str, text: &mut String) -> Result<bool, Fault> {
+        let Some(own) = table_of(alloc, line)? else {
+            return Ok(false);
+        };
+        let Some(CycleState::Collecting(cycle)) = &self.state else {
+            return Ok(false);
+        };
+        if own.rows().len() > MOST_PROCESSED_ROWS {
+            return Ok(false);
+        }
+        let cycle = Collecting::new(cycle.id());
+        self.state = Some(CycleState::Frozen(cycle.close(own)));
+        text.push_str("ok")?;
+        Ok(true)
+    }
+
+    /// Makes the closed cycle meet a table.
+    fn meet(&mut self, alloc: Global, line: &str, text: &mut String) -> Result<bool, Fault> {
+        let Some(peer) = table_of(alloc, line)? else {
+            return Ok(false);
+        };
+        let Some(CycleState::Frozen(cycle)) = self.state.take() else {
+            return Ok(false);
+        };
+        if peer.rows().len() > MOST_PROCESSED_ROWS {
+            return Ok(false);
+        }
+        match cycle.meet(alloc, peer) {
+            Ok(cycle) => {
+                self.state = Some(CycleState::Matched(cycle));
+                text.push_str("ok")?;
+            }
+            Err((cycle, fault)) => {
+                self.state = Some(CycleState::Frozen(cycle));
+                write!(text, "{fault}")?;
+            }
+        }
+        Ok(true)
+    }
+}
+
+impl Subject for Roles {
+    fn answer(&mut self, rt: &HostRuntime, call: &str, text: &mut String) -> Result<bool, Fault> {
+        let alloc = rt.alloc();
+        let mut words = Words::of(call);
+        match words.next() {
+            "side" => side(words, text),
+            "collecting" => self.collect(words, text),
+            "close" => self.close(alloc, words.rest(), text),
+            "meet" => self.meet(alloc, words.rest(), text),
+            _ => {
+                if compared(alloc, call, text)? {
+                    return Ok(true);
+                }
+                let Some(state) = &self.state else {
+                    return Ok(false);
+                };
+                Ok(decided(alloc, state, call, text)? || sent(alloc, state, call, text)?)
+            }
+        }
+    }
+}

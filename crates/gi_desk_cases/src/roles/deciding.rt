@@ -1,0 +1,138 @@
+//! What is decided of the other operator's message.
+
+use super::tables::{table_of, two_tables};
+use crate::desks::texts::add_table;
+use gi_calls::{Fault, Words};
+use gi_cycles::CycleState;
+use gi_desk::{Decision, Role};
+use gi_initiator::{Initiating, take_response};
+use gi_matcher::{Matching, take_order};
+use gi_messages::{Delord, Delres, Message};
+use gi_pairs::{Code, CycleId, MOST_PROCESSED_ROWS, Side};
+use std::alloc::{AllocError, Global};
+use std::fmt::Write;
+
+/// Adds a decision: the table that is met, or the refusal.
+pub fn add_decision(decision: &Decision, text: &mut String) -> Result<(), Fault> {
+    match decision {
+        Decision::Meet(peer) => {
+            text.push_str("Meet\n")?;
+            add_table(peer, text)?;
+        }
+        Decision::Again => text.push_str("Again")?,
+        Decision::Refused(refusal) => write!(text, "{refusal}")?,
+    }
+    Ok(())
+}
+
+/// Which cycle it is.
+fn id_of(state: &CycleState) -> CycleId {
+    match state {
+        CycleState::Collecting(cycle) => cycle.id(),
+        CycleState::Frozen(cycle) => cycle.id(),
+        CycleState::Matched(cycle) => cycle.id(),
+    }
+}
+
+/// The order of the cycle with the table of the line.
+fn order_of(alloc: Global, id: CycleId, line: &str) -> Result<Option<Delord>, AllocError> {
+    let (Ok(point), Some(processed)) = (Code::read("BORDER-1"), table_of(alloc, line)?) else {
+        return Ok(None);
+    };
+    Ok(Some(Delord {
+        point,
+        day: id.day,
+        cycle: id.cycle,
+        processed,
+    }))
+}
+
+/// The response of the cycle with both tables of the line.
+fn response_of(alloc: Global, id: CycleId, line: &str) -> Result<Option<Delres>, AllocError> {
+    let tables = two_tables(alloc, line, " confirmed ")?;
+    let (Ok(point), Some((processed, confirmed))) = (Code::read("BORDER-1"), tables) else {
+        return Ok(None);
+    };
+    Ok(Some(Delres {
+        point,
+        day: id.day,
+        cycle: id.cycle,
+        processed,
+        confirmed,
+    }))
+}
+
+/// What is decided of the order that the line is; by the role, where it is asked.
+fn order_taken(
+    alloc: Global,
+    state: &CycleState,
+    by_role: bool,
+    line: &str,
+) -> Result<Option<Decision>, AllocError> {
+    let Some(order) = order_of(alloc, id_of(state), line)? else {
+        return Ok(None);
+    };
+    if order.processed.rows().len() > MOST_PROCESSED_ROWS {
+        return Ok(None);
+    }
+    if by_role {
+        let message = Message::Delord(order);
+        return Ok(Some(Matching::decide(alloc, state, &message)));
+    }
+    Ok(Some(take_order(alloc, state, &order)))
+}
+
+/// What is decided of the response that the line is; by the role, where it is asked.
+fn response_taken(
+    alloc: Global,
+    state: &CycleState,
+    by_role: bool,
+    line: &str,
+) -> Result<Option<Decision>, AllocError> {
+    let Some(response) = response_of(alloc, id_of(state), line)? else {
+        return Ok(None);
+    };
+    if response.processed.rows().len() > MOST_PROCESSED_ROWS {
+        return Ok(None);
+    }
+    if by_role {
+        let message = Message::Delres(response);
+        return Ok(Some(Initiating::decide(alloc, state, &message)));
+    }
+    Ok(Some(take_response(alloc, state, &response)))
+}
+
+/// What the role of a side decides.
+fn decide(
+    alloc: Global,
+    state: &CycleState,
+    words: Words<'_>,
+) -> Result<Option<Decision>, AllocError> {
+    let mut words = words;
+    match words.side() {
+        Some(Side::I) => response_taken(alloc, state, true, words.rest()),
+        Some(Side::M) => order_taken(alloc, state, true, words.rest()),
+        None => Ok(None),
+    }
+}
+
+/// Adds what the line's call decides in that state.
+pub fn decided(
+    alloc: Global,
+    state: &CycleState,
+    line: &str,
+    text: &mut String,
+) -> Result<bool, Fault> {
+    let mut words = Words::of(line);
+    let decision = match words.next() {
+        "take_order" => order_taken(alloc, state, false, words.rest())?,
+        "take_response" => response_taken(alloc, state, false, words.rest())?,
+        "decide" => decide(alloc, state, words)?,
+        _ => None,
+    };
+    let Some(decision) = decision else {
+        return Ok(false);
+    };
+    add_decision(&decision, text)?;
+    Ok(true)
+}

@@ -1,0 +1,126 @@
+//! Messages, read from bytes and written as them, and the lines of a message.
+
+mod lines;
+pub mod shown;
+
+use crate::json_bytes::{add_written, json_bytes};
+use gi_calls::{Fault, Subject, Words};
+use gi_messages::{Lines, Message, decode, encode};
+use lines::{line_of, lines_of};
+use shown::{add_line, add_lines, add_message};
+use std::alloc::Global;
+
+/// The calls of the subject `messages`, on the message and the lines that the calls before made.
+#[derive(Drop)]
+pub struct Messages {
+    message: Option<Message>,
+    lines: Option<Lines>,
+}
+
+impl Messages {
+    pub fn new() -> Messages {
+        Messages {
+            message: None,
+            lines: None,
+        }
+    }
+
+    /// Reads a message and keeps it. The answer is what is written for it, or the fault.
+    fn decode(
+        &mut self,
+        alloc: Global,
+        form: &str,
+        words: Words,
+        text: &mut String,
+    ) -> Result<bool, Fault> {
+        let Some(bytes) = json_bytes(alloc, form, words)? else {
+            return Ok(false);
+        };
+        match decode(alloc, &bytes) {
+            Ok(message) => {
+                let written = encode(alloc, &message)?;
+                add_written(form, &bytes, &written, text)?;
+                self.message = Some(message);
+            }
+            Err(fault) => text.push_str(format!(in alloc; "{fault}")?.as_str())?,
+        }
+        Ok(true)
+    }
+
+    /// Makes lines of a call's words and keeps them.
+    fn from(&mut self, alloc: Global, words: Words, text: &mut String) -> Result<bool, Fault> {
+        let Some(lines) = lines_of(alloc, words)? else {
+            return Ok(false);
+        };
+        add_lines(alloc, &lines, text)?;
+        self.lines = Some(lines);
+        Ok(true)
+    }
+
+    /// Copies the lines and keeps the copy in their place.
+    fn copy(&mut self, alloc: Global, text: &mut String) -> Result<bool, Fault> {
+        let Some(lines) = &self.lines else {
+            return Ok(false);
+        };
+        let copy = lines.copy()?;
+        add_lines(alloc, &copy, text)?;
+        self.lines = Some(copy);
+        Ok(true)
+    }
+
+    /// Whether the lines are equal to those of a call's words.
+    fn eq(&self, alloc: Global, words: Words, text: &mut String) -> Result<bool, Fault> {
+        let (Some(lines), Some(other)) = (&self.lines, lines_of(alloc, words)?) else {
+            return Ok(false);
+        };
+        text.push_str(if *lines == other { "true" } else { "false" })?;
+        Ok(true)
+    }
+
+    /// Takes the lines apart: their number, and each one.
+    fn into_vec(&mut self, alloc: Global, text: &mut String) -> Result<bool, Fault> {
+        let Some(lines) = self.lines.take() else {
+            return Ok(false);
+        };
+        let lines = lines.into_vec();
+        let count = lines.len();
+        text.push_str(format!(in alloc; "{count}\n")?.as_str())?;
+        for line in &lines {
+            add_line(alloc, line, text)?;
+        }
+        Ok(true)
+    }
+}
+
+/// Copies a line.
+fn copy_line(alloc: Global, words: Words, text: &mut String) -> Result<bool, Fault> {
+    let Some(line) = line_of(alloc, words.rest())? else {
+        return Ok(false);
+    };
+    add_line(alloc, &line.copy()?, text)?;
+    Ok(true)
+}
+
+impl Subject for Messages {
+    fn answer(&mut self, rt: &HostRuntime, call: &str, text: &mut String) -> Result<bool, Fault> {
+        let alloc = rt.alloc();
+        let mut words = Words::of(call);
+        let name = words.next();
+        if let Some(form) = name.strip_prefix("decode") {
+            return self.decode(alloc, form, words, text);
+        }
+        match name {
+            "fields" => match &self.message {
+                Some(message) => add_message(alloc, message, text)?,
+                None => return Ok(false),
+            },
+            "from" => return self.from(alloc, words, text),
+            "copy" => return self.copy(alloc, text),
+            "copy_line" => return copy_line(alloc, words, text),
+            "eq" => return self.eq(alloc, words, text),
+            "into_vec" => return self.into_vec(alloc, text),
+            _ => return Ok(false),
+        }
+        Ok(true)
+    }
+}

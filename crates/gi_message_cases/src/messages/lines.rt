@@ -1,0 +1,52 @@
+//! Lines of a message, from the words of a call.
+
+use gi_calls::{Fault, Words};
+use gi_messages::{Line, Lines};
+use gi_pairs::{Hours, Quantity};
+use std::alloc::Global;
+
+/// The quantities that the words are.
+fn hours_of(alloc: Global, words: &str) -> Result<Option<Hours>, Fault> {
+    let mut quantities = Vec::new(alloc);
+    for word in words.split_whitespace() {
+        let Ok(value) = word.parse::<u64>() else {
+            return Ok(None);
+        };
+        let Ok(quantity) = Quantity::new(value) else {
+            return Ok(None);
+        };
+        quantities.push(quantity)?;
+    }
+    Ok(Some(Hours::from(quantities)))
+}
+
+/// The line `COUNTERPARTY DIRECTION QUANTITY QUANTITY ..`.
+pub fn line_of(alloc: Global, words: &str) -> Result<Option<Line>, Fault> {
+    let mut words = Words::of(words);
+    let (Some(counterparty), Some(direction)) = (words.code(), words.direction()) else {
+        return Ok(None);
+    };
+    let Some(hours) = hours_of(alloc, words.rest())? else {
+        return Ok(None);
+    };
+    Ok(Some(Line {
+        counterparty,
+        direction,
+        hours,
+    }))
+}
+
+/// The lines `LINE / LINE / ..`.
+pub fn lines_of(alloc: Global, words: Words) -> Result<Option<Lines>, Fault> {
+    let mut lines = Vec::new(alloc);
+    if words.is_empty() {
+        return Ok(Some(Lines::from(lines)));
+    }
+    for part in words.rest().split(" / ") {
+        let Some(line) = line_of(alloc, part)? else {
+            return Ok(None);
+        };
+        lines.push(line)?;
+    }
+    Ok(Some(Lines::from(lines)))
+}

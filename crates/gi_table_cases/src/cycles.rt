@@ -1,0 +1,228 @@
+//! The lesser of two tables, and the states of a cycle.
+
+use crate::table_text::{add_table, table_of};
+use gi_calls::{Fault, Subject, Words};
+use gi_cycles::{Collecting, CycleState, Frozen, MeetFault};
+use gi_lesser::lesser;
+use gi_pairs::{CycleId, Key, MOST_PROCESSED_ROWS, Table};
+use std::alloc::Global;
+use std::fmt::Write;
+
+/// The calls of the subject `cycles`: the cycle of the last `new`.
+#[derive(Drop)]
+pub struct Cycles {
+    state: Option<CycleState>,
+}
+
+/// The table of the words, where it is one.
+fn given_table(alloc: Global, text: &str) -> Result<Option<Table>, Fault> {
+    match table_of(alloc, text)? {
+        Some(Ok(table)) => Ok(Some(table)),
+        _ => Ok(None),
+    }
+}
+
+/// Adds the lesser of two tables, which are for the same hours and have as many rows as processed
+/// tables may have.
+fn add_lesser(alloc: Global, own: &Table, peer: &Table, text: &mut String) -> Result<bool, Fault> {
+    if own.first() != peer.first() || own.last() != peer.last() {
+        return Ok(false);
+    }
+    if own.rows().len() > MOST_PROCESSED_ROWS || peer.rows().len() > MOST_PROCESSED_ROWS {
+        return Ok(false);
+    }
+    add_table(&lesser(alloc, own, peer)?, text)?;
+    Ok(true)
+}
+
+/// `lesser TABLE with TABLE`.
+fn lesser_of(alloc: Global, tables: &str, text: &mut String) -> Result<bool, Fault> {
+    let Some((own, peer)) = tables.split_once(" with ") else {
+        return Ok(false);
+    };
+    let Some(own) = given_table(alloc, own)? else {
+        return Ok(false);
+    };
+    let Some(peer) = given_table(alloc, peer)? else {
+        return Ok(false);
+    };
+    add_lesser(alloc, &own, &peer, text)
+}
+
+/// `names`: the refusals.
+fn names(text: &mut String) -> Result<bool, Fault> {
+    let (shape, memory) = (MeetFault::ShapeDiffers, MeetFault::OutOfMemory);
+    write!(text, "{shape} {memory}")?;
+    Ok(true)
+}
+
+/// The closed cycle, where it collects and the table has as many rows as a processed one may; else
+/// the state comes back.
+fn closed(state: CycleState, processed: Table) -> Result<Frozen, CycleState> {
+    if processed.rows().len() > MOST_PROCESSED_ROWS {
+        return Err(state);
+    }
+    match state {
+        CycleState::Collecting(collecting) => Ok(collecting.close(processed)),
+        state => Err(state),
+    }
+}
+
+/// The cycle of a state.
+fn cycle_of(state: &CycleState) -> CycleId {
+    match state {
+        CycleState::Collecting(collecting) => collecting.id(),
+        CycleState::Frozen(frozen) => frozen.id(),
+        CycleState::Matched(matched) => matched.id(),
+    }
+}
+
+/// `id`: the name of the state, and its cycle.
+fn id(state: &CycleState, text: &mut String) -> Result<bool, Fault> {
+    let name = match state {
+        CycleState::Collecting(_) => "Collecting",
+        CycleState::Frozen(_) => "Frozen",
+        CycleState::Matched(_) => "Matched",
+    };
+    let CycleId { day, cycle } = cycle_of(state);
+    write!(text, "{name} {day} {cycle}")?;
+    Ok(true)
+}
+
+/// `own`, `peer` or `confirmed`: that table of the state, where it has one.
+fn table<'a>(state: &'a CycleState, name: &str) -> Option<&'a Table> {
+    match (state, name) {
+        (CycleState::Frozen(frozen), "own") => Some(frozen.own()),
+        (CycleState::Matched(matched), "own") => Some(matched.own()),
+        (CycleState::Matched(matched), "peer") => Some(matched.peer()),
+        (CycleState::Matched(matched), "confirmed") => Some(matched.confirmed()),
+        _ => None,
+    }
+}
+
+/// Adds what a table of the state reads, where the state has it.
+fn add_reading(
+    state: &CycleState,
+    name: &str,
+    key: &Key,
+    hour: u8,
+    text: &mut String,
+) -> Result<(), Fault> {
+    let Some(table) = table(state, name) else {
+        return Ok(());
+    };
+    let reading = table.at(key.pair, key.direction, hour);
+    writeln!(text, "{name} {reading}")?;
+    Ok(())
+}
+
+/// `at INITIATING MATCHING DIRECTION HOUR`: what each table of the state reads, each in a line.
+fn at(state: &CycleState, mut words: Words<'_>, text: &mut String) -> Result<bool, Fault> {
+    let (Some(key), Some(hour)) = (words.key(), words.byte()) else {
+        return Ok(false);
+    };
+    add_reading(state, "own", &key, hour, text)?;
+    add_reading(state, "peer", &key, hour, text)?;
+    add_reading(state, "confirmed", &key, hour, text)?;
+    Ok(true)
+}
+
+impl Cycles {
+    pub fn new() -> Cycles {
+        Cycles { state: None }
+    }
+
+    /// `new DAY CYCLE`: the cycle, which collects.
+    fn make(&mut self, mut words: Words<'_>, text: &mut String) -> Result<bool, Fault> {
+        let Some(id) = words.cycle() else {
+            return Ok(false);
+        };
+        self.state = Some(CycleState::Collecting(Collecting::new(id)));
+        text.push_str("ok")?;
+        Ok(true)
+    }
+
+    /// `close TABLE`: freezes the table of a cycle that collects.
+    fn close(&mut self, alloc: Global, given: &str, text: &mut String) -> Result<bool, Fault> {
+        let Some(processed) = given_table(alloc, given)? else {
+            return Ok(false);
+        };
+        let Some(state) = self.state.take() else {
+            return Ok(false);
+        };
+        match closed(state, processed) {
+            Ok(frozen) => {
+                self.state = Some(CycleState::Frozen(frozen));
+                text.push_str("ok")?;
+                Ok(true)
+            }
+            Err(state) => {
+                self.state = Some(state);
+                Ok(false)
+            }
+        }
+    }
+
+    /// `meet TABLE`: where it is refused, the frozen cycle that comes back is kept.
+    fn meet(&mut self, alloc: Global, given: &str, text: &mut String) -> Result<bool, Fault> {
+        let Some(peer) = given_table(alloc, given)? else {
+            return Ok(false);
+        };
+        if peer.rows().len() > MOST_PROCESSED_ROWS {
+            return Ok(false);
+        }
+        match self.state.take() {
+            Some(CycleState::Frozen(frozen)) => {
+                let state = match frozen.meet(alloc, peer) {
+                    Ok(matched) => {
+                        text.push_str("ok")?;
+                        CycleState::Matched(matched)
+                    }
+                    Err((frozen, fault)) => {
+                        write!(text, "{fault}")?;
+                        CycleState::Frozen(frozen)
+                    }
+                };
+                self.state = Some(state);
+                Ok(true)
+            }
+            other => {
+                self.state = other;
+                Ok(false)
+            }
+        }
+    }
+
+    /// The calls of a state.
+    fn on_state(&self, mut words: Words<'_>, text: &mut String) -> Result<bool, Fault> {
+        let Some(state) = &self.state else {
+            return Ok(false);
+        };
+        match words.next() {
+            "id" => id(state, text),
+            "at" => at(state, words, text),
+            name => match table(state, name) {
+                Some(table) => {
+                    add_table(table, text)?;
+                    Ok(true)
+                }
+                None => Ok(false),
+            },
+        }
+    }
+}
+
+impl Subject for Cycles {
+    fn answer(&mut self, rt: &HostRuntime, call: &str, text: &mut String) -> Result<bool, Fault> {
+        let alloc = rt.alloc();
+        let mut words = Words::of(call);
+        match words.next() {
+            "lesser" => lesser_of(alloc, words.rest(), text),
+            "names" => names(text),
+            "new" => self.make(words, text),
+            "close" => self.close(alloc, words.rest(), text),
+            "meet" => self.meet(alloc, words.rest(), text),
+            _ => self.on_state(Words::of(call), text),
+        }
+    }
+}

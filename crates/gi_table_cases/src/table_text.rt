@@ -1,0 +1,156 @@
+//! Tables as the words of a call, and as an answer shows them. A table in a call is the first and
+//! the last hour, and then its rows, each behind a bar: `23 24 | A B IM 10 20 | A C MI 5 5`; a count
+//! of like rows may stand before them, `25 25 rows A 4096 7`: of `A` and `B0`, `B1` and so on in
+//! `IM`, with 7 in each hour.
+
+use gi_calls::{Fault, Words};
+use gi_pairs::{Code, Direction, Hours, Key, Pair, Quantity, Row, Table, TableFault};
+use std::alloc::Global;
+use std::fmt::Write;
+
+/// Of a table of more rows the first, the last and the number between are shown.
+const MOST_SHOWN: usize = 20;
+
+/// The quantities of the words.
+pub fn hours_of(alloc: Global, words: Words<'_>) -> Result<Option<Hours>, Fault> {
+    let mut quantities = Vec::new(alloc);
+    if words.is_empty() {
+        return Ok(Some(Hours::from(quantities)));
+    }
+    for word in words.rest().split(' ') {
+        let Some(quantity) = Words::of(word).quantity() else {
+            return Ok(None);
+        };
+        quantities.push(quantity)?;
+    }
+    Ok(Some(Hours::from(quantities)))
+}
+
+/// The row of the words: a key and then the quantities.
+pub fn row_of(alloc: Global, mut words: Words<'_>) -> Result<Option<Row>, Fault> {
+    let Some(Key { pair, direction }) = words.key() else {
+        return Ok(None);
+    };
+    let Some(hours) = hours_of(alloc, words)? else {
+        return Ok(None);
+    };
+    Ok(Some(Row {
+        pair,
+        direction,
+        hours,
+    }))
+}
+
+/// A row of `IM` with one quantity in each of so many hours.
+fn like_row(alloc: Global, pair: Pair, quantity: Quantity, hours: u8) -> Result<Row, Fault> {
+    let mut quantities = Vec::new(alloc);
+    for _ in 0..hours {
+        quantities.push(quantity)?;
+    }
+    Ok(Row {
+        pair,
+        direction: Direction::IM,
+        hours: Hours::from(quantities),
+    })
+}
+
+/// The rows of the words: the initiating code, how many there are, and the quantity.
+fn like_rows(alloc: Global, mut words: Words<'_>, hours: u8) -> Result<Option<Vec<Row>>, Fault> {
+    let (Some(initiating), Some(count), Some(quantity)) = (
+        words.code(),
+        words.number(),
+        words.quantity(),
+    ) else {
+        return Ok(None);
+    };
+    let mut rows = Vec::new(alloc);
+    for number in 0..count {
+        let matching = format!(in alloc; "B{number}")?;
+        let Ok(matching) = Code::read(matching.as_str()) else {
+            return Ok(None);
+        };
+        let pair = Pair {
+            initiating,
+            matching,
+        };
+        rows.push(like_row(alloc, pair, quantity, hours)?)?;
+    }
+    Ok(Some(rows))
+}
+
+/// The rows that come before the first bar: none, or like rows behind the word `rows`.
+fn rows_of(alloc: Global, mut words: Words<'_>, hours: u8) -> Result<Option<Vec<Row>>, Fault> {
+    match words.next() {
+        "" => Ok(Some(Vec::new(alloc))),
+        "rows" => like_rows(alloc, words, hours),
+        _ => Ok(None),
+    }
+}
+
+/// What `Table::build` answers to the hours and rows of a call.
+pub fn table_of(alloc: Global, text: &str) -> Result<Option<Result<Table, TableFault>>, Fault> {
+    let mut parts = text.split(" | ");
+    let mut words = Words::of(parts.next().unwrap_or(""));
+    let (Some(first), Some(last)) = (words.byte(), words.byte()) else {
+        return Ok(None);
+    };
+    let hours = last.saturating_sub(first).saturating_add(1);
+    let Some(mut rows) = rows_of(alloc, words, hours)? else {
+        return Ok(None);
+    };
+    for part in parts {
+        let Some(row) = row_of(alloc, Words::of(part))? else {
+            return Ok(None);
+        };
+        rows.push(row)?;
+    }
+    Ok(Some(Table::build(first, last, rows)))
+}
+
+/// Adds the quantities, each behind a space.
+pub fn add_hours(hours: &Hours, text: &mut String) -> Result<(), Fault> {
+    for quantity in hours.as_slice() {
+        let quantity = quantity.value();
+        write!(text, " {quantity}")?;
+    }
+    Ok(())
+}
+
+/// Adds what a row is for.
+pub fn add_key(key: Key, text: &mut String) -> Result<(), Fault> {
+    let (initiating, matching, direction) = (key.pair.initiating, key.pair.matching, key.direction);
+    write!(text, "{initiating} {matching} {direction}")?;
+    Ok(())
+}
+
+/// Adds a row, in a line.
+pub fn add_row(row: &Row, text: &mut String) -> Result<(), Fault> {
+    add_key(row.key(), text)?;
+    add_hours(&row.hours, text)?;
+    text.push_str("\n")?;
+    Ok(())
+}
+
+/// Adds rows of which there are too many to show: the first, how many more there are, and the last.
+fn add_ends(rows: &[Row], text: &mut String) -> Result<(), Fault> {
+    let [first, between @ .., last] = rows else {
+        return Ok(());
+    };
+    let more = between.len();
+    add_row(first, text)?;
+    writeln!(text, "{more} more")?;
+    add_row(last, text)
+}
+
+/// Adds the hours of a table, and its rows.
+pub fn add_table(table: &Table, text: &mut String) -> Result<(), Fault> {
+    let (first, last) = (table.first(), table.last());
+    writeln!(text, "hours {first} {last}")?;
+    if table.rows().len() > MOST_SHOWN {
+        return add_ends(table.rows(), text);
+    }
+    for row in table.rows() {
+        add_row(row, text)?;
+    }
+    Ok(())
+}

@@ -1,0 +1,254 @@
+//! Scripts: both offices and the carriers between them.
+
+use crate::nomination::nomination;
+use crate::worlds::{body, query};
+use gi_calls::{Fault, Subject, Words};
+use gi_desk::Call;
+use gi_pairs::Side;
+use gi_script::{Instruction, Script, read_script};
+use gi_simulation::{Simulated, Simulation, refused_submissions, simulate};
+use std::alloc::{AllocError, Global};
+
+/// The calls of the subject `simulations`.
+#[derive(Drop)]
+pub struct Simulations {
+    /// The script so far.
+    script: String,
+    /// The simulation that is asked.
+    simulation: Option<Simulation>,
+}
+
+/// A line of a script; `SIDE nominate ..` is written out as a submission.
+fn script_line(alloc: Global, line: &str) -> Result<String, AllocError> {
+    let mut words = Words::of(line);
+    let (side, what) = (words.next(), words.next());
+    if what != "nominate" {
+        return format!(in alloc; "{line}");
+    }
+    let text = nomination(alloc, words)?;
+    format!(in alloc; "{side} submit {text}")
+}
+
+/// The delivery, as a local call, that `SIDE slip TEXT` asks.
+fn slipped(alloc: Global, line: &str) -> Result<Option<Instruction>, AllocError> {
+    let mut words = Words::of(line);
+    let Some(side) = words.side() else {
+        return Ok(None);
+    };
+    if words.next() != "slip" {
+        return Ok(None);
+    }
+    let call = Call::Deliver(body(alloc, words.rest())?);
+    Ok(Some(Instruction::Call { side, call }))
+}
+
+/// Makes an instruction, and adds what comes of it.
+fn make(
+    simulation: &mut Simulation,
+    instruction: &Instruction,
+    text: &mut String,
+) -> Result<(), AllocError> {
+    match simulation.make(instruction)? {
+        Some(outcome) => write!(text, "{outcome}\n"),
+        None => text.push_str("none\n"),
+    }
+}
+
+/// Makes what each line of a script asks.
+fn make_lines(
+    simulation: &mut Simulation,
+    script: &Script,
+    text: &mut String,
+) -> Result<(), AllocError> {
+    for line in script.lines() {
+        make(simulation, &line.instruction, text)?;
+    }
+    Ok(())
+}
+
+/// Makes what a line asks.
+fn make_line(
+    alloc: Global,
+    simulation: &mut Simulation,
+    line: &str,
+    text: &mut String,
+) -> Result<(), AllocError> {
+    if let Some(instruction) = slipped(alloc, line)? {
+        return make(simulation, &instruction, text);
+    }
+    let line = script_line(alloc, line)?;
+    let script = format!(in alloc; "point BORDER-1\n{line}")?;
+    match read_script(alloc, script.as_bytes()) {
+        Ok(script) => make_lines(simulation, &script, text),
+        Err(fault) => write!(text, "{fault}\n"),
+    }
+}
+
+/// Adds the lines that begin with a number from `first` on.
+fn add_from(lines: &str, first: u32, text: &mut String) -> Result<(), AllocError> {
+    for line in lines.lines() {
+        let number = Words::of(line).number();
+        if number.is_some_and(|number| number >= first) {
+            write!(text, "{line}\n")?;
+        }
+    }
+    Ok(())
+}
+
+/// Adds what the lines of a script from number `first` on printed, and whether all of it is made.
+fn add_simulated(simulated: &Simulated, first: u32, text: &mut String) -> Result<(), AllocError> {
+    add_from(simulated.text.as_str(), first, text)?;
+    text.push_str(if simulated.complete {
+        "complete\n"
+    } else {
+        "cut off\n"
+    })
+}
+
+impl Simulations {
+    /// There is no script and no simulation yet.
+    pub fn new(alloc: Global) -> Simulations {
+        Simulations {
+            script: String::new(alloc),
+            simulation: None,
+        }
+    }
+
+    /// Adds a line to the script, so many times.
+    fn add_line(&mut self, alloc: Global, line: &str, times: u32) -> Result<bool, Fault> {
+        let line = script_line(alloc, line)?;
+        for _ in 0..times {
+            self.script.push_str(line.as_str())?;
+            self.script.push_str("\n")?;
+        }
+        Ok(true)
+    }
+
+    /// Adds a line to the script as often as its first word says.
+    fn add_times(&mut self, alloc: Global, mut words: Words<'_>) -> Result<bool, Fault> {
+        match words.number() {
+            Some(times) => self.add_line(alloc, words.rest(), times),
+            None => Ok(false),
+        }
+    }
+
+    /// Goes back to the script's first so many lines.
+    fn go_back(&mut self, alloc: Global, mut words: Words<'_>) -> Result<bool, Fault> {
+        let Some(count) = words.number() else {
+            return Ok(false);
+        };
+        let mut first = String::new(alloc);
+        for line in self.script.as_str().lines().take(count as usize) {
+            write!(first, "{line}\n")?;
+        }
+        self.script = first;
+        Ok(true)
+    }
+
+    /// Simulates the script; its offices are those that are asked from then on. With a number only
+    /// what the lines from that one on printed is added.
+    fn simulate(
+        &mut self,
+        alloc: Global,
+        mut words: Words<'_>,
+        text: &mut String,
+    ) -> Result<bool, Fault> {
+        let first = words.number().unwrap_or(0);
+        let script = match read_script(alloc, self.script.as_bytes()) {
+            Ok(script) => script,
+            Err(fault) => {
+                write!(text, "{fault}\n")?;
+                return Ok(true);
+            }
+        };
+        match simulate(alloc, &script) {
+            Ok(simulated) => {
+                add_simulated(&simulated, first, text)?;
+                self.simulation = Some(simulated.simulation);
+            }
+            Err(fault) => write!(text, "{fault}\n")?,
+        }
+        Ok(true)
+    }
+
+    /// Simulates the script, and adds the portfolios of a side's refused submissions.
+    fn refused(&mut self, alloc: Global, side: Side, text: &mut String) -> Result<bool, Fault> {
+        let script = match read_script(alloc, self.script.as_bytes()) {
+            Ok(script) => script,
+            Err(fault) => {
+                write!(text, "{fault}\n")?;
+                return Ok(true);
+            }
+        };
+        match refused_submissions(alloc, side, &script) {
+            Ok((simulation, portfolios)) => {
+                write!(text, "{portfolios:?}\n")?;
+                self.simulation = Some(simulation);
+            }
+            Err(fault) => write!(text, "{fault}\n")?,
+        }
+        Ok(true)
+    }
+
+    /// A simulation without facts, with nothing on its way.
+    fn begin(
+        &mut self,
+        alloc: Global,
+        mut words: Words<'_>,
+        text: &mut String,
+    ) -> Result<bool, Fault> {
+        let Some(point) = words.code() else {
+            return Ok(false);
+        };
+        match Simulation::new(alloc, point) {
+            Ok(simulation) => {
+                self.simulation = Some(simulation);
+                text.push_str("ok\n")?;
+            }
+            Err(fault) => write!(text, "{fault}\n")?,
+        }
+        Ok(true)
+    }
+
+    /// Makes what a line asks, in the simulation.
+    fn make(&mut self, alloc: Global, line: &str, text: &mut String) -> Result<bool, Fault> {
+        let Some(simulation) = &mut self.simulation else {
+            return Ok(false);
+        };
+        make_line(alloc, simulation, line, text)?;
+        Ok(true)
+    }
+
+    /// Adds what the simulation's world answers to a question.
+    fn query(&self, alloc: Global, words: Words<'_>, text: &mut String) -> Result<bool, Fault> {
+        match &self.simulation {
+            Some(simulation) => query(alloc, simulation.world(), words, text),
+            None => Ok(false),
+        }
+    }
+}
+
+impl Subject for Simulations {
+    fn answer(&mut self, rt: &HostRuntime, call: &str, text: &mut String) -> Result<bool, Fault> {
+        let alloc = rt.alloc();
+        let mut words = Words::of(call);
+        match words.next() {
+            "script" => {
+                self.script = String::new(alloc);
+                Ok(true)
+            }
+            "point" | "I" | "M" | "plan" => self.add_line(alloc, call, 1),
+            "empty" => self.add_line(alloc, "", 1),
+            "times" => self.add_times(alloc, words),
+            "first" => self.go_back(alloc, words),
+            "simulate" => self.simulate(alloc, words, text),
+            "refused_submissions" => match words.side() {
+                Some(side) => self.refused(alloc, side, text),
+                None => Ok(false),
+            },
+            "new" => self.begin(alloc, words, text),
+            "make" => self.make(alloc, words.rest(), text),
+            _ => self.query(alloc, Words::of(call), text),
+        }
+    }
+}

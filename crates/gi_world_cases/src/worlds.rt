@@ -1,0 +1,141 @@
+//! Both operators' desks, and what happens between them step by step, or in one run.
+
+mod answers;
+mod asking;
+mod lone;
+mod queries;
+
+use answers::add_outcome;
+pub use asking::body;
+use asking::step_of;
+use gi_calls::{Fault, Subject, Words};
+use gi_pairs::{Code, Side};
+use gi_world::{Run, Step, World, run_world};
+use lone::Lone;
+pub use queries::query;
+use std::alloc::{AllocError, Global};
+
+/// The calls of the subject `worlds`.
+#[derive(Drop)]
+pub struct Worlds {
+    world: Option<World>,
+    point: Option<Code>,
+    /// The steps since `new` or `script`.
+    steps: Vec<Step>,
+    lone: Lone,
+}
+
+/// Adds what comes of words that ask no step: nothing of a saving where all is saved.
+fn add_nothing(words: Words<'_>, text: &mut String) -> Result<bool, Fault> {
+    if words.rest() != "save" {
+        return Ok(false);
+    }
+    text.push_str("nothing\n")?;
+    Ok(true)
+}
+
+/// Adds what came of each step of a run, and how many are made.
+fn add_run(run: &Run, text: &mut String) -> Result<(), AllocError> {
+    for outcome in run.outcomes.as_slice() {
+        add_outcome(outcome, text)?;
+    }
+    let done = run.done;
+    write!(text, "done {done}\n")
+}
+
+impl Worlds {
+    /// There is no world yet.
+    pub fn new(alloc: Global) -> Worlds {
+        Worlds {
+            world: None,
+            point: None,
+            steps: Vec::new(alloc),
+            lone: Lone::new(),
+        }
+    }
+
+    /// A world at the interconnection point, of which no step is made.
+    fn begin(
+        &mut self,
+        alloc: Global,
+        mut words: Words<'_>,
+        text: &mut String,
+    ) -> Result<bool, Fault> {
+        let Some(point) = words.code() else {
+            return Ok(false);
+        };
+        match World::new(alloc, point) {
+            Ok(world) => {
+                self.world = Some(world);
+                self.point = Some(point);
+                self.steps = Vec::new(alloc);
+                text.push_str("ok\n")?;
+            }
+            Err(fault) => write!(text, "{fault}\n")?,
+        }
+        Ok(true)
+    }
+
+    /// Makes a step at a side.
+    fn make(
+        &mut self,
+        alloc: Global,
+        side: Side,
+        words: Words<'_>,
+        text: &mut String,
+    ) -> Result<bool, Fault> {
+        let Some(world) = &mut self.world else {
+            return Ok(false);
+        };
+        let Some(step) = step_of(alloc, world, side, words)? else {
+            return add_nothing(words, text);
+        };
+        add_outcome(&world.step(&step), text)?;
+        self.steps.push(step).map_err(|_| Fault::OutOfMemory)?;
+        Ok(true)
+    }
+
+    /// Makes the steps again in one run, from two desks without facts; its world is the one that is
+    /// asked from then on.
+    fn run(&mut self, alloc: Global, text: &mut String) -> Result<bool, Fault> {
+        let Some(point) = self.point else {
+            return Ok(false);
+        };
+        match run_world(alloc, point, &self.steps) {
+            Ok(run) => {
+                add_run(&run, text)?;
+                self.world = Some(run.world);
+            }
+            Err(fault) => write!(text, "{fault}\n")?,
+        }
+        Ok(true)
+    }
+
+    /// Adds what the world answers to a question.
+    fn query(&self, alloc: Global, words: Words<'_>, text: &mut String) -> Result<bool, Fault> {
+        match &self.world {
+            Some(world) => query(alloc, world, words, text),
+            None => Ok(false),
+        }
+    }
+}
+
+impl Subject for Worlds {
+    fn answer(&mut self, rt: &HostRuntime, call: &str, text: &mut String) -> Result<bool, Fault> {
+        let alloc = rt.alloc();
+        let mut words = Words::of(call);
+        match words.next() {
+            "new" => self.begin(alloc, words, text),
+            "script" => {
+                self.steps = Vec::new(alloc);
+                text.push_str("ok\n")?;
+                Ok(true)
+            }
+            "I" => self.make(alloc, Side::I, words, text),
+            "M" => self.make(alloc, Side::M, words, text),
+            "run" => self.run(alloc, text),
+            "lone" => self.lone.answer(alloc, words, text),
+            _ => self.query(alloc, Words::of(call), text),
+        }
+    }
+}

@@ -1,0 +1,111 @@
+//! What a line asks of a desk.
+
+use crate::nomination::nomination;
+use gi_calls::Words;
+use gi_desk::{Body, Call, Desk, Role};
+use gi_pairs::{CycleId, Side};
+use gi_processing::{Contract, Notice};
+use gi_world::{Step, World};
+use std::alloc::{AllocError, Global};
+
+/// A contract: portfolio, day, direction, and the firm and the interruptible quantity in kWh/h.
+fn contract(mut words: Words<'_>) -> Option<Contract> {
+    Some(Contract {
+        portfolio: words.code()?,
+        day: words.day()?,
+        direction: words.direction()?,
+        firm: words.quantity()?,
+        interruptible: words.quantity()?,
+    })
+}
+
+/// So many thousandths.
+fn per_mille(words: &mut Words<'_>) -> Option<u16> {
+    words.next().parse::<u16>().ok()
+}
+
+/// A notice: day, direction, first and last hour, and the thousandths of firm and interruptible
+/// quantities.
+fn notice(mut words: Words<'_>) -> Option<Notice> {
+    Some(Notice {
+        day: words.day()?,
+        direction: words.direction()?,
+        first: words.byte()?,
+        last: words.byte()?,
+        firm: per_mille(&mut words)?,
+        interruptible: per_mille(&mut words)?,
+    })
+}
+
+/// A cycle: its gas day and its number.
+pub fn cycle(words: &mut Words<'_>) -> Option<CycleId> {
+    Some(CycleId {
+        day: words.day()?,
+        cycle: words.byte()?,
+    })
+}
+
+/// The bytes of a text.
+pub fn body(alloc: Global, text: &str) -> Result<Body, AllocError> {
+    Ok(Body::from(Vec::from_slice(alloc, text.as_bytes())?))
+}
+
+/// What the words ask of a desk, if that is a contract, a notice, a nomination, a closing, a
+/// resending or a halt.
+pub fn call_of(alloc: Global, mut words: Words<'_>) -> Result<Option<Call>, AllocError> {
+    Ok(match words.next() {
+        "contract" => contract(words).map(Call::Contract),
+        "notice" => notice(words).map(Call::Notice),
+        "submit" => Some(Call::Submit(body(alloc, words.rest())?)),
+        "nominate" => {
+            let text = nomination(alloc, words)?;
+            Some(Call::Submit(body(alloc, text.as_str())?))
+        }
+        "close" => cycle(&mut words).map(Call::Close),
+        "resend" => cycle(&mut words).map(Call::Resend),
+        "halt" => Some(Call::Halt),
+        _ => None,
+    })
+}
+
+/// The mark of a desk's next fact to save, if there is one.
+pub fn mark<R: Role>(desk: &Desk<R>) -> Result<Option<Call>, AllocError> {
+    let Some((n, fact)) = desk.unsaved() else {
+        return Ok(None);
+    };
+    Ok(Some(Call::MarkSaved {
+        n,
+        fact: fact.copy()?,
+    }))
+}
+
+/// The mark of a side's next fact to save, if there is one.
+fn mark_of(world: &World, side: Side) -> Result<Option<Call>, AllocError> {
+    match side {
+        Side::I => mark(world.initiating()),
+        Side::M => mark(world.matching()),
+    }
+}
+
+/// The number of a packet.
+fn packet(words: &mut Words<'_>) -> Option<u64> {
+    words.next().parse::<u64>().ok()
+}
+
+/// The step that the words ask of a side, if they ask one.
+pub fn step_of(
+    alloc: Global,
+    world: &World,
+    side: Side,
+    words: Words<'_>,
+) -> Result<Option<Step>, AllocError> {
+    let mut rest = words;
+    let call = match rest.next() {
+        "deliver" => return Ok(packet(&mut rest).map(|packet| Step::Deliver { side, packet })),
+        "restart" => return Ok(rest.number().map(|keep| Step::Restart { side, keep })),
+        "slip" => Some(Call::Deliver(body(alloc, rest.rest())?)),
+        "save" => mark_of(world, side)?,
+        _ => call_of(alloc, words)?,
+    };
+    Ok(call.map(|call| Step::Local { side, call }))
+}

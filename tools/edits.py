@@ -1,0 +1,117 @@
+"""The edits of wrong bodies: what each changes, and the functions in which that stands. Each text that an edit looks for stands once
+in the file as it is, before any change."""
+import os
+import re
+
+FUNCTION = re.compile(r"^( *)(?:pub(?:\(\w+\))? )?(?:const )?fn (\w+)")
+OWNER = re.compile(r"^(?:impl(?:<[^>]*>)?|(?:pub )?trait) (.*?) *\{?$")
+
+
+def text_of(file):
+    with open(file, encoding="utf-8") as it:
+        return it.read()
+
+
+def module_of(path):
+    parts = path.removeprefix("src/").removesuffix(".rt").split("/")
+    return [] if parts in (["lib"], ["main"]) else parts
+
+
+class Function:
+    """A function of a crate's file: its name as a check prints it, and where in the file it starts and ends. A copy of it can stand
+    under it where it is no trait's and has no attribute, since what is proved of it is then of its own text alone."""
+
+    def __init__(self, crate, path, text, at):
+        lines = text[:at].split("\n")
+        row = next((row for row in range(len(lines) - 1, -1, -1) if FUNCTION.match(lines[row]) or lines[row].startswith("}")), None)
+        found = FUNCTION.match(lines[row]) if row is not None else None
+        if not found:
+            raise LookupError("no function stands there")
+        self.path, self.own_name, owner = path, found[2], []
+        header = next((it for it in map(OWNER.match, reversed(lines[:row])) if it), None) if found[1] else None
+        if header:
+            owner = owner_of(crate, path, header[1])
+        self.parts = [*(owner or module_of(path)), self.own_name]
+        self.name = "::".join([crate.name, *self.parts])
+        self.start = sum(len(it) + 1 for it in lines[:row])
+        self.end = text.find(f"\n{found[1]}}}\n", self.start) + len(f"\n{found[1]}}}\n")
+        is_of_trait = header is not None and (" for " in header[1] or "trait " in header[0])
+        has_attribute = row > 0 and lines[row - 1].strip().startswith("#[")
+        has_one_line = text[self.start :].split("\n", 1)[0].endswith("}")
+        has_own_theorem = os.path.exists(f"{crate.folder}/proofs/{'/'.join(self.parts)}/Proof.antt")
+        self.can_be_copied = not (is_of_trait or has_attribute or has_one_line or has_own_theorem)
+
+    def copy(self, text, name, changes):
+        """What puts a copy of the function of that name and with these changes under it: a change, and the copy's name."""
+        copied = re.sub(rf"\bfn {self.own_name}\b", f"fn {name}", placed(text, changes, self.start, self.end), count=1)
+        return (self.path, self.end, self.end, f"\n{copied}"), "::".join([*self.name.split("::")[:-1], name])
+
+
+def owner_of(crate, path, owner):
+    """The path of an impl: its type's own for methods, and for a trait's the module's, with the trait's name at the type's."""
+    plain = lambda it: "".join(word[0].upper() + word[1:] for word in re.findall(r"\w+", re.sub(r"'\w+|\w+::", "", it)))
+    trait, is_of_trait, kind = owner.partition(" for ")
+    if is_of_trait:
+        return [*module_of(path), plain(kind.partition("<")[0]) + plain(trait)]
+    kind = re.match(r"\w+", owner)[0]
+    for at, _, names in os.walk(f"{crate.folder}/src"):
+        for name in names:
+            file = f"{at}/{name}"
+            if re.search(rf"^(?:pub(?:\(\w+\))? )?(?:struct|enum|trait) {kind}\b", text_of(file), re.M):
+                return [*module_of(os.path.relpath(file, crate.folder)), kind]
+    return [*module_of(path), kind]
+
+
+class Edit:
+    """A wrong body: in each place the file, where its text starts and ends, and the new text; the functions whose contracts have to
+    refuse it; and whether it reaches outside of their bodies, where it could break other functions too."""
+
+    def __init__(self, crate, folder, name):
+        self.crate, self.name, self.changes, self.functions = crate, name.removesuffix(".edit"), [], {}
+        self.is_alone, by, path, old, text = False, None, "", "", ""
+        for line in text_of(f"{folder}/{name}").split("\n"):
+            word, _, rest = line.partition(":")
+            rest = rest.removeprefix(" ")
+            if word == "by":
+                by = rest
+            elif word == "file":
+                path = rest
+                if not path.startswith("src/") or os.path.normpath(path) != path:
+                    raise ValueError(f"it changes {path}, and no code")
+                text = text_of(f"{crate.folder}/{path}")
+            elif word == "old":
+                old = rest
+            elif word == "new" and old:
+                self.change(path, text, old, rest)
+                old = ""
+            elif line:
+                raise ValueError(f"it has the line {line[:60]}")
+        if old:
+            raise ValueError("an 'old:' line has no 'new:' line")
+        if by:
+            self.is_alone, self.functions = True, {by: None}
+        if not self.functions:
+            raise ValueError("it changes no function, and no line 'by:' names one")
+
+    def change(self, path, text, old, new):
+        if text.count(old) != 1:
+            raise ValueError(f"its old text is in {path} {text.count(old)} times, and not once")
+        start = text.index(old)
+        if re.match(r" *(requires|ensures|ghost|invariant|decreases)\b", text[text.rfind("\n", 0, start) + 1 :]):
+            raise ValueError("it changes a clause, and no code")
+        self.changes.append((path, start, start + len(old), new))
+        try:
+            function = Function(self.crate, path, text, start + len(old))
+            self.functions[function.name] = function
+            self.is_alone |= re.search(r"\bfn\b", old + new) is not None
+        except LookupError:
+            self.is_alone = True
+
+
+def placed(text, changes, start=0, end=None):
+    """The text from start to end with these changes, whose places are those in the whole text."""
+    end = len(text) if end is None else end
+    for _, first, last, new in sorted(changes, key=lambda it: it[1], reverse=True):
+        text = text[:first] + new + text[last:]
+        end += len(new) - (last - first)
+    return text[start:end]

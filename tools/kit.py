@@ -1,0 +1,94 @@
+"""What the tools here take of the Rattle kit's own script, its module rtlib: the repository's crates, their libraries, and the
+words of a check."""
+import importlib.machinery
+import importlib.util
+import os
+import re
+import shutil
+import sys
+import tempfile
+from concurrent.futures import FIRST_COMPLETED, ThreadPoolExecutor, wait
+
+TOP = os.path.dirname(os.path.dirname(os.path.realpath(__file__)))
+
+
+def load():
+    """The kit's module rtlib, which stands beside its command rt."""
+    command = shutil.which("rt")
+    if not command:
+        sys.exit("the Rattle kit's command rt is not on this machine")
+    sys.dont_write_bytecode = True
+    loader = importlib.machinery.SourceFileLoader("rtlib", f"{os.path.dirname(os.path.realpath(command))}/rtlib.py")
+    module = importlib.util.module_from_spec(importlib.util.spec_from_loader("rtlib", loader))
+    sys.modules["rtlib"] = module
+    loader.exec_module(module)
+    return module
+
+
+rtlib = load()
+
+
+def crates():
+    """The repository's crates by their names, lowest first."""
+    found = rtlib.crates_below(TOP)
+    return {it.name: it for it in sorted(found, key=lambda it: len(it.below()))}
+
+
+def processors():
+    """How many processors this process may use: a container can have a part of those that it sees."""
+    quota = re.match(r"(\d+) (\d+)", rtlib.text_of("/sys/fs/cgroup/cpu.max") or "")
+    most = len(os.sched_getaffinity(0))
+    return max(1, min(most, round(int(quota[1]) / int(quota[2])))) if quota else most
+
+
+def need(crate, jobs):
+    """About the most memory that a check of the crate takes, in bytes: half of rt's own estimate, which no check here came near."""
+    own = sum(rtlib.text_of(it).count("\n") for it in rtlib.files_of(crate.folder) if it.endswith(".antt"))
+    named = {name for it in [crate, *crate.below()] for name in it.of_kit} - {*rtlib.SEALED, "io", "libc", "os"}
+    files = [f"{rtlib.KIT}/rlibs/{it}.rlib/toolchain/checked.a" for it in named]
+    loaded = sum(os.path.getsize(it) for it in files if os.path.isfile(it))
+    below = sum(it.count(rb"\n") for it in crate.below())
+    whole = 1_000_000_000 + 1_000_000 * crate.count(rb"\n") + 200_000 * own + 80_000 * below + min(5 * loaded, 2_500_000_000)
+    return whole / 2 * (1 + 0.3 * (jobs - 1))
+
+
+def side_by_side(tasks, work, waits=lambda task, other: False, jobs=1, look=lambda: None):
+    """Does the work of each crate, each after those that it waits for, as many side by side as there are processors and memory, and
+    gives what each answered. The first are those on which most others wait. A look is taken each second."""
+    left = sorted(tasks, key=lambda it: -sum(waits(other, it) for other in tasks))
+    memory = 0.85 * 1024 * rtlib.number_in("/proc/meminfo", r"MemAvailable:\s+(\d+)")
+    running, given = {}, {}
+    with ThreadPoolExecutor(processors()) as pool:
+        while left or running:
+            busy = [*left, *running.values()]
+            for task in [it for it in left if not any(waits(it, other) for other in busy)]:
+                needs = sum(need(it, jobs) for it in [*running.values(), task])
+                if len(running) < processors() and (not running or needs < memory):
+                    left.remove(task)
+                    running[pool.submit(work, task)] = task
+            for it in wait(running, timeout=1, return_when=FIRST_COMPLETED).done:
+                given[running.pop(it)] = it.result()
+            look()
+    return given
+
+
+def build_libraries(libraries, started=lambda crate: None, ended=lambda crate, status, said: None, look=lambda: None):
+    """Proves and builds the libraries, lowest first, side by side where none stands on the other, and gives whether all are
+    proved. What is built stays, so that a build which was interrupted goes on from there."""
+    failed, jobs = set(), processors()
+
+    def work(crate):
+        if failed & {*crate.below()}:
+            failed.add(crate)
+            return
+        started(crate)
+        with tempfile.TemporaryFile("a+", errors="replace") as crate.out:
+            status = crate.build_rlib(["--jobs", str(jobs)], anew=False)
+            crate.out.seek(0)
+            said = crate.out.read()
+        if status:
+            failed.add(crate)
+        ended(crate, status, said)
+
+    side_by_side(libraries, work, lambda crate, other: other in crate.below(), jobs, look)
+    return not failed
