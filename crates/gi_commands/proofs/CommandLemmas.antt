@@ -2,7 +2,7 @@
 use Rattle.std.proofs.Common.{◌≡◌, ◌≤◌, ℕ, List, inl, inr, refl, length, Option, None, Some}
 use Rattle.std.specs.Prelude.{IfSome}
 use Rattle.std.specs.Io.KnownBytes.{Appends, Keeps}
-use Rattle.gi_commands.specs.Asked.{Asked, hours, match_tables, mistaken, report, simulate}
+use Rattle.gi_command_line.specs.Asked.{Asked, hours, match_tables, mistaken, report, simulate}
 use Rattle.gi_commands.specs.Commands.{IsFaultOf, Leaves, LeavesNothing, MayRead}
 use Rattle.gi_commands.specs.Input.{most_input}
 use Rattle.gi_commands.specs.Match.{Answers, IsAnswer, IsFirstFault}

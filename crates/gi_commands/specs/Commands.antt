@@ -3,7 +3,7 @@ use Rattle.std.specs.Prelude.{◌≡◌, ◌⊎◌, ℕ, List, Option, None, Som
 use Rattle.std.specs.Option.{IfSome}
 use Rattle.std.specs.Io.KnownBytes.{Keeps}
 use Rattle.gi_pairs.specs.Code.{IsCode}
-use Rattle.gi_commands.specs.Asked.{Asked, hours, match_tables, mistaken, report, simulate}
+use Rattle.gi_command_line.specs.Asked.{Asked, hours, match_tables, mistaken, report, simulate}
 use Rattle.gi_commands.specs.Hours.{IsFirstHoursFault, TellsHours}
 use Rattle.gi_commands.specs.Match.{Answers, IsFirstFault}
 use Rattle.gi_commands.specs.Reporting.{IsFirstFileFault, ReportsBook}

@@ -1,11 +1,9 @@
-pub mod Asked
 pub mod Fault
 pub mod Hours
 pub mod Input
 pub mod LineText
 pub mod Lines
 pub mod Match
-pub mod ReportWords
 pub mod Laws
 pub mod Reporting
 pub mod Simulating

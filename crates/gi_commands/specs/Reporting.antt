@@ -13,8 +13,8 @@ use Rattle.gi_store.specs.declared.store_fault.StoreFault.TheVariants as store
 use Rattle.sqlite.specs.State.{State}
 use Rattle.gi_commands.specs.declared.fault.Fault.{Fault}
 use Rattle.gi_commands.specs.declared.fault.Fault.TheVariants as fault
-use Rattle.gi_commands.specs.declared.request.ReportKind.{ReportKind}
-use Rattle.gi_commands.specs.declared.request.ReportKind.TheVariants.{Open, Confirmed, Refused}
+use Rattle.gi_command_line.specs.declared.request.ReportKind.{ReportKind}
+use Rattle.gi_command_line.specs.declared.request.ReportKind.TheVariants.{Open, Confirmed, Refused}
 
 -- the report of a side's desk, and of its refused submissions
 abbrev pub IsReport : ReportKind → Side → DeskState → List (Option (List ℕ)) → List ℕ → Type 0

@@ -14,7 +14,7 @@ use Rattle.gi_commands.specs.Input.{most_input}
 use Rattle.gi_commands.specs.Reporting.{IsReport}
 use Rattle.gi_commands.specs.declared.fault.Fault.{Fault}
 use Rattle.gi_commands.specs.declared.fault.Fault.TheVariants as fault
-use Rattle.gi_commands.specs.declared.request.ReportKind.{ReportKind}
+use Rattle.gi_command_line.specs.declared.request.ReportKind.{ReportKind}
 
 -- both offices after a script
 abbrev pub end_of : ScriptContents → SimulationState

@@ -7,7 +7,7 @@ ghost use Rattle.gi_commands.specs.Reporting.{HasBookReport, IsFileFault};
 
 use crate::fault::Fault;
 use crate::reporting::facts_report;
-use crate::request::{Book, ReportKind};
+use gi_command_line::{Book, ReportKind};
 use gi_files::facts_of_file;
 use gi_initiator::Initiating;
 use gi_matcher::Matching;

@@ -1,7 +1,7 @@
 ghost use Rattle.std.specs.Prelude.{◌≡◌, IfErr, IfSome, OnOk, Err};
 ghost use Rattle.std.specs.Io.KnownBytes.{Appends};
 ghost use Rattle.gi_pairs.specs.Code.{IsCode};
-ghost use Rattle.gi_commands.specs.Asked.{book_of, meaning, report as asks_report};
+ghost use Rattle.gi_command_line.specs.Asked.{book_of, meaning, report as asks_report};
 ghost use Rattle.gi_commands.specs.Commands.{Does, HasNoCode, IsFaultOf, Leaves, LeavesFront, LeavesNothing, MayRead};
 ghost use Rattle.gi_commands.specs.Fault.{no_code};
 ghost use Rattle.gi_commands.specs.Hours.{IsFirstHoursFault, TellsHours};
@@ -15,8 +15,8 @@ use crate::hours::hours_text;
 use crate::input::{Calls, read_input};
 use crate::matching::answer;
 use crate::reporting::script_report;
-use crate::request::{Book, Report, ReportKind, Request};
 use crate::simulating::simulated;
+use gi_command_line::{Book, Report, ReportKind, Request};
 use gi_pairs::Side;
 use std::alloc::Global;
 use std::io::{Read, Write};

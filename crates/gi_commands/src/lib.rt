@@ -11,7 +11,6 @@ mod laws;
 mod lines;
 mod matching;
 mod reporting;
-mod request;
 mod simulating;
 mod two_places;
 
@@ -22,5 +21,4 @@ pub use input::{Calls, read_input};
 pub use laws::one_outcome;
 pub use matching::answer;
 pub use reporting::{book_report, script_report};
-pub use request::{Book, Mistake, Report, ReportKind, Request, kind_named, side_named};
 pub use simulating::{Written, simulated};

@@ -9,7 +9,7 @@ ghost use Rattle.gi_commands.specs.Reporting.{HasBookReport, IsBookFault, IsBook
 ghost use Rattle.gi_commands.specs.Simulating.{IsNoScript, IsScriptReport};
 
 use crate::fault::Fault;
-use crate::request::ReportKind;
+use gi_command_line::ReportKind;
 use gi_day::Calendar;
 use gi_desk::{Desk, Fact, Role};
 use gi_initiator::Initiating;

@@ -3,12 +3,12 @@ ghost use Rattle.std.specs.Io.KnownBytes.{Keeps};
 ghost use Rattle.clap.specs.Words.{kind_of};
 ghost use Rattle.gi_commands.specs.Commands.{Does, HasNoCode, IsFaultOf, Leaves, LeavesNothing, MayRead};
 ghost use Rattle.gi_commands.specs.Fault.{no_code};
-ghost use Rattle.gi_dispatch.specs.CommandLine.{AsksForHelp, IsMistaken, asked, objections};
+ghost use Rattle.gi_command_line.specs.CommandLine.{AsksForHelp, IsMistaken, asked, objections};
 
-use crate::command_line::requested;
 use clap::Error;
 use clap::error::ErrorKind;
-use gi_commands::{Fault, Mistake, Request, perform};
+use gi_command_line::{Mistake, Request, requested};
+use gi_commands::{Fault, perform};
 use std::convert::AsStr;
 use std::io::{Read, Write};
 

@@ -1,9 +1,7 @@
 //! The dispatch offices of two adjacent gas transmission operators, as a program of commands.
 #![tactic(auto)]
 
-mod command_line;
 mod dispatching;
-mod laws;
 
 use dispatching::{dispatch, reported};
 use gi_commands::Fault;

@@ -1,6 +1,7 @@
 //! Readers and writers that fail in mid-stream, and inputs at the limit.
 
-use gi_commands::{Fault, Report, ReportKind, Request, perform};
+use gi_command_line::{Report, ReportKind, Request};
+use gi_commands::{Fault, perform};
 use gi_pairs::Side;
 use gi_script::ScriptFault;
 use std::io;

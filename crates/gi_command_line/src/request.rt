@@ -1,7 +1,7 @@
 //! What a command line asks for.
 
 ghost use Rattle.std.specs.Prelude.{◌≡◌, Some};
-ghost use Rattle.gi_commands.specs.ReportWords.{kind_named as kind_named_by, mistake_text, side_named as side_named_by};
+ghost use Rattle.gi_command_line.specs.ReportWords.{kind_named as kind_named_by, mistake_text, side_named as side_named_by};
 
 use gi_pairs::Side;
 use std::fmt;

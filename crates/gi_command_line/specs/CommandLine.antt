@@ -5,9 +5,9 @@ use Rattle.clap.specs.Words.{App, IsAmong, Kinds, Row, Rule, fault_of, first_of,
 use Rattle.clap.specs.declared.error.kind.ErrorKind.{ErrorKind}
 use Rattle.clap.specs.declared.error.kind.ErrorKind.TheVariants.{DisplayHelp, DisplayVersion}
 use Rattle.gi_pairs.specs.declared.side.Side.{Side}
-use Rattle.gi_commands.specs.Asked.{Asked, hours, match_tables, mistaken, report, simulate}
-use Rattle.gi_commands.specs.ReportWords.{kind_named, side_named}
-use Rattle.gi_commands.specs.declared.request.ReportKind.{ReportKind}
+use Rattle.gi_command_line.specs.Asked.{Asked, hours, match_tables, mistaken, report, simulate}
+use Rattle.gi_command_line.specs.ReportWords.{kind_named, side_named}
+use Rattle.gi_command_line.specs.declared.request.ReportKind.{ReportKind}
 
 -- ---- the commands and options that the program knows
 

@@ -1,11 +1,11 @@
 //! The words of a command line.
 ghost use Rattle.std.specs.Prelude.{◌≡◌, IfOk, codes, false, map, option_map};
 ghost use Rattle.clap.specs.Words.{FailsBy, app_of, first_of, found_of, rows_of, rule_of, subcommand_rows_of};
-ghost use Rattle.gi_commands.specs.Asked.{meaning};
-ghost use Rattle.gi_dispatch.specs.CommandLine.{asked, asked_of, hours_asked, objections, option as option_rule, report_asked, report_over as report_over_of, the_program, value_of as value_at, word as word_rule};
+ghost use Rattle.gi_command_line.specs.Asked.{meaning};
+ghost use Rattle.gi_command_line.specs.CommandLine.{asked, asked_of, hours_asked, objections, option as option_rule, report_asked, report_over as report_over_of, the_program, value_of as value_at, word as word_rule};
 
+use crate::request::{Book, Mistake, Report, ReportKind, Request, kind_named, side_named};
 use clap::{Arg, ArgMatches, Command, Error};
-use gi_commands::{Book, Mistake, Report, ReportKind, Request, kind_named, side_named};
 use gi_pairs::Side;
 use std::alloc::{AllocError, Global};
 use std::convert::AsStr;

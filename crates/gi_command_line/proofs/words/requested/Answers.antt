@@ -1,8 +1,8 @@
 use Rattle.std.proofs.Common.{◌≡◌, ◌∙◌, ap, sym, refl, map, List, ℕ, true}
 use Rattle.clap.specs.Words.{App, app_of, fault_of, is_simple as is_simple_app, is_simple_and_free, subcommand_of}
 use Rattle.clap.proofs.OnLiterals.{clap_on_literals}
-use Rattle.gi_dispatch.specs.CommandLine.{asked_of, the_program}
-use Rattle.gi_dispatch.proofs.command_line.requested.Goals as goal
+use Rattle.gi_command_line.specs.CommandLine.{asked_of, the_program}
+use Rattle.gi_command_line.proofs.words.requested.Goals as goal
 
 is_simple : is_simple_and_free the_program ≡ true
 unfolding clap_on_literals

@@ -1,8 +1,8 @@
 use Rattle.std.proofs.Common.{◌≡◌, ◌∙◌, ap, ap₂, codes, true}
 use Rattle.std.proofs.lemmas.Result.{IfOk-weaker}
 use Rattle.clap.specs.Words.{App, app_of, new_app, with_rule, with_subcommand}
-use Rattle.gi_dispatch.specs.CommandLine.{option, the_hours, the_report, word}
-use Rattle.gi_dispatch.proofs.command_line.commands.Goals as goal
+use Rattle.gi_command_line.specs.CommandLine.{option, the_hours, the_report, word}
+use Rattle.gi_command_line.proofs.words.commands.Goals as goal
 
 abbrev named : App
 named = let new = new_app (codes "gi_dispatch") in record new { top = record new.top { has_version = true } }

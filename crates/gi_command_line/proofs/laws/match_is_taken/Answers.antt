@@ -1,8 +1,8 @@
 use Rattle.std.proofs.Common.{◌≡◌, ap, List, [], ℕ, inl, inr}
 use Rattle.clap.proofs.OnLiterals.{clap_on_literals}
-use Rattle.gi_commands.specs.Asked.{match_tables}
-use Rattle.gi_dispatch.specs.CommandLine.{MeansMatch, asked, objections}
-use Rattle.gi_dispatch.proofs.laws.match_is_taken.Goals as goal
+use Rattle.gi_command_line.specs.Asked.{match_tables}
+use Rattle.gi_command_line.specs.CommandLine.{MeansMatch, asked, objections}
+use Rattle.gi_command_line.proofs.laws.match_is_taken.Goals as goal
 
 no_objection : (words : List (List ℕ)) → MeansMatch words → objections words ≡ []
 unfolding clap_on_literals

@@ -1,8 +1,8 @@
 -- What holds of all words.
 use Rattle.std.specs.Prelude.{◌≡◌, ℕ, List, [], ◌∷◌, codes}
 use Rattle.clap.specs.declared.error.kind.ErrorKind.TheVariants.{MissingRequiredArgument}
-use Rattle.gi_commands.specs.Asked.{hours, match_tables}
-use Rattle.gi_dispatch.specs.CommandLine.{MeansHours, MeansMatch, asked, objections}
+use Rattle.gi_command_line.specs.Asked.{hours, match_tables}
+use Rattle.gi_command_line.specs.CommandLine.{MeansHours, MeansMatch, asked, objections}
 
 -- to the program's name, alone or with the word `match`, nothing is objected, and it asks for `match`
 abbrev pub MatchIsTaken : Type 0

@@ -1,10 +1,10 @@
 -- What can be asked of the program.
 use Rattle.std.specs.Prelude.{ℕ, List, Option, None, Some}
 use Rattle.gi_pairs.specs.declared.side.Side.{Side}
-use Rattle.gi_commands.specs.declared.request.Book.{Book}
-use Rattle.gi_commands.specs.declared.request.ReportKind.{ReportKind}
-use Rattle.gi_commands.specs.declared.request.Request.{Request}
-use Rattle.gi_commands.specs.declared.request.Request.TheVariants as request
+use Rattle.gi_command_line.specs.declared.request.Book.{Book}
+use Rattle.gi_command_line.specs.declared.request.ReportKind.{ReportKind}
+use Rattle.gi_command_line.specs.declared.request.Request.{Request}
+use Rattle.gi_command_line.specs.declared.request.Request.TheVariants as request
 
 -- one of the commands; a report of this kind and side, over a script or over the book in a file, for this point; or
 -- a report in wrong words

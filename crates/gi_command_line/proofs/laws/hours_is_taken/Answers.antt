@@ -1,9 +1,9 @@
 use Rattle.std.proofs.Common.{◌≡◌, ◌∙◌, ap, codes, List, [], ◌∷◌, ℕ, inl, inr, refl}
 use Rattle.clap.proofs.OnLiterals.{clap_on_literals}
 use Rattle.clap.specs.declared.error.kind.ErrorKind.TheVariants.{MissingRequiredArgument}
-use Rattle.gi_commands.specs.Asked.{hours}
-use Rattle.gi_dispatch.specs.CommandLine.{MeansHours, asked, objections}
-use Rattle.gi_dispatch.proofs.laws.hours_is_taken.Goals as goal
+use Rattle.gi_command_line.specs.Asked.{hours}
+use Rattle.gi_command_line.specs.CommandLine.{MeansHours, asked, objections}
+use Rattle.gi_command_line.proofs.laws.hours_is_taken.Goals as goal
 
 abbrev words_of : List ℕ → List ℕ → List (List ℕ)
 words_of program day = program ∷ codes "hours" ∷ day ∷ []

@@ -1,5 +1,5 @@
 //! What holds of all words. These functions do nothing; their clauses are the laws.
-ghost use Rattle.gi_dispatch.specs.Laws.{HoursIsTaken, HoursNeedADay, MatchIsTaken};
+ghost use Rattle.gi_command_line.specs.Laws.{HoursIsTaken, HoursNeedADay, MatchIsTaken};
 
 /// The program's name, alone or with the word `match`, is a right command line, and asks for `match`.
 pub fn match_is_taken()

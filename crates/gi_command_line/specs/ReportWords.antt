@@ -3,10 +3,10 @@ use Rattle.std.specs.Prelude.{◌++◌, ℕ, List, Option, None, Some, if◌then
 use Rattle.std.specs.Str.{bytes_eq}
 use Rattle.gi_pairs.specs.declared.side.Side.{Side}
 use Rattle.gi_pairs.specs.declared.side.Side.TheVariants.{I, M}
-use Rattle.gi_commands.specs.declared.request.Mistake.{Mistake}
-use Rattle.gi_commands.specs.declared.request.Mistake.TheVariants as mistake
-use Rattle.gi_commands.specs.declared.request.ReportKind.{ReportKind}
-use Rattle.gi_commands.specs.declared.request.ReportKind.TheVariants.{Open, Confirmed, Refused}
+use Rattle.gi_command_line.specs.declared.request.Mistake.{Mistake}
+use Rattle.gi_command_line.specs.declared.request.Mistake.TheVariants as mistake
+use Rattle.gi_command_line.specs.declared.request.ReportKind.{ReportKind}
+use Rattle.gi_command_line.specs.declared.request.ReportKind.TheVariants.{Open, Confirmed, Refused}
 
 -- the kind of report that a word names, and the side
 abbrev pub kind_named : List ℕ → Option ReportKind

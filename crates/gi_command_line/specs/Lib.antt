@@ -1,0 +1,4 @@
+pub mod Asked
+pub mod ReportWords
+pub mod CommandLine
+pub mod Laws
