@@ -1,16 +1,12 @@
 -- The lesser of two tables.
 use Rattle.std.specs.Prelude.{◌≡◌, ℕ, ◌-◌, List, ◌++◌, map, filter, find, min, slice_index, not, is_some, Bool, Contains, ◌↔◌, ◌⊎◌}
 use Rattle.std.specs.List.{range_with_len}
+pub use Rattle.gi_pairs.specs.Table.{HasShapeOf}
 use Rattle.gi_pairs.specs.Table.{TableContents, IsTable, covered, in_order, is_at, keys_of, reading}
 use Rattle.gi_pairs.specs.declared.direction.Direction.{Direction}
 use Rattle.gi_pairs.specs.declared.key.Key.{Key}
 use Rattle.gi_pairs.specs.declared.pair.Pair.{Pair}
 use Rattle.gi_pairs.specs.declared.row.Row.{Row}
-
--- the two cover the same hours
-pub record HasShapeOf (own peer : TableContents) : Type 0 where
-  pub first : own.first ≡ peer.first
-  pub last : own.last ≡ peer.last
 
 -- The confirmed table has the rows of both, on the hours of both, and reads as the lower of the two everywhere
 -- (the lesser rule of Regulation (EU) 2015/703).

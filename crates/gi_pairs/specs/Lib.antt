@@ -1,9 +1,11 @@
 pub mod Code
 pub mod CodeKept
+pub mod CycleId
 pub mod Direction
 pub mod FaultText
 pub mod Key
 pub mod Limits
+pub mod Pair
 pub mod Quantity
 pub mod Row
 pub mod Side

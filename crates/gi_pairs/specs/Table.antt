@@ -3,7 +3,7 @@ use Rattle.std.specs.Prelude.{◌≡◌, ℕ, ◌+◌, ◌-◌, ◌≤◌, ◌==
 use Rattle.std.specs.List.{list_all, list_any}
 use Rattle.std.specs.List.Sorted.{IsStrictlySortedBy}
 use Rattle.std.specs.Cmp.Lexicographic.{pointwise}
-use Rattle.std.specs.Ordering.{is_eq, is_lt}
+use Rattle.std.specs.Ordering.{eq_of_both, is_eq, is_lt, on}
 use Rattle.gi_pairs.specs.Key.{key_cmp}
 use Rattle.gi_pairs.specs.Row.{key_of, row_eq, IsRow}
 use Rattle.gi_pairs.specs.declared.direction.Direction.{Direction}
@@ -19,6 +19,14 @@ pub record TableContents : Type 0 where
   pub first : ℕ
   pub last : ℕ
   pub rows : List Row
+
+-- the two cover the same hours
+pub record HasShapeOf (own peer : TableContents) : Type 0 where
+  pub first : own.first ≡ peer.first
+  pub last : own.last ≡ peer.last
+
+abbrev pub same_hours : TableContents → TableContents → Bool
+same_hours a b = nat_eq a.first b.first && nat_eq a.last b.last
 
 -- how many hours there are from first to last
 abbrev pub covered : ℕ → ℕ → ℕ
@@ -88,4 +96,4 @@ built first last rows = ok_unless (refusal first last rows) (record { first = fi
 
 -- they cover the same hours, and their rows are equal
 abbrev pub table_eq : TableContents → TableContents → Bool
-table_eq a b = nat_eq a.first b.first && nat_eq a.last b.last && pointwise row_eq a.rows b.rows
+table_eq = eq_of_both (eq_of_both (on (λ t. t.first) nat_eq) (on (λ t. t.last) nat_eq)) (on (λ t. t.rows) (pointwise row_eq))

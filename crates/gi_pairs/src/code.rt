@@ -10,6 +10,7 @@ use std::cmp::Ordering;
 use std::error::Error;
 use std::fmt;
 use std::marker::Model;
+use std::str::FromStr;
 
 /// A text that is no code.
 #[derive(Clone, Copy, Debug, PartialEq, Eq)]
@@ -95,6 +96,24 @@ impl Code {
         ensures code { IsCode self.now }
     {
         str::from_utf8(self.as_bytes()).unwrap()
+    }
+
+    /// Every code is one.
+    pub fn known(&self)
+        ensures { IsCode self.now }
+    {
+        let _ = self.as_bytes();
+    }
+}
+
+/// Reads a code as `Code::read` does.
+impl FromStr for Code {
+    type Err = CodeText;
+
+    ghost from_str_gives = { λ text result. OkIff result (IsCode text) text };
+
+    fn from_str(text: &str) -> Result<Code, CodeText> {
+        Code::read(text)
     }
 }
 

@@ -1,11 +1,27 @@
-ghost use Rattle.std.specs.Prelude.{Some};
+ghost use Rattle.std.specs.Prelude.{Some, codes};
 ghost use Rattle.std.proofs.Common.{rules};
 ghost use Rattle.std.specs.Cmp.{partial_order_from_own_ties};
 ghost use Rattle.std.specs.Cmp.Rules.{comparing};
 ghost use Rattle.std.specs.Ordering.{nat_cmp, on, as_partial_cmp};
 
 use std::cmp::Ordering;
+use std::error::Error;
 use std::fmt;
+use std::str::FromStr;
+
+/// A text that is no direction's.
+#[derive(Clone, Copy, Debug, PartialEq, Eq)]
+pub struct DirectionText;
+
+impl fmt::Display for DirectionText {
+    ghost output = { λ _. Some (codes "DirectionText") };
+
+    fn fmt<W: fmt::Write>(&self, f: &mut fmt::Formatter<W>) -> fmt::Result {
+        f.write_str("DirectionText")
+    }
+}
+
+impl Error for DirectionText {}
 
 /// The way that gas goes; `IM` comes before `MI`.
 #[derive(Clone, Copy, Debug, PartialEq, Eq)]
@@ -37,6 +53,26 @@ impl Direction {
         match self {
             Direction::IM => "IM",
             Direction::MI => "MI",
+        }
+    }
+}
+
+/// Reads `IM` or `MI`.
+impl FromStr for Direction {
+    type Err = DirectionText;
+
+    ghost use Rattle.std.specs.Prelude.{◌≡◌};
+    ghost use Rattle.std.specs.Result.{result_ok};
+    ghost use Rattle.gi_pairs.specs.Direction.{direction_named};
+
+    ghost from_str_gives = { λ text result. result_ok result ≡ direction_named text };
+
+    #[tactic(auto, unfolding(crate::specs::Direction::direction_named))]
+    fn from_str(text: &str) -> Result<Direction, DirectionText> {
+        match text {
+            "IM" => Ok(Direction::IM),
+            "MI" => Ok(Direction::MI),
+            _ => Err(DirectionText),
         }
     }
 }

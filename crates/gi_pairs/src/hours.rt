@@ -29,7 +29,7 @@ impl From<Vec<Quantity>> for Hours {
 
     fn from(quantities: Vec<Quantity>) -> Hours {
         for quantity in &quantities {
-            let _ = quantity.value();
+            quantity.known();
         }
         Hours { quantities }
     }
@@ -45,6 +45,13 @@ impl Hours {
         ensures in_range { All IsQuantity self.now }
     {
         &self.quantities
+    }
+
+    /// Every element is a quantity.
+    pub fn known(&self)
+        ensures { All IsQuantity self.now }
+    {
+        let _ = self.as_slice();
     }
 
     /// The quantities, in order, with the memory that they were given in.

@@ -13,12 +13,12 @@ mod side;
 mod table;
 
 pub use code::{Code, CodeText};
-pub use cycle_id::CycleId;
-pub use direction::Direction;
+pub use cycle_id::{CycleId, by_day_then_number};
+pub use direction::{Direction, DirectionText};
 pub use hours::Hours;
 pub use key::Key;
 pub use pair::Pair;
 pub use quantity::{Quantity, QuantityRange};
 pub use row::Row;
-pub use side::Side;
+pub use side::{Side, SideText};
 pub use table::{LAST_HOUR, MOST_PROCESSED_ROWS, MOST_ROWS, Table, TableFault};

@@ -59,4 +59,9 @@ impl Quantity {
     {
         self.value
     }
+
+    /// Every quantity is one.
+    pub fn known(self)
+        ensures { IsQuantity self }
+    {}
 }

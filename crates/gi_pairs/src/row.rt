@@ -26,13 +26,13 @@ impl Row {
         }
     }
 
-    /// Every row has codes and quantities in range.
-    pub fn in_range(&self)
+    /// Every row has codes and quantities.
+    pub fn known(&self)
         ensures { IsRow self.now }
     {
-        let _ = self.pair.initiating.as_bytes();
-        let _ = self.pair.matching.as_bytes();
-        let _ = self.hours.as_slice();
+        self.pair.initiating.known();
+        self.pair.matching.known();
+        self.hours.known();
     }
 
     /// An equal row.

@@ -1,5 +1,7 @@
-ghost use Rattle.std.specs.Prelude.{◌≡◌, ◌==◌, ◌≤◌, IfOk, find, All, length};
+ghost use Rattle.std.specs.Prelude.{◌≡◌, ◌==◌, ◌≤◌, ◌↔◌, IfOk, IsTrue, find, All, length};
+ghost use Rattle.std.proofs.Common.{rules};
 ghost use Rattle.std.specs.Bool.{OnFalse, OnTrue};
+ghost use Rattle.std.specs.Cmp.Rules.{comparing};
 ghost use Rattle.std.specs.List.{list_all};
 ghost use Rattle.std.specs.List.Sorted.{IsPermutation, IsSortedByKey, IsStrictlySortedBy};
 ghost use Rattle.std.specs.Option.{option_copied};
@@ -7,7 +9,7 @@ ghost use Rattle.gi_pairs.specs.Limits.{last_hour};
 ghost use Rattle.gi_pairs.specs.Quantity.{IsQuantity};
 ghost use Rattle.gi_pairs.specs.Row.{key_of, IsRow};
 ghost use Rattle.gi_pairs.specs.Key.{key_cmp};
-ghost use Rattle.gi_pairs.specs.Table.{IsTable, is_at, is_hour_range as is_hour_range_of, keys_of, reading, built, repeats};
+ghost use Rattle.gi_pairs.specs.Table.{HasShapeOf, IsTable, is_at, is_hour_range as is_hour_range_of, keys_of, reading, same_hours, built, repeats};
 
 use crate::direction::Direction;
 use crate::key::Key;
@@ -97,7 +99,7 @@ fn have_hours(rows: &[Row], hours: usize) -> bool
     ensures known { OnTrue result (All IsRow rows.now) }
 {
     for row in rows {
-        row.in_range();
+        row.known();
         if row.hours.as_slice().len() != hours {
             return false;
         }
@@ -202,6 +204,21 @@ impl Table {
         &self.rows
     }
 
+    /// Every table is one.
+    pub fn known(&self)
+        ensures { IsTable self.now }
+    {
+        let _ = self.rows();
+    }
+
+    /// Whether the two are for the same hours.
+    pub fn covers_same_hours(&self, other: &Table) -> bool
+        ensures value { result ≡ same_hours self.now other.now }
+        ensures shape { IsTrue result ↔ HasShapeOf self.now other.now }
+    {
+        (self.first, self.last) == (other.first, other.last)
+    }
+
     /// An equal table.
     pub fn copy(&self) -> Result<Table, AllocError>
         ensures { IfOk result (λ table. table ≡ self.now) }
@@ -212,6 +229,23 @@ impl Table {
             rows: copy_rows(&self.rows)?,
         })
     }
+}
+
+/// Two tables are equal where they cover the same hours and have equal rows.
+impl PartialEq for Table {
+    ghost use Rattle.gi_pairs.specs.Table.{table_eq};
+
+    ghost eq = { table_eq };
+
+    ghost laws = { Prim.search (comparing, rules) depth 12 };
+
+    fn eq(&self, other: &Table) -> bool {
+        self.covers_same_hours(other) && self.rows == other.rows
+    }
+}
+
+impl Eq for Table {
+    ghost laws = { Prim.search (comparing, rules) depth 12 };
 }
 
 /// Equal rows, in the same order.

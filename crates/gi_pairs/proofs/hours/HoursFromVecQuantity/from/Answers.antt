@@ -6,9 +6,8 @@ use Rattle.gi_pairs.proofs.hours.HoursFromVecQuantity.from.Goals as goal
 
 pub loop-quantity-preserved : goal.loop-quantity-preserved
 loop-quantity-preserved c =
-    let here : IsQuantity c.quantity-item.result = rw (← c.value.ensures.value) c.value.ensures.in_range in
     All-more IsQuantity c.deref-quantity-items.result.now c.loop-quantity.quantity-index c.quantity-item.result c.loop-quantity-test.true
-    c.loop-quantity.invariant (rw (← c.quantity-item.is) here)
+    c.loop-quantity.invariant (rw (← c.quantity-item.is) c.known.ensures)
 
 pub invariant_of-result : goal.invariant_of-result
 invariant_of-result c =
