@@ -109,8 +109,7 @@ impl GasDay {
     /// Every gas day lies in the years 2000 to 2199.
     pub fn known(self)
         ensures { IsGasYear self.year }
-    {
-    }
+    {}
 
     /// Every gas day lies in the years 2000 to 2199.
     pub fn in_range(self)
