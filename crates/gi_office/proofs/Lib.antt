@@ -1,0 +1,4 @@
+mod Noting
+mod Points
+mod Runs
+mod Sames

@@ -1,0 +1,65 @@
+-- A step more at the end of a life.
+use Rattle.std.proofs.Common.{◌≡◌, ◌≤◌, ◌⊎◌, inl, inr, ℕ, ◌+◌, List, [], ◌∷◌, ◌++◌, length, take, refl, sym, ap, subst, ◌∙◌, arith}
+use Rattle.std.proofs.lemmas.List.{length-append, take-append-le}
+use Rattle.gi_pairs.specs.declared.side.Side.{Side}
+use Rattle.gi_facts.specs.declared.fact.Fact.{Fact}
+use Rattle.gi_desk.specs.Laws.{HasOneMoreAtMost, OnlyAppends, RefusalsChangeNothing}
+use Rattle.gi_desk.specs.Machine.{DeskState, IsStep, after, reply}
+use Rattle.gi_desk.specs.declared.answer.Answer.TheVariants as answers
+use Rattle.gi_desk.specs.declared.refusal.Refusal.{Refusal}
+use Rattle.gi_desk.specs.declared.refusal.Refusal.TheVariants as refusals
+use Rattle.gi_desk.specs.declared.reply.Reply.{Reply}
+use Rattle.gi_desk.specs.declared.call.Call.{Call}
+use Rattle.gi_office.specs.Entering.{entered}
+use Rattle.gi_office.specs.Keeping.{HeldState, IsKept, SeatState}
+use Rattle.gi_office.specs.Lives.{IsRun, opened}
+use Rattle.gi_office.specs.declared.entry.Entry.{Entry}
+use Rattle.gi_office.proofs.Points.{keeps_point}
+
+-- one entry more
+run_more : (side : Side) (first : DeskState) (trail : List Entry) (last : DeskState) (entry : Entry) → IsRun side first trail last → entry.reply ≡ reply side last entry.call
+    → IsRun side first (trail ++ entry ∷ []) (after side last entry.call)
+run_more side first [] last entry run is = (is ∙ ap (λ s. reply side s entry.call) (sym run), ap (λ s. after side s entry.call) run)
+run_more side first (e ∷ trail) last entry run is = (run.0, run_more side (after side first e.call) trail last entry run.1 is)
+
+-- the first facts stay
+front : (n : ℕ) (old new : List Fact) → n ≤ length old → HasOneMoreAtMost old new → take n new ≡ take n old
+front n old new within more = elim more [
+  | inl same ↦ ap (λ l. take n l) same
+  | inr added ↦ ap (λ l. take n l) added.1 ∙ take-append-le n old (added.0 ∷ []) within
+]
+
+longer : (old new : List Fact) → HasOneMoreAtMost old new → length old ≤ length new
+longer old new more = elim more [
+  | inl same ↦ let e = ap (λ (l : List Fact). length l) same in omega (arith, e)
+  | inr added ↦ let e = ap (λ (l : List Fact). length l) added.1 in omega (arith, e, length-append old (added.0 ∷ []))
+]
+
+-- what the lock keeps, it keeps through a step
+pub entered_kept : OnlyAppends → (side : Side) (held : HeldState) (seat : SeatState) (call : Call) → IsKept side held → IsKept side (entered side held seat call)
+entered_kept appends side held seat call kept =
+    let more = (appends side held.desk call).0 in
+    let entry : Entry = record { seat = seat.number; call = call; reply = reply side held.desk call } in
+    let start : opened held.desk.point (take held.opening held.desk.facts) ≡ opened (after side held.desk call).point (take held.opening (after side held.desk call).facts) =
+    (λ i. opened (sym (keeps_point side held.desk call) i) (sym (front held.opening held.desk.facts (after side held.desk call).facts kept.within more) i)) in
+    record {
+      within = let e = longer held.desk.facts (after side held.desk call).facts more in let w = kept.within in omega (arith, e, w);
+      life = subst (λ s. IsRun side s (held.trail ++ entry ∷ []) (after side held.desk call)) start
+          (run_more side (opened held.desk.point (take held.opening held.desk.facts)) held.trail held.desk entry kept.life refl);
+      counted = let c = kept.counted in omega (arith, c, length-append held.trail (entry ∷ []));
+    }
+
+-- a step that is no want of memory is the machine's, and one that is refused changes nothing
+pub stepped : (side : Side) (old : DeskState) (call : Call) (r : Reply) (new : DeskState) → IsStep side old call r new → (r.answer ≡ answers.Refused refusals.OutOfMemory → ⊥)
+    → (r ≡ reply side old call) × (new ≡ after side old call)
+stepped side old call r new is other = elim is [
+  | inl by ↦ by
+  | inr short ↦ absurd (other (ap (λ (x : Reply). x.answer) short.0))
+]
+
+pub unchanged : RefusalsChangeNothing → (side : Side) (old : DeskState) (call : Call) (r : Reply) (new : DeskState) (refusal : Refusal) → IsStep side old call r new
+    → r.answer ≡ answers.Refused refusal → new ≡ old
+unchanged refuses side old call r new refusal is e = elim is [
+  | inl by ↦ by.1 ∙ (refuses side old call refusal (ap (λ (x : Reply). x.answer) (sym by.0) ∙ e)).0
+  | inr short ↦ short.1
+]

@@ -1,0 +1,28 @@
+-- Facts of one kind are equal exactly where what they are of is.
+use Rattle.std.proofs.Common.{◌≡◌, ◌↔◌, ap}
+use Rattle.gi_pairs.specs.declared.cycle_id.CycleId.{CycleId}
+use Rattle.gi_processing.specs.declared.contract.Contract.{Contract}
+use Rattle.gi_processing.specs.declared.notice.Notice.{Notice}
+use Rattle.gi_facts.specs.declared.fact.Fact.{Fact}
+use Rattle.gi_facts.specs.declared.fact.Fact.TheVariants.{Contracted, Noticed, Closed}
+
+abbrev pub contract_of : Contract → Fact → Contract
+contract_of c (Contracted contract) = contract
+contract_of c other = c
+
+abbrev pub notice_of : Notice → Fact → Notice
+notice_of n (Noticed notice) = notice
+notice_of n other = n
+
+abbrev pub cycle_of : CycleId → Fact → CycleId
+cycle_of i (Closed id) = id
+cycle_of i other = i
+
+pub contracts : (P : Type 0) (a b : Contract) → P ↔ (Contracted a ≡ Contracted b) → P ↔ (a ≡ b)
+contracts P a b same = (λ p. ap (contract_of a) (same.0 p), λ e. same.1 (ap Contracted e))
+
+pub notices : (P : Type 0) (a b : Notice) → P ↔ (Noticed a ≡ Noticed b) → P ↔ (a ≡ b)
+notices P a b same = (λ p. ap (notice_of a) (same.0 p), λ e. same.1 (ap Noticed e))
+
+pub cycles : (P : Type 0) (a b : CycleId) → P ↔ (Closed a ≡ Closed b) → P ↔ (a ≡ b)
+cycles P a b same = (λ p. ap (cycle_of a) (same.0 p), λ e. same.1 (ap Closed e))

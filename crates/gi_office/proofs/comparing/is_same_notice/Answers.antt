@@ -1,0 +1,6 @@
+use Rattle.std.specs.Prelude.{IsTrue}
+use Rattle.gi_office.proofs.Sames.{notices}
+use Rattle.gi_office.proofs.comparing.is_same_notice.Goals as goal
+
+pub returns : goal.returns
+returns c = notices (IsTrue c.is_same_fact.result) c.args.notice.now c.args.other.now c.is_same_fact.ensures

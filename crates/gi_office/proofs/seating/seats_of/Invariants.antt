@@ -1,0 +1,11 @@
+use Rattle.std.proofs.Common.{◌≡◌, ◌+◌, ◌-◌, map}
+use Rattle.std.specs.List.{range_with_len}
+use Rattle.gi_office.specs.Opening.{new_seat}
+use Rattle.gi_office.proofs.seating.seats_of.Given as goal
+
+abbrev pub invariant-loop-number : goal.invariant-loop-number
+invariant-loop-number g l = record {
+  parts : l.rest.parts + l.number ≡ 17;
+  none : l.rest.amount ≡ 0;
+  seats : l.seats.items ≡ map (new_seat 1) (range_with_len 1 (l.number - 1));
+}

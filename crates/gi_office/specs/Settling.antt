@@ -1,0 +1,85 @@
+-- How the lists of the seats stand to the trail.
+use Rattle.std.specs.Prelude.{◌≡◌, ◌≢◌, ◌≤◌, ℕ, ◌+◌, ◌-◌, List, [], ◌∷◌, length, map, sum, take, slice_get, find, Bool, nat_eq, if◌then◌else◌, Option, None, Some, option_map, MatchOption, Result, Ok, Err}
+use Rattle.gi_pairs.specs.declared.side.Side.{Side}
+use Rattle.gi_desk.specs.Machine.{DeskState}
+use Rattle.gi_office.specs.Keeping.{HeldState, IsKept, SeatState, life_of}
+use Rattle.gi_office.specs.Lives.{IsLegal, Life}
+use Rattle.gi_office.specs.declared.entry.Entry.{Entry}
+use Rattle.gi_office.specs.declared.note.Note.{Note}
+use Rattle.gi_office.specs.declared.unsettled.Unsettled.{Unsettled}
+
+-- an entry as its seat notes it
+abbrev pub note_of : ℕ → Entry → Note
+note_of place entry = record { place = place; call = entry.call; reply = entry.reply }
+
+-- the entries of a seat, in order, each once and with its place; the first entry has the place given
+abbrev pub notes_from : ℕ → ℕ → List Entry → List Note
+notes_from place number [] = []
+notes_from place number (entry ∷ later) =
+    if nat_eq entry.seat number then note_of place entry ∷ notes_from (place + 1) number later
+    else notes_from (place + 1) number later
+
+abbrev pub notes_of : ℕ → List Entry → List Note
+notes_of number trail = notes_from 1 number trail
+
+abbrev pub has_number : ℕ → SeatState → Bool
+has_number number seat = nat_eq seat.number number
+
+-- the list of the seat with this number, where it is handed over
+abbrev pub notes_at : ℕ → List SeatState → Option (List Note)
+notes_at number handed = option_map (λ seat. seat.notes) (find (has_number number) handed)
+
+-- each of the first so many seats is there, and its list is the entries of the seat
+abbrev pub AreSettled : ℕ → List Entry → List SeatState → Type 0
+AreSettled seats trail handed = (number : ℕ) → 1 ≤ number → number ≤ seats → notes_at number handed ≡ Some (notes_of number trail)
+
+-- two lists are alike before a place, from 1, and differ there
+pub record DiffersAt (place : ℕ) (notes entries : List Note) : Type 0 where
+  pub some : 1 ≤ place
+  pub alike : take (place - 1) notes ≡ take (place - 1) entries
+  pub other : slice_get notes (place - 1) ≢ slice_get entries (place - 1)
+
+-- how one seat's list differs: it is not there, which is place 0, or there is a first place
+abbrev pub Differs : List Entry → List SeatState → Unsettled → Type 0
+Differs trail handed fault = MatchOption (notes_at fault.seat handed) (fault.place ≡ 0) (λ notes. DiffersAt fault.place notes (notes_of fault.seat trail))
+
+-- the first difference, by seat and then by place
+pub record IsUnsettled (seats : ℕ) (trail : List Entry) (handed : List SeatState) (fault : Unsettled) : Type 0 where
+  pub some : 1 ≤ fault.seat
+  pub within : fault.seat ≤ seats
+  pub before : AreSettled (fault.seat - 1) trail handed
+  pub differs : Differs trail handed fault
+
+-- Lives of one desk, one after the other: each is legal, and the desk is the end of the last one.
+abbrev pub AreLegal : Side → List Life → DeskState → Type 0
+AreLegal side [] end = ⊥
+AreLegal side (life ∷ []) end = IsLegal side life end
+AreLegal side (life ∷ next ∷ later) end = ((s : DeskState) × IsLegal side life s) × AreLegal side (next ∷ later) end
+
+-- what is left of an office once all its seats came back: its lives, and its desk
+pub record SettledState : Type 0 where
+  pub lives : List Life
+  pub desk : DeskState
+
+abbrev pub settled_of : HeldState → SettledState
+settled_of held = record { lives = life_of held ∷ []; desk = held.desk }
+
+-- an office settles exactly where every list is the trail's; else the first difference is told
+abbrev pub Settles : HeldState → List SeatState → Result SettledState Unsettled → Type 0
+Settles held handed (Ok settled) = (settled ≡ settled_of held) × AreSettled held.seats held.trail handed
+Settles held handed (Err fault) = IsUnsettled held.seats held.trail handed fault
+
+-- the same of what the lock kept
+abbrev pub SettlesKept : Side → List SeatState → Result SettledState Unsettled → Type 0
+SettlesKept side handed result = (held : HeldState) × IsKept side held × Settles held handed result
+
+-- how many calls the seats noted, and how many parts of the ledger they have
+abbrev pub noted_by : List SeatState → ℕ
+noted_by handed = sum (map (λ seat. length seat.notes) handed)
+
+abbrev pub parts_of : List SeatState → ℕ
+parts_of handed = sum (map (λ seat. seat.parts) handed)
+
+-- the seats have all parts of a ledger, so none is missing
+abbrev pub AreAll : ℕ → List SeatState → Type 0
+AreAll parts handed = (1 ≤ parts) × (parts_of handed ≡ parts)

@@ -1,0 +1,102 @@
+//! Whether what a seat noted is what stands in the trail.
+
+ghost use Rattle.std.specs.Prelude.{◌≡◌, ◌↔◌, IsTrue, Some, slice_get};
+ghost use Rattle.gi_office.specs.Settling.{note_of};
+
+use crate::entry::Entry;
+use crate::note::Note;
+use gi_desk::{Call, Fact, Packet, Reply};
+use gi_facts::same_facts_are_equal;
+use gi_pairs::CycleId;
+use gi_processing::{Contract, Notice};
+
+/// Whether two facts are equal.
+pub(crate) fn is_same_fact(fact: &Fact, other: &Fact) -> bool
+    ensures { IsTrue result ↔ (fact.now ≡ other.now) }
+{
+    same_facts_are_equal();
+    fact.is(other)
+}
+
+/// Whether two contracts are equal.
+fn is_same_contract(contract: &Contract, other: &Contract) -> bool
+    ensures { IsTrue result ↔ (contract.now ≡ other.now) }
+{
+    is_same_fact(&Fact::Contracted(*contract), &Fact::Contracted(*other))
+}
+
+/// Whether two notices are equal.
+fn is_same_notice(notice: &Notice, other: &Notice) -> bool
+    ensures { IsTrue result ↔ (notice.now ≡ other.now) }
+{
+    is_same_fact(&Fact::Noticed(*notice), &Fact::Noticed(*other))
+}
+
+/// Whether two cycles are the same.
+fn is_same_cycle(id: &CycleId, other: &CycleId) -> bool
+    ensures { IsTrue result ↔ (id.now ≡ other.now) }
+{
+    is_same_fact(&Fact::Closed(*id), &Fact::Closed(*other))
+}
+
+/// Whether two calls are equal.
+fn is_same_call(call: &Call, other: &Call) -> bool
+    ensures { IsTrue result ↔ (call.now ≡ other.now) }
+{
+    match (call, other) {
+        (Call::Contract(a), Call::Contract(b)) => is_same_contract(a, b),
+        (Call::Notice(a), Call::Notice(b)) => is_same_notice(a, b),
+        (Call::Submit(a), Call::Submit(b)) => a.as_slice() == b.as_slice(),
+        (Call::Close(a), Call::Close(b)) => is_same_cycle(a, b),
+        (Call::Deliver(a), Call::Deliver(b)) => a.as_slice() == b.as_slice(),
+        (Call::Resend(a), Call::Resend(b)) => is_same_cycle(a, b),
+        (Call::MarkSaved { n: a, fact }, Call::MarkSaved { n: b, fact: other }) => {
+            a == b && is_same_fact(fact, other)
+        }
+        (Call::Halt, Call::Halt) => true,
+        _ => false,
+    }
+}
+
+/// Whether two packets are equal.
+fn is_same_packet(packet: &Packet, other: &Packet) -> bool
+    ensures { IsTrue result ↔ (packet.now ≡ other.now) }
+{
+    packet.to == other.to && packet.body.as_slice() == other.body.as_slice()
+}
+
+/// Whether the packets are equal, one by one.
+fn are_same_packets(packets: &[Packet], others: &[Packet]) -> bool
+    ensures { IsTrue result ↔ (packets.now ≡ others.now) }
+{
+    if packets.len() != others.len() {
+        return false;
+    }
+    for i in 0..packets.len() {
+        if !is_same_packet(&packets[i], &others[i]) {
+            return false;
+        }
+    }
+    true
+}
+
+/// Whether two replies are equal.
+fn is_same_reply(reply: &Reply, other: &Reply) -> bool
+    ensures { IsTrue result ↔ (reply.now ≡ other.now) }
+{
+    reply.answer == other.answer && are_same_packets(reply.out.as_slice(), other.out.as_slice())
+}
+
+/// Whether the note at an index is that of the entry at the place.
+pub(crate) fn is_noted(notes: &[Note], index: usize, place: u64, entry: &Entry) -> bool
+    ensures { IsTrue result ↔ (slice_get notes.now index ≡ Some (note_of place entry.now)) }
+{
+    match notes.get(index) {
+        Some(note) => {
+            note.place == place
+                && is_same_call(&note.call, &entry.call)
+                && is_same_reply(&note.reply, &entry.reply)
+        }
+        None => false,
+    }
+}

@@ -1,0 +1,183 @@
+ghost use Rattle.std.specs.Prelude.{◌≡◌, ◌≤◌, ◌+◌, ◌↔◌, [], ◌∷◌, Err, IfOk, OnErr, OnOk, false, length};
+ghost use Rattle.gi_desk.specs.Machine.{reply as reply_of};
+ghost use Rattle.gi_office.specs.Entering.{entered, noted, receipt_of};
+ghost use Rattle.gi_office.specs.Keeping.{IsFull, IsKept};
+ghost use Rattle.gi_office.specs.Limits.{most_seats};
+ghost use Rattle.gi_office.specs.Opening.{new_held, new_seats};
+ghost use Rattle.gi_office.specs.Settling.{AreAll, Settles, noted_by};
+
+use crate::copying::reply_copy;
+use crate::entry::Entry;
+use crate::note::Note;
+use crate::office_fault::OfficeFault;
+use crate::open_fault::OpenFault;
+use crate::receipt::Receipt;
+use crate::seat::{MOST_NOTES, Seat};
+use crate::seating::seats_of;
+use crate::settled::Settled;
+use crate::settling::{first_fault, merge};
+use crate::unsettled::Unsettled;
+use gi_desk::{Answer, Call, Desk, Refusal, Reply, Role, only_appends, refusals_change_nothing};
+use std::alloc::{AllocError, Global};
+use std::marker::Model;
+use std::sync::ledger::{Blank, Book, Ledger};
+
+/// How many seats an office has at most.
+pub const MOST_SEATS: usize = 16;
+
+/// What the lock of an office keeps: the desk, and the trail of all calls since it was opened.
+#[derive(Drop)]
+pub struct Held<R: Role, L: Ledger> {
+    alloc: Global,
+    /// How many facts the desk was opened with.
+    opening: u32,
+    seats: u8,
+    desk: Desk<R>,
+    trail: Vec<Entry>,
+    /// Counts the entries of the trail.
+    book: Book<L>,
+}
+
+impl<R: Role, L: Ledger> Model for Held<R, L> {
+    ghost use Rattle.gi_office.specs.Keeping.{HeldState, IsKept};
+
+    ghost Value = { HeldState };
+
+    ghost view = { λ h. record { opening = h.opening; seats = h.seats; desk = h.desk; trail = h.trail.items; total = h.book.total } };
+
+    ghost invariant = { λ h. IsKept R.SIDE (record { opening = h.opening; seats = h.seats; desk = h.desk; trail = h.trail.items; total = h.book.total }) };
+}
+
+impl<R: Role, L: Ledger> Held<R, L> {
+    /// A desk that is not halted and whose facts are all saved, with so many seats, from 1 to 16, else
+    /// `SeatCount`; then `OutOfMemory`. It opens the ledger and splits it by seat.
+    pub fn open(
+        alloc: Global,
+        blank: Blank,
+        desk: Desk<R>,
+        seats: usize,
+    ) -> Result<(Held<R, L>, Vec<Seat<L>>), OpenFault>
+        requires name { blank.name ≡ L.name }
+        requires whole { blank.parts ≡ L.parts }
+        requires parts { blank.parts ≡ 16 }
+        requires saved { desk.saved ≡ length desk.facts }
+        requires runs { desk.halted ≡ false }
+        ensures refused { (result ≡ Err OpenFault.SeatCount) ↔ ¬ ((1 ≤ seats) × (seats ≤ most_seats)) }
+        ensures held { IfOk result (λ office. office.0 ≡ new_held desk seats) }
+        ensures seats { IfOk result (λ office. office.1.items ≡ new_seats seats) }
+    {
+        if seats < 1 || MOST_SEATS < seats {
+            return Err(OpenFault::SeatCount);
+        }
+        let (book, share) = blank.open::<L>();
+        let places = seats_of(alloc, share, seats as u8)?;
+        let held = Held {
+            alloc,
+            opening: desk.len(),
+            seats: seats as u8,
+            desk,
+            trail: Vec::new(alloc),
+            book,
+        };
+        Ok((held, places))
+    }
+
+    /// The facts that the desk was opened with and the calls since then are a legal life, of which
+    /// the desk is the end; and the ledger counts the calls.
+    pub fn is_legal(&self)
+        ensures { IsKept R.SIDE self.now }
+    {
+        let _ = self.trail.len();
+    }
+
+    /// What the desk would reply.
+    fn foresee(&self, call: &Call) -> Result<Reply, AllocError>
+        ensures { IfOk result (λ reply. reply ≡ reply_of R.SIDE self.now.desk call.now) }
+    {
+        let reply = self.desk.foresee(call);
+        if reply.answer == Answer::Refused(Refusal::OutOfMemory) {
+            return Err(AllocError);
+        }
+        Ok(reply)
+    }
+
+    /// The call as the trail gets it, and as its seat notes it.
+    fn written(&self, number: u8, call: Call) -> Result<(Entry, Note), AllocError>
+        ensures entry { IfOk result (λ both. both.0 ≡ record { seat = number; call = call; reply = reply_of R.SIDE self.now.desk call }) }
+        ensures note { IfOk result (λ both. both.1 ≡ record { place = length self.now.trail + 1; call = call; reply = reply_of R.SIDE self.now.desk call }) }
+    {
+        let reply = self.foresee(&call)?;
+        let note = Note {
+            place: self.trail.len() as u64 + 1,
+            call: call.copy()?,
+            reply: reply_copy(self.alloc, &reply)?,
+        };
+        let entry = Entry {
+            seat: number,
+            call,
+            reply,
+        };
+        Ok((entry, note))
+    }
+
+    /// Makes one step of the desk, which is one entry of the trail and one note of the seat; each is
+    /// counted. A refusal of the desk is an entry like any other reply, but for want of memory: then,
+    /// or where a copy or its place is refused, `OutOfMemory` comes and all is as before. `SeatFull`
+    /// comes first, exactly where the seat has noted 4,000,000 calls.
+    pub fn enter(&mut self, seat: &mut Seat<L>, call: Call) -> Result<Receipt, OfficeFault>
+        ensures full { (result ≡ Err OfficeFault.SeatFull) ↔ IsFull seat.old }
+        ensures receipt { IfOk result (λ receipt. receipt ≡ receipt_of R.SIDE self.old seat.old call) }
+        ensures held { OnOk result (self.new ≡ entered R.SIDE self.old seat.old call) }
+        ensures seat { IfOk result (λ receipt. seat.new ≡ noted seat.old call receipt) }
+        ensures kept { OnErr result ((self.new ≡ self.old) × (seat.new ≡ seat.old)) }
+    {
+        if seat.notes.len() >= MOST_NOTES {
+            return Err(OfficeFault::SeatFull);
+        }
+        only_appends();
+        refusals_change_nothing();
+        let (entry, note) = self.written(seat.number, call)?;
+        self.trail.reserve(1)?;
+        seat.notes.reserve(1)?;
+        let reply = self.desk.step(&entry.call);
+        if reply.answer == Answer::Refused(Refusal::OutOfMemory) {
+            return Err(OfficeFault::OutOfMemory);
+        }
+        let receipt = Receipt {
+            seat: seat.number,
+            place: note.place,
+            reply,
+        };
+        self.trail.push_reserved(entry);
+        seat.notes.push_reserved(note);
+        self.book.add(&mut seat.share, 1);
+        Ok(receipt)
+    }
+
+    /// Takes the office apart. `Ok` exactly where the list of each seat is the trail's entries of the
+    /// seat, in order, each once and with its place; else the first difference. It merges the shares,
+    /// and takes no memory.
+    pub fn settle(self, seats: Vec<Seat<L>>) -> Result<Settled<R>, Unsettled>
+        ensures settles { Settles self seats.items result }
+        ensures counted { AreAll L.parts seats.items → noted_by seats.items ≡ length self.trail }
+    {
+        let unsettled = first_fault(self.seats, &seats, &self.trail);
+        let Held {
+            alloc: _,
+            opening,
+            seats: _,
+            desk,
+            trail,
+            book,
+        } = self;
+        merge(book, seats);
+        match unsettled {
+            Some(fault) => Err(fault),
+            None => Ok(Settled {
+                opening,
+                trail,
+                desk,
+            }),
+        }
+    }
+}

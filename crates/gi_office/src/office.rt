@@ -1,0 +1,181 @@
+ghost use Rattle.std.specs.Prelude.{◌≡◌, ◌≤◌, ◌↔◌, IfOk, false, length};
+ghost use Rattle.gi_office.specs.Entering.{IsAnswered};
+ghost use Rattle.gi_office.specs.Limits.{most_seats};
+ghost use Rattle.gi_office.specs.Opening.{new_seats};
+ghost use Rattle.gi_office.specs.Settling.{SettlesKept};
+ghost use Rattle.gi_desk.specs.declared.call.Call.TheVariants as calls;
+
+use crate::held::Held;
+use crate::office_fault::OfficeFault;
+use crate::open_fault::OpenFault;
+use crate::receipt::Receipt;
+use crate::seat::Seat;
+use crate::settled::Settled;
+use crate::unsettled::Unsettled;
+use gi_desk::{Body, Call, Desk, Role};
+use gi_pairs::CycleId;
+use gi_processing::{Contract, Notice};
+use std::alloc::Global;
+use std::sync::ledger::{Blank, Ledger};
+use std::sync::{Condvar, Mutex, Wait};
+
+/// An operator's desk that several threads call, each from a seat of its own.
+#[derive(Drop)]
+pub struct Office<R: Role, L: Ledger> {
+    held: Mutex<Held<R, L>>,
+    /// Is told of each fact that is saved, and of a halt.
+    changed: Condvar,
+}
+
+/// Makes the call from the seat on what a lock gave.
+fn asked<R: Role, L: Ledger>(
+    held: &mut Held<R, L>,
+    seat: &mut Seat<L>,
+    call: Call,
+) -> Result<Receipt, OfficeFault>
+    ensures { IsAnswered R.SIDE seat.old call result seat.new }
+{
+    held.is_legal();
+    held.enter(seat, call)
+}
+
+impl<R: Role, L: Ledger> Office<R, L> {
+    /// Opens an office over a desk that is not halted and whose facts are all saved, with so many
+    /// seats, from 1 to 16, else `SeatCount`; then `OutOfMemory`.
+    pub fn new(
+        alloc: Global,
+        blank: Blank,
+        desk: Desk<R>,
+        seats: usize,
+    ) -> Result<(Office<R, L>, Vec<Seat<L>>), OpenFault>
+        requires name { blank.name ≡ L.name }
+        requires whole { blank.parts ≡ L.parts }
+        requires parts { blank.parts ≡ 16 }
+        requires saved { desk.saved ≡ length desk.facts }
+        requires runs { desk.halted ≡ false }
+        ensures refused { (result ≡ Err OpenFault.SeatCount) ↔ ¬ ((1 ≤ seats) × (seats ≤ most_seats)) }
+        ensures seats { IfOk result (λ office. office.1.items ≡ new_seats seats) }
+    {
+        let (held, seats) = Held::open(alloc, blank, desk, seats)?;
+        let office = Office {
+            held: Mutex::new(held),
+            changed: Condvar::new(),
+        };
+        Ok((office, seats))
+    }
+
+    /// Takes the lock and makes one call, which `Held::enter` answers.
+    fn ask<W: Wait>(
+        &self,
+        rt: &W,
+        seat: Seat<L>,
+        call: Call,
+    ) -> (Seat<L>, Result<Receipt, OfficeFault>)
+        ensures { IsAnswered R.SIDE seat call result.1 result.0 }
+    {
+        let mut seat = seat;
+        let answer = asked(&mut *self.held.lock(rt), &mut seat, call);
+        (seat, answer)
+    }
+
+    /// Takes a shipper's nomination. `SeatFull`, exactly where the seat is full, and `OutOfMemory`
+    /// leave office and seat as they were. The refusals of the other six calls are the same.
+    pub fn submit<W: Wait>(
+        &self,
+        rt: &W,
+        seat: Seat<L>,
+        body: Body,
+    ) -> (Seat<L>, Result<Receipt, OfficeFault>)
+        ensures { IsAnswered R.SIDE seat (calls.Submit body) result.1 result.0 }
+    {
+        self.ask(rt, seat, Call::Submit(body))
+    }
+
+    /// Takes the peer's message.
+    pub fn deliver<W: Wait>(
+        &self,
+        rt: &W,
+        seat: Seat<L>,
+        body: Body,
+    ) -> (Seat<L>, Result<Receipt, OfficeFault>)
+        ensures { IsAnswered R.SIDE seat (calls.Deliver body) result.1 result.0 }
+    {
+        self.ask(rt, seat, Call::Deliver(body))
+    }
+
+    /// Closes a cycle.
+    pub fn close_cycle<W: Wait>(
+        &self,
+        rt: &W,
+        seat: Seat<L>,
+        id: CycleId,
+    ) -> (Seat<L>, Result<Receipt, OfficeFault>)
+        ensures { IsAnswered R.SIDE seat (calls.Close id) result.1 result.0 }
+    {
+        self.ask(rt, seat, Call::Close(id))
+    }
+
+    /// Lets out again what a cycle let out.
+    pub fn resend<W: Wait>(
+        &self,
+        rt: &W,
+        seat: Seat<L>,
+        id: CycleId,
+    ) -> (Seat<L>, Result<Receipt, OfficeFault>)
+        ensures { IsAnswered R.SIDE seat (calls.Resend id) result.1 result.0 }
+    {
+        self.ask(rt, seat, Call::Resend(id))
+    }
+
+    /// Records a contract.
+    pub fn contract<W: Wait>(
+        &self,
+        rt: &W,
+        seat: Seat<L>,
+        contract: Contract,
+    ) -> (Seat<L>, Result<Receipt, OfficeFault>)
+        ensures { IsAnswered R.SIDE seat (calls.Contract contract) result.1 result.0 }
+    {
+        self.ask(rt, seat, Call::Contract(contract))
+    }
+
+    /// Records a notice.
+    pub fn notice<W: Wait>(
+        &self,
+        rt: &W,
+        seat: Seat<L>,
+        notice: Notice,
+    ) -> (Seat<L>, Result<Receipt, OfficeFault>)
+        ensures { IsAnswered R.SIDE seat (calls.Notice notice) result.1 result.0 }
+    {
+        self.ask(rt, seat, Call::Notice(notice))
+    }
+
+    /// Halts the desk, and wakes all that wait for it.
+    pub fn halt<W: Wait>(&self, rt: &W, seat: Seat<L>) -> (Seat<L>, Result<Receipt, OfficeFault>)
+        ensures { IsAnswered R.SIDE seat calls.Halt result.1 result.0 }
+    {
+        let answered = self.ask(rt, seat, Call::Halt);
+        self.changed.notify_all();
+        answered
+    }
+
+    /// Takes the office apart, as `Held::settle` says of what the lock kept.
+    pub fn settle(self, seats: Vec<Seat<L>>) -> Result<Settled<R>, Unsettled>
+        ensures { SettlesKept R.SIDE seats.items result }
+    {
+        let Office { held, changed: _ } = self;
+        taken_apart(held.into_inner(), seats)
+    }
+}
+
+/// Settles what a lock kept.
+fn taken_apart<R: Role, L: Ledger>(
+    held: Held<R, L>,
+    seats: Vec<Seat<L>>,
+) -> Result<Settled<R>, Unsettled>
+    ensures { SettlesKept R.SIDE seats.items result }
+{
+    held.is_legal();
+    held.settle(seats)
+}
