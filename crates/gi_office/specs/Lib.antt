@@ -5,3 +5,4 @@ pub mod Limits
 pub mod Lives
 pub mod Opening
 pub mod Settling
+pub mod Waiting

@@ -1,10 +1,11 @@
-ghost use Rattle.std.specs.Prelude.{◌≡◌, ◌≤◌, ◌+◌, ◌↔◌, [], ◌∷◌, Err, IfOk, OnErr, OnOk, false, length};
+ghost use Rattle.std.specs.Prelude.{◌≡◌, ◌≢◌, IfSome, ◌≤◌, ◌+◌, ◌↔◌, [], ◌∷◌, Err, IfOk, OnErr, OnOk, false, length};
 ghost use Rattle.gi_desk.specs.Machine.{reply as reply_of};
 ghost use Rattle.gi_office.specs.Entering.{entered, noted, receipt_of};
 ghost use Rattle.gi_office.specs.Keeping.{IsFull, IsKept};
 ghost use Rattle.gi_office.specs.Limits.{most_seats};
 ghost use Rattle.gi_office.specs.Opening.{new_held, new_seats};
 ghost use Rattle.gi_office.specs.Settling.{AreAll, Settles, noted_by};
+ghost use Rattle.gi_office.specs.Waiting.{waited_for};
 
 use crate::copying::reply_copy;
 use crate::entry::Entry;
@@ -17,6 +18,7 @@ use crate::seating::seats_of;
 use crate::settled::Settled;
 use crate::settling::{first_fault, merge};
 use crate::unsettled::Unsettled;
+use crate::waited::Waited;
 use gi_desk::{Answer, Call, Desk, Refusal, Reply, Role, only_appends, refusals_change_nothing};
 use std::alloc::{AllocError, Global};
 use std::marker::Model;
@@ -152,6 +154,20 @@ impl<R: Role, L: Ledger> Held<R, L> {
         seat.notes.push_reserved(note);
         self.book.add(&mut seat.share, 1);
         Ok(receipt)
+    }
+
+    /// What became of fact number `n`; nothing while it may still be saved.
+    pub fn waited(&self, n: u32) -> Option<Waited>
+        ensures value { result ≡ waited_for self.now.desk n }
+        ensures known { IfSome result (λ waited. waited ≢ Waited.NoFact) }
+    {
+        if self.desk.acknowledged(n) {
+            return Some(Waited::Saved);
+        }
+        if self.desk.halted() {
+            return Some(Waited::Stopped);
+        }
+        None
     }
 
     /// Takes the office apart. `Ok` exactly where the list of each seat is the trail's entries of the

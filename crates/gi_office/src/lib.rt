@@ -1,4 +1,36 @@
-//! An operator's office.
+//! An operator's office: one desk (`gi_desk`) under a lock, which several threads call, each from a
+//! seat of its own; and the trail of all calls, in which each caller finds its own afterwards.
+//!
+//! ```text
+//!   thread 1 ── seat 1 ──┐            ┌ lock ─────────────────────────────────────┐
+//!   thread 2 ── seat 2 ──┼─ submit.. ─│ desk ── step ── reply                     │
+//!   thread 3 ── seat 3 ──┘            │ trail: (seat, call, reply) (seat, call, ..│
+//!                                     └───────────────────────────────────────────┘
+//!   each seat: its own (place, call, reply) ..        settle: the two agree, or where first not
+//! ```
+//!
+//! Whoever drives an office has these duties: to keep each seat to one thread at a time (a call takes
+//! it and gives it back); to send what a reply lets out, and nothing else; and at the end to hand all
+//! seats back to [`Office::settle`].
+//!
+//! ```text
+//! let (office, mut seats) = Office::new(alloc, blank, desk, 2)?;
+//! let seat = seats.pop().unwrap();
+//! let (seat, answer) = office.submit(&rt, seat, body);
+//! let receipt = answer?;                       // its place in the trail, and the desk's reply
+//! send(receipt.reply.out);
+//! seats.push(seat)?;
+//! let settled = office.settle(seats)?;         // each reply is the desk's at its place in one life
+//! report(settled.desk());
+//! ```
+//!
+//! An office is opened from a blank ledger of 16 parts in a function over `L: Ledger`, so a seat of
+//! another office is of another type. A call that waits for the lock returns once it has it; nothing
+//! is said of who comes first.
+//!
+//! Begin with [`Held`], which says what one call does, then [`Office`], which takes the lock for it;
+//! [`Seat`], [`Entry`], [`Note`] and [`Receipt`] are what a call leaves. [`Unsettled`] tells where a
+//! seat and the trail differ.
 #![tactic(auto)]
 
 mod comparing;
@@ -15,6 +47,7 @@ mod seating;
 mod settled;
 mod settling;
 mod unsettled;
+mod waited;
 
 pub use entry::Entry;
 pub use held::{Held, MOST_SEATS};
@@ -26,3 +59,4 @@ pub use receipt::Receipt;
 pub use seat::{MOST_NOTES, Seat};
 pub use settled::Settled;
 pub use unsettled::Unsettled;
+pub use waited::Waited;

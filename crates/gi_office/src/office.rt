@@ -1,8 +1,9 @@
-ghost use Rattle.std.specs.Prelude.{◌≡◌, ◌≤◌, ◌↔◌, IfOk, false, length};
+ghost use Rattle.std.specs.Prelude.{◌≡◌, ◌≢◌, ◌≤◌, ◌↔◌, IfOk, None, false, length};
 ghost use Rattle.gi_office.specs.Entering.{IsAnswered};
 ghost use Rattle.gi_office.specs.Limits.{most_seats};
 ghost use Rattle.gi_office.specs.Opening.{new_seats};
 ghost use Rattle.gi_office.specs.Settling.{SettlesKept};
+ghost use Rattle.gi_office.specs.Waiting.{number_in};
 ghost use Rattle.gi_desk.specs.declared.call.Call.TheVariants as calls;
 
 use crate::held::Held;
@@ -12,7 +13,8 @@ use crate::receipt::Receipt;
 use crate::seat::Seat;
 use crate::settled::Settled;
 use crate::unsettled::Unsettled;
-use gi_desk::{Body, Call, Desk, Role};
+use crate::waited::Waited;
+use gi_desk::{Answer, Body, Call, Desk, Role};
 use gi_pairs::CycleId;
 use gi_processing::{Contract, Notice};
 use std::alloc::Global;
@@ -25,6 +27,16 @@ pub struct Office<R: Role, L: Ledger> {
     held: Mutex<Held<R, L>>,
     /// Is told of each fact that is saved, and of a halt.
     changed: Condvar,
+}
+
+/// The number of the fact that an answer is of.
+fn number_of(answer: &Answer) -> Option<u32>
+    ensures { result ≡ number_in answer.now }
+{
+    match answer {
+        Answer::Recorded { n } | Answer::Repeat { n } => Some(*n),
+        _ => None,
+    }
 }
 
 /// Makes the call from the seat on what a lock gave.
@@ -158,6 +170,32 @@ impl<R: Role, L: Ledger> Office<R, L> {
         let answered = self.ask(rt, seat, Call::Halt);
         self.changed.notify_all();
         answered
+    }
+
+    /// Waits until fact number `n` is saved or the desk is halted.
+    fn wait_for<W: Wait>(&self, rt: &W, n: u32) -> Waited
+        ensures { result ≢ Waited.NoFact }
+    {
+        let mut held = self.held.lock(rt);
+        for _ in rt.forever() {
+            if let Some(waited) = held.waited(n) {
+                return waited;
+            }
+            held = self.changed.wait(rt, held);
+        }
+        unreachable!()
+    }
+
+    /// Waits until the fact of the receipt is saved or the desk is halted; `Saved` where both hold.
+    /// `NoFact` at once where the receipt's answer is neither `Recorded` nor `Repeat`. It looks at
+    /// the fact's number alone, whichever office gave the receipt.
+    pub fn wait_saved<W: Wait>(&self, rt: &W, receipt: &Receipt) -> Waited
+        ensures { (result ≡ Waited.NoFact) ↔ (number_in receipt.now.reply.answer ≡ None) }
+    {
+        match number_of(&receipt.reply.answer) {
+            Some(n) => self.wait_for(rt, n),
+            None => Waited::NoFact,
+        }
     }
 
     /// Takes the office apart, as `Held::settle` says of what the lock kept.
