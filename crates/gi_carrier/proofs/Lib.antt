@@ -1,1 +1,1 @@
-mod CarrierLaws
+pub mod CarrierLaws

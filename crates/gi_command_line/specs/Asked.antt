@@ -1,7 +1,7 @@
 -- What can be asked of the program.
 use Rattle.std.specs.Prelude.{ℕ, List, Option, None, Some}
 use Rattle.gi_pairs.specs.declared.side.Side.{Side}
-use Rattle.gi_command_line.specs.declared.request.Book.{Book}
+use Rattle.gi_command_line.specs.declared.request.BookFile.{BookFile}
 use Rattle.gi_command_line.specs.declared.request.ReportKind.{ReportKind}
 use Rattle.gi_command_line.specs.declared.request.Request.{Request}
 use Rattle.gi_command_line.specs.declared.request.Request.TheVariants as request
@@ -16,7 +16,7 @@ pub data Asked : Type 0 where
   mistaken : Asked
 
 -- what a request asks for
-abbrev pub book_of : Option Book → Option (List ℕ × List ℕ)
+abbrev pub book_of : Option BookFile → Option (List ℕ × List ℕ)
 book_of None = None
 book_of (Some book) = Some (book.file.now, book.point.now)
 

@@ -4,9 +4,10 @@ use Rattle.std.specs.Str.{bytes_eq}
 use Rattle.clap.specs.Words.{App, IsAmong, Kinds, Row, Rule, fault_of, first_of, new_app, new_rule, subcommand_of, with_rule, with_subcommand}
 use Rattle.clap.specs.declared.error.kind.ErrorKind.{ErrorKind}
 use Rattle.clap.specs.declared.error.kind.ErrorKind.TheVariants.{DisplayHelp, DisplayVersion}
+use Rattle.gi_pairs.specs.Side.{side_named}
 use Rattle.gi_pairs.specs.declared.side.Side.{Side}
 use Rattle.gi_command_line.specs.Asked.{Asked, hours, match_tables, mistaken, report, simulate}
-use Rattle.gi_command_line.specs.ReportWords.{kind_named, side_named}
+use Rattle.gi_command_line.specs.ReportWords.{kind_named}
 use Rattle.gi_command_line.specs.declared.request.ReportKind.{ReportKind}
 
 -- ---- the commands and options that the program knows

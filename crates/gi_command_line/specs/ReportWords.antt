@@ -1,21 +1,16 @@
 -- The words of `report`.
 use Rattle.std.specs.Prelude.{◌++◌, ℕ, List, Option, None, Some, if◌then◌else◌, codes}
 use Rattle.std.specs.Str.{bytes_eq}
-use Rattle.gi_pairs.specs.declared.side.Side.{Side}
-use Rattle.gi_pairs.specs.declared.side.Side.TheVariants.{I, M}
 use Rattle.gi_command_line.specs.declared.request.Mistake.{Mistake}
 use Rattle.gi_command_line.specs.declared.request.Mistake.TheVariants as mistake
 use Rattle.gi_command_line.specs.declared.request.ReportKind.{ReportKind}
 use Rattle.gi_command_line.specs.declared.request.ReportKind.TheVariants.{Open, Confirmed, Refused}
 
--- the kind of report that a word names, and the side
+-- the kind of report that a word names
 abbrev pub kind_named : List ℕ → Option ReportKind
 kind_named word =
     if bytes_eq word (codes "open") then Some Open
     else (if bytes_eq word (codes "confirmed") then Some Confirmed else (if bytes_eq word (codes "refused") then Some Refused else None))
-
-abbrev pub side_named : List ℕ → Option Side
-side_named word = if bytes_eq word (codes "I") then Some I else (if bytes_eq word (codes "M") then Some M else None)
 
 -- what is told of words that are wrong
 abbrev pub mistake_text : Mistake → List ℕ

@@ -6,5 +6,5 @@ mod request;
 mod words;
 
 pub use laws::{hours_is_taken, match_is_taken};
-pub use request::{Book, Mistake, Report, ReportKind, Request, kind_named, side_named};
+pub use request::{BookFile, Mistake, Report, ReportKind, Request, kind_named};
 pub use words::requested;

@@ -1,7 +1,7 @@
 //! What a command line asks for.
 
 ghost use Rattle.std.specs.Prelude.{◌≡◌, Some};
-ghost use Rattle.gi_command_line.specs.ReportWords.{kind_named as kind_named_by, mistake_text, side_named as side_named_by};
+ghost use Rattle.gi_command_line.specs.ReportWords.{kind_named as kind_named_by, mistake_text};
 
 use gi_pairs::Side;
 use std::fmt;
@@ -19,7 +19,7 @@ pub enum ReportKind {
 
 /// A book in a file, and the interconnection point that it is of.
 #[derive(Clone, Copy, Debug, PartialEq, Eq)]
-pub struct Book<'a> {
+pub struct BookFile<'a> {
     pub file: &'a str,
     pub point: &'a str,
 }
@@ -29,7 +29,7 @@ pub struct Book<'a> {
 pub struct Report<'a> {
     pub kind: ReportKind,
     pub side: Side,
-    pub book: Option<Book<'a>>,
+    pub book: Option<BookFile<'a>>,
 }
 
 /// What is wrong with the words of `report`, where `clap` objects to nothing.
@@ -86,17 +86,6 @@ pub fn kind_named(word: &str) -> Option<ReportKind>
         "open" => Some(ReportKind::Open),
         "confirmed" => Some(ReportKind::Confirmed),
         "refused" => Some(ReportKind::Refused),
-        _ => None,
-    }
-}
-
-/// The side that a word names.
-pub fn side_named(word: &str) -> Option<Side>
-    ensures { result ≡ side_named_by word.now }
-{
-    match word {
-        "I" => Some(Side::I),
-        "M" => Some(Side::M),
         _ => None,
     }
 }

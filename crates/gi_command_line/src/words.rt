@@ -4,7 +4,7 @@ ghost use Rattle.clap.specs.Words.{FailsBy, app_of, first_of, found_of, rows_of,
 ghost use Rattle.gi_command_line.specs.Asked.{meaning};
 ghost use Rattle.gi_command_line.specs.CommandLine.{asked, asked_of, hours_asked, objections, option as option_rule, report_asked, report_over as report_over_of, the_program, value_of as value_at, word as word_rule};
 
-use crate::request::{Book, Mistake, Report, ReportKind, Request, kind_named, side_named};
+use crate::request::{BookFile, Mistake, Report, ReportKind, Request, kind_named};
 use clap::{Arg, ArgMatches, Command, Error};
 use gi_pairs::Side;
 use std::alloc::{AllocError, Global};
@@ -75,7 +75,6 @@ Faults: those of `simulate`. With a book, the first of: CodeText (CODE is no cod
 Damaged N or Store (the file is not there, is no database, or fails), BadFact N (no desk records
 fact N after those before it), Write.";
 
-/// A word that has to be there.
 fn word<'a>(alloc: Global, name: &'a str, help: &'a str) -> Arg<'a>
     ensures rule { rule_of result ≡ word_rule name.entry.now }
     ensures local { result.global ≡ false }
@@ -83,7 +82,6 @@ fn word<'a>(alloc: Global, name: &'a str, help: &'a str) -> Arg<'a>
     Arg::new(alloc, name).required(true).help(help)
 }
 
-/// An option with a value.
 fn option<'a>(alloc: Global, name: &'a str, value: &'a str, help: &'a str) -> Arg<'a>
     ensures rule { rule_of result ≡ option_rule name.entry.now }
     ensures local { result.global ≡ false }
@@ -130,14 +128,12 @@ fn commands<'a>(alloc: Global) -> Result<Command<'a>, AllocError>
         .subcommand(report_command)
 }
 
-/// The value that was entered under a name.
 fn value_of<'a>(matches: &ArgMatches<'a>, name: &str) -> Option<&'a str>
     ensures { option_map (λ s. s.now) result ≡ first_of name.now (rows_of (found_of matches.now)) }
 {
     matches.get_str(name)
 }
 
-/// What `hours` is asked.
 fn hours_of<'a>(matches: &ArgMatches<'a>) -> Request<'a>
     ensures { meaning result ≡ hours_asked (first_of (codes "DAY") (rows_of (found_of matches.now))) }
 {
@@ -158,7 +154,7 @@ fn report_over<'a>(
 {
     let book = match (file, point) {
         (None, None) => None,
-        (Some(file), Some(point)) => Some(Book { file, point }),
+        (Some(file), Some(point)) => Some(BookFile { file, point }),
         _ => return Request::Mistaken(Mistake::Unpaired),
     };
     Request::Report(Report { kind, side, book })
@@ -174,7 +170,6 @@ fn word_of<'a>(matches: &ArgMatches<'a>, name: &str) -> &'a str
     }
 }
 
-/// What `report` is asked.
 fn report_of<'a>(matches: &ArgMatches<'a>) -> Request<'a>
     ensures { meaning result ≡ report_asked (rows_of (found_of matches.now)) }
 {
@@ -183,7 +178,7 @@ fn report_of<'a>(matches: &ArgMatches<'a>) -> Request<'a>
         return Request::Mistaken(Mistake::Kind(kind_word));
     };
     let side_word = word_of(matches, "SIDE");
-    let Some(side) = side_named(side_word) else {
+    let Ok(side) = side_word.parse::<Side>() else {
         return Request::Mistaken(Mistake::Side(side_word));
     };
     report_over(

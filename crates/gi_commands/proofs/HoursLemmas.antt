@@ -1,17 +1,8 @@
 -- What the lines of `hours` print.
-use Rattle.std.proofs.Common.{◌≡◌, ℕ, suc, ◌+◌, ◌^◌, ◌-◌, ◌++◌, List, Result, Ok, subst, refl, arith}
-use Rattle.std.proofs.Padding.{padded_integral_right, padded_integral_zeros}
-use Rattle.std.specs.Fmt.{decimal, format_spec, styled_decimal}
+use Rattle.std.proofs.Common.{◌≡◌, ℕ, suc, ◌+◌, ◌++◌, List, Result, Ok, subst, arith}
 use Rattle.jiff_core.specs.declared.civil.date.Date.{Date}
 use Rattle.gi_day.specs.declared.calendar.CalendarFault.{CalendarFault}
-use Rattle.gi_commands.specs.Hours.{AreCycleLines, IsCycleLine, IsFrameText, cycle_line, day_lines, right_in_two, two_digits}
-
--- what `{:>2}` and `{:02}` write of a number
-pub right_is : (number : ℕ) → styled_decimal (format_spec 32 3 0 2 (2 ^ 64 - 1)) number ≡ right_in_two number
-right_is number = padded_integral_right (format_spec 32 3 0 2 (2 ^ 64 - 1)) (decimal number) refl refl (omega arith) (omega arith) (omega arith)
-
-pub digits_are : (number : ℕ) → styled_decimal (format_spec 32 0 4 2 (2 ^ 64 - 1)) number ≡ two_digits number
-digits_are number = padded_integral_zeros (format_spec 32 0 4 2 (2 ^ 64 - 1)) (decimal number) refl refl
+use Rattle.gi_commands.specs.Hours.{AreCycleLines, IsCycleLine, IsFrameText, cycle_line, day_lines}
 
 -- lines of the same parts
 pub same_line : (cycle : ℕ) (d e : Date) (h j m n f g : ℕ) → d ≡ e → h ≡ j → m ≡ n → f ≡ g → cycle_line cycle d h m f ≡ cycle_line cycle e j n g

@@ -1,5 +1,4 @@
 pub mod HoursLemmas
-pub mod LineLemmas
 pub mod MatchLemmas
 pub mod ShapeLemmas
 pub mod CommandLemmas

@@ -10,7 +10,7 @@ use Rattle.gi_messages.specs.declared.message.Message.{Message}
 use Rattle.gi_messages.specs.declared.message.Message.TheVariants as message
 use Rattle.gi_messages.specs.declared.message_fault.MessageFault.{MessageFault}
 use Rattle.gi_commands.specs.Laws.{HasNoAnswer, HasOneAnswer, HasOneFault}
-use Rattle.gi_commands.specs.Lines.{lines, line_feed}
+use Rattle.gi_script.specs.Lines.{lines, line_feed}
 use Rattle.gi_commands.specs.Match.{IsRefused, HasTwoShapes, SpellsTables, response}
 use Rattle.gi_commands.specs.declared.fault.Fault.{Fault}
 use Rattle.gi_commands.specs.declared.fault.Fault.TheVariants as fault

@@ -1,5 +1,5 @@
 -- What `hours` writes of a gas day.
-use Rattle.std.specs.Prelude.{◌≡◌, ℕ, zero, suc, ◌-◌, replicate, length, ◌∷◌, ◌++◌, [], List, Err, codes, Option}
+use Rattle.std.specs.Prelude.{◌≡◌, ℕ, zero, suc, ◌∷◌, ◌++◌, [], List, Err, codes, Option}
 use Rattle.std.specs.Fmt.{decimal}
 use Rattle.std.specs.Io.KnownBytes.{Appends}
 use Rattle.jiff_core.specs.DateTime.{civil_nanos}
@@ -10,20 +10,10 @@ use Rattle.jiff_fmt.specs.Text.{date_text}
 use Rattle.gi_day.specs.Cycles.{cycle_count, cycle_start, first_hour, hour_count}
 use Rattle.gi_day.specs.Day.{IsDayText, IsGasYear, day_text}
 use Rattle.gi_day.specs.Read.{IsDayRead}
-use Rattle.gi_commands.specs.Lines.{line_feed}
+use Rattle.gi_reports.specs.Columns.{right_in, two_digits}
+use Rattle.gi_script.specs.Lines.{line_feed}
 use Rattle.gi_commands.specs.declared.fault.Fault.{Fault}
 use Rattle.gi_commands.specs.declared.fault.Fault.TheVariants as fault
-
--- a number with so many of this byte before it that it has two places
-abbrev pub in_two_places : ℕ → ℕ → List ℕ
-in_two_places fill number = replicate (2 - length (decimal number)) fill ++ decimal number
-
--- right in two places, and in two digits
-abbrev pub right_in_two : ℕ → List ℕ
-right_in_two number = in_two_places 32 number
-
-abbrev pub two_digits : ℕ → List ℕ
-two_digits number = in_two_places 48 number
 
 -- `day 2026-01-15 hours 24 cycles 36`, and the lines of the cycles below it
 abbrev pub day_lines : Date → ℕ → ℕ → List ℕ → List ℕ
@@ -34,9 +24,9 @@ day_lines day hours count cycles =
 -- `cycle 35 start 2026-01-16T02:00Z first 24`
 abbrev pub cycle_line : ℕ → Date → ℕ → ℕ → ℕ → List ℕ
 cycle_line cycle date hour minute first =
-    codes "cycle " ++ (right_in_two cycle ++ (codes " start " ++ (date_text date
+    codes "cycle " ++ (right_in 2 cycle ++ (codes " start " ++ (date_text date
     ++ (codes "T" ++ (two_digits hour ++ (codes ":" ++ (two_digits minute
-    ++ (codes "Z first " ++ (right_in_two first ++ line_feed ∷ [])))))))))
+    ++ (codes "Z first " ++ (right_in 2 first ++ line_feed ∷ [])))))))))
 
 -- the line of a cycle: what a clock at UTC shows when it starts, to the minute, and its first hour
 pub record IsCycleLine (day : Date) (cycle : ℕ) (line : List ℕ) : Type 0 where

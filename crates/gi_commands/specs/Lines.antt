@@ -1,15 +1,6 @@
--- The lines of an input.
-use Rattle.std.specs.Prelude.{◌≡◌, ◌==◌, if◌then◌else◌, ℕ, List, [], ◌∷◌}
-use Rattle.std.specs.List.{onto_first}
-
--- the byte that ends a line
-abbrev pub line_feed : ℕ
-line_feed = 10
-
--- What each line feed ends, and what follows the last one: its line feed may be missing.
-unfoldable pub lines : List ℕ → List (List ℕ)
-lines [] = []
-lines (byte ∷ bytes) = if byte == line_feed then [] ∷ lines bytes else onto_first byte (lines bytes)
+-- The two lines of an input.
+use Rattle.std.specs.Prelude.{◌≡◌, ℕ, List, [], ◌∷◌}
+use Rattle.gi_script.specs.Lines.{lines}
 
 -- exactly these two lines
 abbrev pub HasLines : List ℕ → List ℕ → List ℕ → Type 0

@@ -10,7 +10,8 @@ use Rattle.gi_messages.specs.declared.message.Delord.{Delord}
 use Rattle.gi_messages.specs.declared.message.Delres.{Delres}
 use Rattle.gi_pairs.specs.Table.{TableContents}
 use Rattle.gi_lesser.specs.Lesser.{HasShapeOf, IsLesser, lesser_of}
-use Rattle.gi_commands.specs.Lines.{HasLines, HasNoLines, line_feed}
+use Rattle.gi_commands.specs.Lines.{HasLines, HasNoLines}
+use Rattle.gi_script.specs.Lines.{line_feed}
 use Rattle.gi_commands.specs.Input.{most_input}
 use Rattle.gi_commands.specs.declared.fault.Line.{Line}
 use Rattle.gi_commands.specs.declared.fault.Line.TheVariants.{Order, Own}

@@ -7,7 +7,7 @@ ghost use Rattle.gi_commands.specs.Reporting.{HasBookReport, IsFileFault};
 
 use crate::fault::Fault;
 use crate::reporting::facts_report;
-use gi_command_line::{Book, ReportKind};
+use gi_command_line::{BookFile, ReportKind};
 use gi_files::facts_of_file;
 use gi_initiator::Initiating;
 use gi_matcher::Matching;
@@ -19,7 +19,7 @@ pub fn file_report(
     rt: &HostRuntime,
     kind: ReportKind,
     side: Side,
-    book: Book<'_>,
+    book: BookFile<'_>,
 ) -> Result<String, Fault>
     ensures reported { IfOk result (λ text. HasBookReport kind side book.entry.point.now (string_bytes text)) }
     ensures fault { IfErr result (IsFileFault side book.entry.point.now) }

@@ -16,12 +16,11 @@ use crate::input::{Calls, read_input};
 use crate::matching::answer;
 use crate::reporting::script_report;
 use crate::simulating::simulated;
-use gi_command_line::{Book, Report, ReportKind, Request};
+use gi_command_line::{BookFile, Report, ReportKind, Request};
 use gi_pairs::Side;
 use std::alloc::Global;
 use std::io::{Read, Write};
 
-/// Reads the order and the own table, and writes the response to them.
 fn match_tables<R: Read, W: Write>(
     alloc: Global,
     input: &mut R,
@@ -35,26 +34,18 @@ fn match_tables<R: Read, W: Write>(
 {
     let bytes = read_input(alloc, input, &mut Calls::none())?;
     let text = answer(alloc, bytes.as_slice())?;
-    match output.write_all(text.as_slice()) {
-        Ok(()) => Ok(()),
-        Err(_) => Err(Fault::Write),
-    }
+    write_text(text.as_slice(), output)
 }
 
-/// Writes the hours and cycles of a day.
 fn tell_hours<W: Write>(alloc: Global, day: &str, output: &mut W) -> Result<(), Fault>
     ensures done { OnOk result (TellsHours day.now (W.contents output.old) (W.contents output.new)) }
     ensures leaves { IfErr result (LeavesNothing (W.contents output.old) (W.contents output.new)) }
     ensures first { IfErr result (IsFirstHoursFault day.now) }
 {
     let text = hours_text(alloc, day)?;
-    match output.write_all(text.as_bytes()) {
-        Ok(()) => Ok(()),
-        Err(_) => Err(Fault::Write),
-    }
+    write_text(text.as_bytes(), output)
 }
 
-/// Writes a text, all of it.
 fn write_text<W: Write>(text: &[u8], output: &mut W) -> Result<(), Fault>
     ensures written { OnOk result (Appends (W.contents output.old) (W.contents output.new) text.now) }
     ensures failed { IfErr result (λ fault. fault ≡ Fault.Write) }
@@ -88,7 +79,6 @@ fn simulate_script<R: Read, W: Write>(
     }
 }
 
-/// Writes the report of a side after the steps of the script that is read.
 fn report_script<R: Read, W: Write>(
     alloc: Global,
     kind: ReportKind,
@@ -107,12 +97,11 @@ fn report_script<R: Read, W: Write>(
     write_text(text.as_bytes(), output)
 }
 
-/// Writes the report of a side's book in a file.
 fn report_book<W: Write>(
     rt: &HostRuntime,
     kind: ReportKind,
     side: Side,
-    book: Book<'_>,
+    book: BookFile<'_>,
     output: &mut W,
 ) -> Result<(), Fault>
     ensures done { OnOk result (ReportsBook kind side book.entry.point.now (W.contents output.old) (W.contents output.new)) }

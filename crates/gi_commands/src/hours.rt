@@ -5,14 +5,13 @@ ghost use Rattle.gi_day.specs.Day.{IsDayText, IsGasYear, IsNoDay};
 ghost use Rattle.gi_commands.specs.Hours.{AreCycleLines, IsCycleLine, IsFrameText, IsHoursRefused, IsHoursText, cycle_line as line_of};
 
 use crate::fault::Fault;
-use crate::two_places::{RightInTwo, TwoDigits};
 use gi_day::{Calendar, DayFault, DayFrame, GasDay};
+use gi_reports::{RightInTwo, TwoDigits};
 use jiff::Timestamp;
 use jiff::civil::Date;
 use jiff::tz::TimeZone;
 use std::alloc::{AllocError, Global};
 
-/// The line of a cycle, from its parts.
 fn line_text(
     alloc: Global,
     cycle: u8,
@@ -23,7 +22,12 @@ fn line_text(
 ) -> Result<String, AllocError>
     ensures { IfOk result (λ line. string_bytes line ≡ line_of cycle date hour minute first) }
 {
-    let (cycle, first) = (RightInTwo { number: cycle }, RightInTwo { number: first });
+    let cycle = RightInTwo {
+        number: u64::from(cycle),
+    };
+    let first = RightInTwo {
+        number: u64::from(first),
+    };
     let (hour, minute) = (TwoDigits { number: hour }, TwoDigits { number: minute });
     format!(in alloc; "cycle {cycle} start {date}T{hour}:{minute}Z first {first}\n")
 }
@@ -48,7 +52,6 @@ fn cycle_line(alloc: Global, frame: DayFrame, cycle: u8) -> Result<String, Alloc
     line_text(alloc, cycle, start.date(), hour, minute, first)
 }
 
-/// The lines of all cycles, in their order.
 fn cycle_lines(alloc: Global, frame: DayFrame) -> Result<String, AllocError>
     ensures { IfOk result (λ text. AreCycleLines frame (cycle_count frame) (string_bytes text)) }
 {
@@ -60,7 +63,6 @@ fn cycle_lines(alloc: Global, frame: DayFrame) -> Result<String, AllocError>
     Ok(text)
 }
 
-/// The day with its hours, and a line for each cycle.
 fn frame_text(alloc: Global, frame: DayFrame) -> Result<String, AllocError>
     ensures { IfOk result (λ text. IsFrameText frame (string_bytes text)) }
 {

@@ -12,7 +12,6 @@ mod lines;
 mod matching;
 mod reporting;
 mod simulating;
-mod two_places;
 
 pub use commands::perform;
 pub use fault::{Fault, Line};

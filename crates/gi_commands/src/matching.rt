@@ -1,5 +1,4 @@
 ghost use Rattle.std.specs.Prelude.{◌≡◌, ◌↔◌, ◌<◌, ◌≤◌, ℕ, List, Err, IfOk, IfErr, IsTrue, length};
-ghost use Rattle.gi_lesser.specs.Lesser.{HasShapeOf};
 ghost use Rattle.gi_messages.specs.Grammar.{Spells};
 ghost use Rattle.gi_messages.specs.declared.message.Message.TheVariants as message;
 ghost use Rattle.gi_messages.specs.Limits.{most_bytes};
@@ -33,13 +32,6 @@ fn table_on(alloc: Global, line: Line, bytes: &[u8]) -> Result<Delord, Fault>
     }
 }
 
-/// Whether both tables are for the same hours.
-fn same_hours(own: &Table, peer: &Table) -> bool
-    ensures { IsTrue result ↔ HasShapeOf own.now peer.now }
-{
-    own.first() == peer.first() && own.last() == peer.last()
-}
-
 /// Whether both are for one point, day and cycle, and for the same hours.
 fn same_shape(order: &Delord, own: &Delord) -> bool
     ensures { IsTrue result ↔ SameShape order.now own.now }
@@ -47,7 +39,7 @@ fn same_shape(order: &Delord, own: &Delord) -> bool
     order.point == own.point
         && order.day == own.day
         && order.cycle == own.cycle
-        && same_hours(&own.processed, &order.processed)
+        && own.processed.covers_same_hours(&order.processed)
 }
 
 /// What `match` writes for an input: the DELRES and a line feed. The fault is the first of the

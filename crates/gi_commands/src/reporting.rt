@@ -2,9 +2,9 @@
 
 ghost use Rattle.std.specs.Prelude.{◌≡◌, IfErr, IfOk, List, string_bytes};
 ghost use Rattle.sqlite.specs.Held.{state};
-ghost use Rattle.sqlite.specs.State.{HasCleanDisk};
 ghost use Rattle.gi_facts.specs.declared.fact.Fact.{Fact};
 ghost use Rattle.gi_store.specs.Book.{IsRead};
+ghost use Rattle.gi_store.specs.Clean.{IsClean};
 ghost use Rattle.gi_commands.specs.Reporting.{HasBookReport, IsBookFault, IsBookReport, IsFactsFault, IsReport, IsRowsFault};
 ghost use Rattle.gi_commands.specs.Simulating.{IsNoScript, IsScriptReport};
 
@@ -22,7 +22,6 @@ use gi_store::BookStore;
 use sqlite::Alter;
 use std::alloc::{AllocError, Global};
 
-/// The report of a desk, and of its refused submissions.
 fn desk_report<R: Role>(
     alloc: Global,
     kind: ReportKind,
@@ -79,9 +78,9 @@ fn replayed_report<R: Role, S: Alter>(
     point: Code,
     book: &mut BookStore<S>,
 ) -> Result<String, Fault>
-    ensures of_rows { HasCleanDisk (state S.Store book.new.connection) →
+    ensures of_rows { IsClean S.Store book.new.connection →
         IfOk result (λ text. (facts : List Fact) × IsRead (state S.Store book.new.connection) facts × IsBookReport kind R.SIDE point facts (string_bytes text)) }
-    ensures refused_rows { HasCleanDisk (state S.Store book.new.connection) →
+    ensures refused_rows { IsClean S.Store book.new.connection →
         IfErr result (IsRowsFault R.SIDE point (state S.Store book.old.connection) (state S.Store book.new.connection)) }
     ensures reported { IfOk result (λ text. HasBookReport kind R.SIDE point (string_bytes text)) }
     ensures fault { IfErr result (IsBookFault R.SIDE point) }
@@ -99,9 +98,9 @@ pub fn book_report<S: Alter>(
     point: Code,
     book: &mut BookStore<S>,
 ) -> Result<String, Fault>
-    ensures of_rows { HasCleanDisk (state S.Store book.new.connection) →
+    ensures of_rows { IsClean S.Store book.new.connection →
         IfOk result (λ text. (facts : List Fact) × IsRead (state S.Store book.new.connection) facts × IsBookReport kind side point facts (string_bytes text)) }
-    ensures refused_rows { HasCleanDisk (state S.Store book.new.connection) →
+    ensures refused_rows { IsClean S.Store book.new.connection →
         IfErr result (IsRowsFault side point (state S.Store book.old.connection) (state S.Store book.new.connection)) }
     ensures reported { IfOk result (λ text. HasBookReport kind side point (string_bytes text)) }
     ensures fault { IfErr result (IsBookFault side point) }

@@ -17,7 +17,6 @@ pub struct Written {
     pub complete: bool,
 }
 
-/// A line of what each side holds.
 fn counts(alloc: Global, simulation: &Simulation) -> Result<String, AllocError>
     ensures { IfOk result (λ text. string_bytes text ≡ counts_of simulation.now) }
 {

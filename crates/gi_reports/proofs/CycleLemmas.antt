@@ -20,7 +20,7 @@ use Rattle.gi_desk.specs.History.{closing_in, closings, is_closed, is_closing}
 use Rattle.gi_desk.specs.Laws.{ClosesOnce}
 use Rattle.gi_desk.specs.Machine.{bad_fact}
 use Rattle.gi_desk.specs.Queries.{fact_at}
-use Rattle.gi_reports.specs.Cycles.{cycle_cmp}
+use Rattle.gi_pairs.specs.CycleId.{cycle_cmp}
 
 -- ---- going over the facts
 
@@ -62,13 +62,6 @@ all_closed facts n ids long is = is ∙ ap closings (take_all n facts long)
 
 -- ---- none is closed twice
 
-closed_later : (fact : Fact) (id : CycleId) → closing_in fact ≡ Some id → fact ≡ Closed id
-closed_later (Contracted contract) id e = absurd cc
-closed_later (Noticed notice) id e = absurd cc
-closed_later (Nominated document) id e = absurd cc
-closed_later (Closed other) id e = let same : other ≡ id = cc in ap Closed same
-closed_later (Met other peer) id e = absurd cc
-
 -- no later closing is of the cycle
 all_apart : (id : CycleId) (facts : List Fact) → is_closed id facts ≡ false → AllByRecursion (λ other. same_cycle other id ≡ false) (closings facts)
 unfolding is_closed closings
@@ -104,7 +97,7 @@ distinct_from side point once before (fact ∷ later) legal =
 -- ---- in order, each once
 
 total : IsTotalOrder cycle_cmp
-total = then_total (on_total (λ (id : CycleId). id.day) (on_total epoch_day int_cmp_total)) (on_total (λ (id : CycleId). id.cycle) nat_cmp_total)
+total = then_total (on_total (λ (id : CycleId). epoch_day id.day) int_cmp_total) (on_total (λ (id : CycleId). id.cycle) nat_cmp_total)
 
 tied : (a b : CycleId) → cycle_cmp a b ≡ Equal → same_cycle b a ≡ true
 tied a b e = by (int_cmp (epoch_day a.day) (epoch_day b.day)) refl e

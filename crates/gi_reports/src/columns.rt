@@ -2,14 +2,14 @@
 
 ghost use Rattle.std.specs.Prelude.{◌≡◌, ◌≤◌, Some, length};
 ghost use Rattle.std.specs.Str.{IsAscii};
-ghost use Rattle.gi_reports.specs.Columns.{left_in, name_of, right_in};
+ghost use Rattle.gi_reports.specs.Columns.{left_in, name_of, right_in, two_digits};
 
 use gi_pairs::Code;
 use std::fmt;
 
 /// A number that is printed right in two places.
 #[derive(Clone, Copy, Debug)]
-pub(crate) struct RightInTwo {
+pub struct RightInTwo {
     pub number: u64,
 }
 
@@ -19,6 +19,21 @@ impl fmt::Display for RightInTwo {
     fn fmt<W: fmt::Write>(&self, f: &mut fmt::Formatter<W>) -> fmt::Result {
         let number = self.number;
         write!(f, "{number:>2}")
+    }
+}
+
+/// A number that is printed in two digits, the first a zero where it is below 10.
+#[derive(Clone, Copy, Debug)]
+pub struct TwoDigits {
+    pub number: u8,
+}
+
+impl fmt::Display for TwoDigits {
+    ghost output = { λ n. Some (two_digits n.number) };
+
+    fn fmt<W: fmt::Write>(&self, f: &mut fmt::Formatter<W>) -> fmt::Result {
+        let number = self.number;
+        write!(f, "{number:02}")
     }
 }
 
@@ -59,7 +74,6 @@ pub(crate) struct LeftInSixteen {
 }
 
 impl LeftInSixteen {
-    /// The name in the column.
     fn name(&self) -> &str
         ensures value { result.now ≡ name_of self.now.code }
         ensures ascii { IsAscii result.now }

@@ -9,7 +9,6 @@ use gi_desk::{Desk, Role};
 use gi_pairs::{CycleId, Quantity, Row, Table};
 use std::alloc::{AllocError, Global};
 
-/// What a row is for: its direction and its two codes.
 fn row_text(alloc: Global, row: &Row) -> Result<String, AllocError>
     ensures { IfOk result (λ text. string_bytes text ≡ text_of row.now) }
 {
@@ -23,7 +22,6 @@ fn row_text(alloc: Global, row: &Row) -> Result<String, AllocError>
     format!(in alloc; "{direction} {initiating} {matching}")
 }
 
-/// The line of an hour.
 fn confirmed_line(
     alloc: Global,
     id: &CycleId,
@@ -59,7 +57,6 @@ fn row_lines(alloc: Global, id: &CycleId, first: u8, row: &Row) -> Result<String
     Ok(text)
 }
 
-/// The lines of a table, in table order.
 fn table_lines(alloc: Global, id: &CycleId, table: &Table) -> Result<String, AllocError>
     ensures { IfOk result (λ text. string_bytes text ≡ lines_of_table id.now table.now) }
 {
@@ -72,7 +69,6 @@ fn table_lines(alloc: Global, id: &CycleId, table: &Table) -> Result<String, All
     Ok(text)
 }
 
-/// The lines of those cycles that are confirmed.
 fn confirmed_lines<R: Role>(
     alloc: Global,
     desk: &Desk<R>,

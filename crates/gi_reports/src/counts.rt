@@ -8,7 +8,6 @@ use gi_desk::{Desk, Role};
 use gi_pairs::CycleId;
 use std::alloc::{AllocError, Global};
 
-/// How many of these cycles are confirmed.
 fn confirmed_count<R: Role>(desk: &Desk<R>, ids: &[CycleId]) -> usize
     ensures { result ≡ length (filter (is_confirmed R.SIDE desk.now) ids.now) }
 {

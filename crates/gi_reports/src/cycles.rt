@@ -10,7 +10,6 @@ use gi_desk::{Desk, Fact, Role, closes_once};
 use gi_pairs::CycleId;
 use std::alloc::{AllocError, Global};
 
-/// The cycle that fact number `n` closes, where it closes one.
 fn closed_by<R: Role>(desk: &Desk<R>, n: u32) -> Option<CycleId>
     ensures { result ≡ option_and_then closing_in (fact_at desk.now.facts n) }
 {
@@ -20,7 +19,6 @@ fn closed_by<R: Role>(desk: &Desk<R>, n: u32) -> Option<CycleId>
     }
 }
 
-/// Adds the cycle, where there is one.
 fn add(ids: &mut Vec<CycleId>, id: Option<CycleId>) -> Result<(), AllocError>
     ensures { OnOk result (ids.new.items ≡ ids.old.items ++ option_to_list id) }
 {

@@ -9,7 +9,6 @@ use gi_desk::{Desk, Role, StageName};
 use gi_pairs::CycleId;
 use std::alloc::{AllocError, Global};
 
-/// `unsaved` where a closed cycle has met the peer's table, else `frozen`.
 fn open_word(stage: StageName) -> &'static str
     ensures { result.now ≡ word_of stage }
 {
@@ -19,7 +18,6 @@ fn open_word(stage: StageName) -> &'static str
     }
 }
 
-/// The line of a cycle that is not confirmed.
 fn open_line(alloc: Global, id: CycleId, stage: StageName) -> Result<String, AllocError>
     ensures { IfOk result (λ line. string_bytes line ≡ line_of id stage) }
 {
@@ -31,7 +29,6 @@ fn open_line(alloc: Global, id: CycleId, stage: StageName) -> Result<String, All
     format!(in alloc; "{day} {cycle} {word}\n")
 }
 
-/// The lines of those cycles that are not confirmed.
 fn open_lines<R: Role>(alloc: Global, desk: &Desk<R>, ids: &[CycleId]) -> Result<String, AllocError>
     ensures { IfOk result (λ text. string_bytes text ≡ lines_of R.SIDE desk.now ids.now) }
 {

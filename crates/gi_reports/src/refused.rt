@@ -9,7 +9,6 @@ use gi_pairs::Code;
 use indexmap::IndexMap;
 use std::alloc::{AllocError, Global};
 
-/// How often each submitter stands in the list, in the order of their first places.
 fn counted(
     alloc: Global,
     submissions: &[Option<Code>],
@@ -41,7 +40,6 @@ pub fn refused_counts(
     Ok(groups)
 }
 
-/// The line of a portfolio.
 fn refused_line(alloc: Global, code: &Option<Code>, count: u64) -> Result<String, AllocError>
     ensures { IfOk result (λ line. string_bytes line ≡ line_of (code.now, count)) }
 {

@@ -1,4 +1,5 @@
-mod PartLemmas
+mod LineLemmas
+mod WordLemmas
 mod NameLemmas
 mod OneInstruction
 mod TakeLemmas

@@ -30,22 +30,3 @@ no_move words left front word rest e first none moves says =
     let all : map move_text moves ≡ map move_text front ++ word ∷ rest = sym says.are ∙ e ∙ ap (λ (ws : List (List ℕ)). map move_text front ++ ws) first in
     let found = text_at moves front word rest all in
     none found.0 found.1
-
--- a word after the most moves
-pub too_many : (words left : List (List ℕ)) (front : List Move) (word : List ℕ) (rest : List (List ℕ)) → words ≡ map move_text front ++ left → left ≡ word ∷ rest
-    → length front ≡ most_moves → (moves : List Move) → ¬ (SaysMoves words moves)
-too_many words left front word rest e first full moves says =
-    let all : map move_text moves ≡ map move_text front ++ word ∷ rest = sym says.are ∙ e ∙ ap (λ (ws : List (List ℕ)). map move_text front ++ ws) first in
-    let lengths : length moves ≡ length front + length (word ∷ rest) =
-    sym (length-map moves move_text) ∙ ap length all ∙ length-append (map move_text front) (word ∷ rest) ∙ ap (λ (n : ℕ). n + length (word ∷ rest)) (length-map front move_text) in
-    let few = says.plan.1 in
-    omega arith
-
--- all words are moves
-pub all_moves : (words left : List (List ℕ)) (moves : List Move) → words ≡ map move_text moves ++ left → left ≡ [] → words ≡ map move_text moves
-all_moves words left moves e none = e ∙ ap (λ (ws : List (List ℕ)). map move_text moves ++ ws) none ∙ append-nil (map move_text moves)
-
-pub no_plan : (words : List (List ℕ)) (moves : List Move) → words ≡ map move_text moves → ¬ (IsPlan moves) → (other : List Move) → ¬ (SaysMoves words other)
-no_plan words moves e none other says =
-    let same : other ≡ moves = texts-one other moves (sym says.are ∙ e) in
-    none (subst IsPlan same says.plan)

@@ -5,14 +5,14 @@ use Rattle.std.proofs.lemmas.Option.{same_Some}
 use Rattle.std.proofs.lemmas.Slice.Eq.{bytes_eq-Decides}
 use Rattle.gi_carrier.specs.declared.moves.Move.{Move}
 use Rattle.gi_carrier.specs.declared.moves.Move.TheVariants as moves
-use Rattle.gi_pairs.specs.Direction.{direction_text}
-use Rattle.gi_pairs.specs.Side.{side_text}
+use Rattle.gi_pairs.specs.Direction.{direction_named, direction_text, directions}
+use Rattle.gi_pairs.specs.Side.{side_named, side_text, sides}
 use Rattle.gi_pairs.specs.declared.direction.Direction.{Direction}
 use Rattle.gi_pairs.specs.declared.direction.Direction.TheVariants.{IM, MI}
 use Rattle.gi_pairs.specs.declared.side.Side.{Side}
 use Rattle.gi_pairs.specs.declared.side.Side.TheVariants.{I, M}
 use Rattle.gi_script.specs.Reading.{Finds}
-use Rattle.gi_script.specs.Verb.{verb_text, verbs, verb_named, side_named, direction_named, move_text, move_named}
+use Rattle.gi_script.specs.Verb.{verb_text, verbs, verb_named, move_text, move_named}
 use Rattle.gi_script.specs.declared.verb.Verb.{Verb}
 use Rattle.gi_script.specs.declared.verb.Verb.TheVariants as verb
 
@@ -64,7 +64,7 @@ verb-one a b e = let same : verb_named (verb_text a) ≡ verb_named (verb_text b
 
 side-takes : (word : List ℕ) (s : Side) → side_named word ≡ Some s → word ≡ side_text s
 unfolding side_named
-side-takes word s e = found_text side_text (I ∷ M ∷ []) word s e
+side-takes word s e = found_text side_text sides word s e
 
 side-again : (s : Side) → side_named (side_text s) ≡ Some s
 unfolding side_named
@@ -86,7 +86,7 @@ plan_no_side M e = cc
 
 direction-takes : (word : List ℕ) (d : Direction) → direction_named word ≡ Some d → word ≡ direction_text d
 unfolding direction_named
-direction-takes word d e = found_text direction_text (IM ∷ MI ∷ []) word d e
+direction-takes word d e = found_text direction_text directions word d e
 
 direction-again : (d : Direction) → direction_named (direction_text d) ≡ Some d
 unfolding direction_named

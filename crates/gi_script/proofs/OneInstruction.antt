@@ -19,7 +19,7 @@ use Rattle.gi_carrier.specs.declared.moves.Move.{Move}
 use Rattle.gi_script.specs.Numbers.{IsNumber}
 use Rattle.gi_script.specs.Verb.{move_text, verb_text}
 use Rattle.gi_script.specs.Words.{space, words_of}
-use Rattle.gi_script.specs.Grammar.{IsDayWord, IsDirectionWord, Says, SaysContract, SaysNotice, SaysCycle, SaysCount, SaysNumber, SaysMoves, SaysOrder, SaysPlan, SpellsPoint}
+use Rattle.gi_script.specs.Grammar.{IsDayWord, IsDirectionWord, Says, SaysContract, SaysNotice, SaysCycle, SaysCount, SaysNumber, SaysMoves, SaysCommand, SaysPlan, SpellsPoint}
 use Rattle.gi_script.specs.Laws.{IsOneInstruction}
 use Rattle.gi_script.specs.declared.instruction.Instruction.{Instruction}
 use Rattle.gi_script.specs.declared.instruction.Instruction.TheVariants as instructions
@@ -133,8 +133,8 @@ says-one verbs.Deliver side words a b x y = x.1 ∙ ap (instructions.Deliver sid
 says-one verbs.Restart side words a b x y = x.1 ∙ ap (instructions.Restart side) (figure-one words x.0 y.0 x.2 y.2) ∙ sym y.1
 says-one verbs.Carry side words a b x y = x.0 ∙ sym y.0
 
-order-one : (words : List (List ℕ)) (a b : Instruction) → SaysOrder words a → SaysOrder words b → a ≡ b
-order-one words a b x y =
+command-one : (words : List (List ℕ)) (a b : Instruction) → SaysCommand words a → SaysCommand words b → a ≡ b
+command-one words a b x y =
     let same = sym x.are ∙ y.are in
     let sides : side_text y.side ≡ side_text x.side = cc in
     let verbs : verb_text y.verb ≡ verb_text x.verb = cc in
@@ -155,17 +155,17 @@ plan-one words a b x y =
     x.is ∙ ap (λ s. instructions.Plan s x.moves) side ∙ ap (instructions.Plan y.side) moves ∙ sym y.is
 
 -- a line that begins with `plan` does not begin with a side
-pub plan_or_order : (words : List (List ℕ)) (a b : Instruction) → SaysPlan words a → SaysOrder words b → ⊥
-plan_or_order words a b x y =
+pub plan_or_command : (words : List (List ℕ)) (a b : Instruction) → SaysPlan words a → SaysCommand words b → ⊥
+plan_or_command words a b x y =
     let same = sym x.are ∙ y.are in
     let first : codes "plan" ≡ side_text y.side = cc in
     plan_no_side y.side first
 
-words-one : (words : List (List ℕ)) (a b : Instruction) → SaysPlan words a ⊎ SaysOrder words a → SaysPlan words b ⊎ SaysOrder words b → a ≡ b
+words-one : (words : List (List ℕ)) (a b : Instruction) → SaysPlan words a ⊎ SaysCommand words a → SaysPlan words b ⊎ SaysCommand words b → a ≡ b
 words-one words a b (inl x) (inl y) = plan-one words a b x y
-words-one words a b (inl x) (inr y) = absurd (plan_or_order words a b x y)
-words-one words a b (inr x) (inl y) = absurd (plan_or_order words b a y x)
-words-one words a b (inr x) (inr y) = order-one words a b x y
+words-one words a b (inl x) (inr y) = absurd (plan_or_command words a b x y)
+words-one words a b (inr x) (inl y) = absurd (plan_or_command words b a y x)
+words-one words a b (inr x) (inr y) = command-one words a b x y
 
 pub instruction-one : IsOneInstruction
 instruction-one line a b x y = words-one (words_of line) a b x.says y.says

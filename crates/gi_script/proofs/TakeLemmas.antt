@@ -3,7 +3,7 @@ use Rattle.std.proofs.Common.{◌≡◌, ◌≢◌, ◌⊎◌, inl, inr, ℕ, Li
 use Rattle.std.specs.Str.{IsUtf8}
 use Rattle.gi_pairs.specs.Side.{side_text}
 use Rattle.gi_pairs.specs.declared.side.Side.{Side}
-use Rattle.gi_script.specs.Grammar.{Says, SaysOrder, SaysPlan, Spells}
+use Rattle.gi_script.specs.Grammar.{Says, SaysCommand, SaysPlan, Spells}
 use Rattle.gi_script.specs.Reading.{Finds, Takes, Reads}
 use Rattle.gi_script.specs.Verb.{verb_text}
 use Rattle.gi_script.specs.Words.{words_of}
@@ -19,13 +19,8 @@ takes_next R words word rest (Some x) first is = (word, first, is)
 takes_next R words word rest None first none =
     λ w others x begins is. let same : w ≡ word = cc in none x (subst (λ (v : List ℕ). R v x) same is)
 
--- a fault of a part is one of the whole
-pub fault_of_part : {X Y : Type 0} (R : X → Type 0) (S : Y → Type 0) (fault : LineFault) → ((y : Y) → S y → (x : X) × R x) → Reads R (Err fault) → Reads S (Err fault)
-fault_of_part R S faults.Unreadable part none = λ y is. let found = part y is in none found.0 found.1
-fault_of_part R S faults.OutOfMemory part none = tt
-
 -- the same of all words that say so
-says_again : (all rest : List (List ℕ)) (side : Side) (verb : Verb) (instruction : Instruction) → all ≡ side_text side ∷ verb_text verb ∷ rest → SaysOrder all instruction → Says verb side rest instruction
+says_again : (all rest : List (List ℕ)) (side : Side) (verb : Verb) (instruction : Instruction) → all ≡ side_text side ∷ verb_text verb ∷ rest → SaysCommand all instruction → Says verb side rest instruction
 says_again all rest side verb instruction begins is =
     let same = sym is.are ∙ begins in
     let sides : side_text is.side ≡ side_text side = cc in
@@ -34,14 +29,14 @@ says_again all rest side verb instruction begins is =
     subst (λ (v : Verb). Says v side rest instruction) (verb-one is.verb verb verbs)
     (subst (λ (s : Side). Says is.verb s rest instruction) (side-one is.side side sides) (subst (λ (r : List (List ℕ)). Says is.verb is.side r instruction) rests is.says))
 
-pub order_read : (all rest : List (List ℕ)) (side : Side) (verb : Verb) (r : Result Instruction LineFault) → all ≡ side_text side ∷ verb_text verb ∷ rest → Reads (Says verb side rest) r → Reads (SaysOrder all) r
-order_read all rest side verb (Ok x) begins is = record { side = side; verb = verb; rest = rest; are = begins; says = is }
-order_read all rest side verb (Err faults.Unreadable) begins none = λ x is. none x (says_again all rest side verb x begins is)
-order_read all rest side verb (Err faults.OutOfMemory) begins none = tt
+pub command_read : (all rest : List (List ℕ)) (side : Side) (verb : Verb) (r : Result Instruction LineFault) → all ≡ side_text side ∷ verb_text verb ∷ rest → Reads (Says verb side rest) r → Reads (SaysCommand all) r
+command_read all rest side verb (Ok x) begins is = record { side = side; verb = verb; rest = rest; are = begins; says = is }
+command_read all rest side verb (Err faults.Unreadable) begins none = λ x is. none x (says_again all rest side verb x begins is)
+command_read all rest side verb (Err faults.OutOfMemory) begins none = tt
 
 -- ---- lines
 
-plan_only : (line : List ℕ) (rest : List (List ℕ)) (x : Instruction) → words_of line ≡ codes "plan" ∷ rest → SaysPlan (words_of line) x ⊎ SaysOrder (words_of line) x → SaysPlan (codes "plan" ∷ rest) x
+plan_only : (line : List ℕ) (rest : List (List ℕ)) (x : Instruction) → words_of line ≡ codes "plan" ∷ rest → SaysPlan (words_of line) x ⊎ SaysCommand (words_of line) x → SaysPlan (codes "plan" ∷ rest) x
 plan_only line rest x begins (inl is) = subst (λ (ws : List (List ℕ)). SaysPlan ws x) begins is
 plan_only line rest x begins (inr is) =
     let same = sym is.are ∙ begins in
@@ -53,14 +48,14 @@ plan_spelled line rest (Ok x) text begins is = record { text = text; says = inl 
 plan_spelled line rest (Err faults.Unreadable) text begins none = λ x is. none x (plan_only line rest x begins is.says)
 plan_spelled line rest (Err faults.OutOfMemory) text begins none = tt
 
-order_only : (line first : List ℕ) (rest : List (List ℕ)) (x : Instruction) → words_of line ≡ first ∷ rest → first ≢ codes "plan" → SaysPlan (words_of line) x ⊎ SaysOrder (words_of line) x → SaysOrder (first ∷ rest) x
-order_only line first rest x begins other (inl is) =
+command_only : (line first : List ℕ) (rest : List (List ℕ)) (x : Instruction) → words_of line ≡ first ∷ rest → first ≢ codes "plan" → SaysPlan (words_of line) x ⊎ SaysCommand (words_of line) x → SaysCommand (first ∷ rest) x
+command_only line first rest x begins other (inl is) =
     let same = sym is.are ∙ begins in
     let plan : first ≡ codes "plan" = cc in
     absurd (other plan)
-order_only line first rest x begins other (inr is) = subst (λ (ws : List (List ℕ)). SaysOrder ws x) begins is
+command_only line first rest x begins other (inr is) = subst (λ (ws : List (List ℕ)). SaysCommand ws x) begins is
 
-pub order_spelled : (line first : List ℕ) (rest : List (List ℕ)) (r : Result Instruction LineFault) → IsUtf8 line → words_of line ≡ first ∷ rest → first ≢ codes "plan" → Reads (SaysOrder (first ∷ rest)) r → Reads (Spells line) r
-order_spelled line first rest (Ok x) text begins other is = record { text = text; says = inr (subst (λ (ws : List (List ℕ)). SaysOrder ws x) (sym begins) is) }
-order_spelled line first rest (Err faults.Unreadable) text begins other none = λ x is. none x (order_only line first rest x begins other is.says)
-order_spelled line first rest (Err faults.OutOfMemory) text begins other none = tt
+pub command_spelled : (line first : List ℕ) (rest : List (List ℕ)) (r : Result Instruction LineFault) → IsUtf8 line → words_of line ≡ first ∷ rest → first ≢ codes "plan" → Reads (SaysCommand (first ∷ rest)) r → Reads (Spells line) r
+command_spelled line first rest (Ok x) text begins other is = record { text = text; says = inr (subst (λ (ws : List (List ℕ)). SaysCommand ws x) (sym begins) is) }
+command_spelled line first rest (Err faults.Unreadable) text begins other none = λ x is. none x (command_only line first rest x begins other is.says)
+command_spelled line first rest (Err faults.OutOfMemory) text begins other none = tt

@@ -118,7 +118,7 @@ Says verbs.Restart side words instruction =
 Says verbs.Carry side words instruction = (instruction ≡ instructions.Carry side) × (words ≡ [])
 
 -- `SIDE VERB` and what the verb wants
-pub record SaysOrder (words : List (List ℕ)) (instruction : Instruction) : Type 0 where
+pub record SaysCommand (words : List (List ℕ)) (instruction : Instruction) : Type 0 where
   pub side : Side
   pub verb : Verb
   pub rest : List (List ℕ)
@@ -137,7 +137,7 @@ pub record SaysPlan (words : List (List ℕ)) (instruction : Instruction) : Type
 -- A line spells an instruction: it is UTF-8, and its words, parted by one space each, say it.
 pub record Spells (line : List ℕ) (instruction : Instruction) : Type 0 where
   pub text : IsUtf8 line
-  pub says : SaysPlan (words_of line) instruction ⊎ SaysOrder (words_of line) instruction
+  pub says : SaysPlan (words_of line) instruction ⊎ SaysCommand (words_of line) instruction
 
 -- `point CODE`
 pub record SpellsPoint (line : List ℕ) (point : List ℕ) : Type 0 where

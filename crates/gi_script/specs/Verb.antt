@@ -3,12 +3,6 @@ use Rattle.std.specs.Prelude.{ℕ, List, [], ◌∷◌, codes, find, Option}
 use Rattle.std.specs.Str.{bytes_eq}
 use Rattle.gi_carrier.specs.declared.moves.Move.{Move}
 use Rattle.gi_carrier.specs.declared.moves.Move.TheVariants as moves
-use Rattle.gi_pairs.specs.Direction.{direction_text}
-use Rattle.gi_pairs.specs.Side.{side_text}
-use Rattle.gi_pairs.specs.declared.direction.Direction.{Direction}
-use Rattle.gi_pairs.specs.declared.direction.Direction.TheVariants.{IM, MI}
-use Rattle.gi_pairs.specs.declared.side.Side.{Side}
-use Rattle.gi_pairs.specs.declared.side.Side.TheVariants.{I, M}
 use Rattle.gi_script.specs.declared.verb.Verb.{Verb}
 use Rattle.gi_script.specs.declared.verb.Verb.TheVariants.{Contract, Notice, Submit, Close, Resend, Halt, Save, Deliver, Restart, Carry}
 
@@ -27,15 +21,9 @@ verb_text Carry = codes "carry"
 abbrev pub verbs : List Verb
 verbs = Contract ∷ Notice ∷ Submit ∷ Close ∷ Resend ∷ Halt ∷ Save ∷ Deliver ∷ Restart ∷ Carry ∷ []
 
--- the verb, the side, the direction, the move of that text
+-- the verb of that text
 unfoldable pub verb_named : List ℕ → Option Verb
 verb_named text = find (λ verb. bytes_eq text (verb_text verb)) verbs
-
-unfoldable pub side_named : List ℕ → Option Side
-side_named text = find (λ side. bytes_eq text (side_text side)) (I ∷ M ∷ [])
-
-unfoldable pub direction_named : List ℕ → Option Direction
-direction_named text = find (λ direction. bytes_eq text (direction_text direction)) (IM ∷ MI ∷ [])
 
 abbrev pub move_text : Move → List ℕ
 move_text moves.Pass = codes "pass"
@@ -43,6 +31,7 @@ move_text moves.Drop = codes "drop"
 move_text moves.Repeat = codes "repeat"
 move_text moves.Hold = codes "hold"
 
+-- the move of that text
 unfoldable pub move_named : List ℕ → Option Move
 move_named text =
     find (λ move. bytes_eq text (move_text move)) (moves.Pass ∷ moves.Drop ∷ moves.Repeat ∷ moves.Hold ∷ [])

@@ -1,23 +1,16 @@
 -- The lines of a script, and the words of a line.
 use Rattle.std.specs.Prelude.{◌==◌, ◌+◌, ℕ, List, [], ◌∷◌}
 use Rattle.std.specs.List.{slice_split}
-
--- the byte that ends a line
-abbrev pub line_feed : ℕ
-line_feed = 10
+use Rattle.gi_script.specs.Lines.{lines}
 
 -- the byte that parts words
 abbrev pub space : ℕ
 space = 32
 
--- The parts of a text at a byte. Without that byte the text is its one part; between two of them
--- that stand side by side is an empty part.
-abbrev pub parts : ℕ → List ℕ → List (List ℕ)
-parts at text = slice_split (λ byte. byte == at) text
-
--- the words of a line are parted by one space
+-- The words of a line are parted by one space: without one the line is its one word, and between
+-- two spaces that stand side by side is an empty word.
 abbrev pub words_of : List ℕ → List (List ℕ)
-words_of line = parts space line
+words_of line = slice_split (λ byte. byte == space) line
 
 -- a line and its number
 pub record NumberedLine : Type 0 where
@@ -36,4 +29,4 @@ numbered number (line ∷ lines) = unless_empty number line (numbered (number + 
 
 -- the lines of a text that are not empty; the first line of all has this number
 abbrev pub lines_from : ℕ → List ℕ → List NumberedLine
-lines_from number text = numbered number (parts line_feed text)
+lines_from number text = numbered number (lines text)

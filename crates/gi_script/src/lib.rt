@@ -1,13 +1,13 @@
 //! A day's script, read whole: the point, and what each line asks of a side.
 #![tactic(auto)]
 
+mod command;
 mod fault;
 mod instruction;
 mod laws;
 mod line;
 mod lines;
 mod number;
-mod order;
 mod plan;
 mod reading;
 mod script;
@@ -18,5 +18,6 @@ pub use fault::ScriptFault;
 pub use instruction::Instruction;
 pub use laws::{one_instruction, one_script};
 pub use line::Line;
+pub use lines::{LINE_FEED, split_line};
 pub use reading::read_script;
 pub use script::Script;

@@ -1,10 +1,10 @@
-ghost use Rattle.std.specs.Prelude.{◌≡◌, ◌==◌, ◌+◌, ◌<◌, ℕ, [], ◌∷◌, length, position, MatchOption, OnSome};
+ghost use Rattle.std.specs.Prelude.{◌≡◌, ◌==◌, ◌+◌, ◌<◌, [], ◌∷◌, length, position, IfSome, MatchOption, OnSome};
+ghost use Rattle.gi_script.specs.Lines.{lines, line_feed as line_feed_byte};
 ghost use Rattle.gi_script.specs.LinesKept.{IsCounted, left};
 ghost use Rattle.gi_script.specs.Script.{lines_of};
-ghost use Rattle.gi_script.specs.Words.{line_feed as line_feed_byte, lines_from, unless_empty};
 
 /// What ends a line.
-const LINE_FEED: u8 = b'\n';
+pub const LINE_FEED: u8 = b'\n';
 
 /// The lines of a script that are still to be read.
 #[derive(Drop)]
@@ -14,22 +14,24 @@ pub struct Lines<'a> {
     rest: &'a [u8],
 }
 
-/// Where the first line feed stands.
 fn line_feed(text: &[u8]) -> Option<usize>
     ensures { result ≡ position (λ byte. byte == line_feed_byte) text.now }
 {
     text.iter().position(|byte| *byte == LINE_FEED)
 }
 
-/// The first line, without its line feed, and what follows it.
-fn split_line(text: &[u8]) -> (&[u8], &[u8])
-    requires { 0 < length text.now }
-    ensures shorter { length result.1.now < length text.now }
-    ensures lines { (n : ℕ) → lines_from n text.now ≡ unless_empty n result.0.now (lines_from (n + 1) result.1.now) }
+/// The first line of a text, without its line feed, and what follows it; `None` where no byte is
+/// left.
+pub fn split_line(text: &[u8]) -> Option<(&[u8], &[u8])>
+    ensures lines { MatchOption result (lines text.now ≡ []) (λ split. lines text.now ≡ split.0.now ∷ lines split.1.now) }
+    ensures shorter { IfSome result (λ split. length split.1.now < length text.now) }
 {
+    if text.is_empty() {
+        return None;
+    }
     match line_feed(text) {
-        Some(at) => (&text[..at], &text[at + 1..]),
-        None => (text, &[]),
+        Some(at) => Some((&text[..at], &text[at + 1..])),
+        None => Some((text, &[])),
     }
 }
 
@@ -52,8 +54,7 @@ impl<'a> Lines<'a> {
         ensures counted { IsCounted self.new }
         ensures shorter { OnSome result (length self.new.rest.now < length self.old.rest.now) }
     {
-        while !self.rest.is_empty() {
-            let (line, rest) = split_line(self.rest);
+        while let Some((line, rest)) = split_line(self.rest) {
             self.rest = rest;
             self.before += 1;
             if !line.is_empty() {

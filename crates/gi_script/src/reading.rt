@@ -1,20 +1,20 @@
 ghost use Rattle.std.specs.Prelude.{◌≡◌, ◌∷◌, codes, Err, Ok, IfOk, IfErr, MatchResult};
-ghost use Rattle.gi_script.specs.Grammar.{SaysOrder, SaysPlan, Spells, SpellsPoint};
+ghost use Rattle.gi_script.specs.Grammar.{SaysCommand, SaysPlan, Spells, SpellsPoint};
 ghost use Rattle.gi_script.specs.LinesKept.{IsCounted, left};
 ghost use Rattle.gi_script.specs.Reading.{Finds, Reads};
 ghost use Rattle.gi_script.specs.Script.{HasNoPoint, IsFault, IsLineRead, IsScript, IsStopped, ScriptContents, SpellAll};
 ghost use Rattle.gi_script.specs.declared.fault.ScriptFault.TheVariants.{OutOfMemory, Point};
 
+use crate::command::command;
 use crate::fault::{LineFault, ScriptFault};
 use crate::instruction::Instruction;
 use crate::line::Line;
 use crate::lines::Lines;
-use crate::order::order;
 use crate::plan::plan;
 use crate::script::Script;
-use crate::verb::{side_named, verb_named};
+use crate::verb::verb_named;
 use crate::words::Words;
-use gi_pairs::Code;
+use gi_pairs::{Code, Side};
 use std::alloc::Global;
 
 /// The point that the line `point CODE` names.
@@ -49,10 +49,10 @@ fn plan_line(alloc: Global, mut words: Words<'_>) -> Result<Instruction, LineFau
 }
 
 /// What the first word and those after it say, `SIDE VERB` and what the verb wants.
-fn order_line(alloc: Global, first: &str, mut words: Words<'_>) -> Result<Instruction, LineFault>
-    ensures { Reads (SaysOrder (first.now ∷ words.entry)) result }
+fn side_command(alloc: Global, first: &str, mut words: Words<'_>) -> Result<Instruction, LineFault>
+    ensures { Reads (SaysCommand (first.now ∷ words.entry)) result }
 {
-    let Some(side) = side_named(first) else {
+    let Ok(side) = first.parse::<Side>() else {
         return Err(LineFault::Unreadable);
     };
     let Some(second) = words.next() else {
@@ -61,7 +61,7 @@ fn order_line(alloc: Global, first: &str, mut words: Words<'_>) -> Result<Instru
     let Some(verb) = verb_named(second) else {
         return Err(LineFault::Unreadable);
     };
-    order(alloc, side, verb, words)
+    command(alloc, side, verb, words)
 }
 
 /// The instruction that a line spells.
@@ -74,7 +74,7 @@ fn instruction(alloc: Global, line: &[u8]) -> Result<Instruction, LineFault>
     let mut words = Words::of(text);
     match words.next() {
         Some("plan") => plan_line(alloc, words),
-        Some(first) => order_line(alloc, first, words),
+        Some(first) => side_command(alloc, first, words),
         None => Err(LineFault::Unreadable),
     }
 }

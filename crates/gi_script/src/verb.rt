@@ -1,8 +1,7 @@
 ghost use Rattle.std.specs.Prelude.{◌≡◌};
-ghost use Rattle.gi_script.specs.Verb.{direction_named as direction_of, move_named as move_of, side_named as side_of, verb_named as verb_of};
+ghost use Rattle.gi_script.specs.Verb.{move_named as move_of, verb_named as verb_of};
 
 use gi_carrier::Move;
-use gi_pairs::{Direction, Side};
 
 /// What is asked of a side.
 #[derive(Clone, Copy, Debug, PartialEq, Eq)]
@@ -35,30 +34,6 @@ pub fn verb_named(text: &str) -> Option<Verb>
         "deliver" => Some(Verb::Deliver),
         "restart" => Some(Verb::Restart),
         "carry" => Some(Verb::Carry),
-        _ => None,
-    }
-}
-
-/// The side of that text.
-#[tactic(auto, unfolding(crate::specs::Verb::side_named))]
-pub fn side_named(text: &str) -> Option<Side>
-    ensures { result ≡ side_of text.now }
-{
-    match text {
-        "I" => Some(Side::I),
-        "M" => Some(Side::M),
-        _ => None,
-    }
-}
-
-/// The direction of that text.
-#[tactic(auto, unfolding(crate::specs::Verb::direction_named))]
-pub fn direction_named(text: &str) -> Option<Direction>
-    ensures { result ≡ direction_of text.now }
-{
-    match text {
-        "IM" => Some(Direction::IM),
-        "MI" => Some(Direction::MI),
         _ => None,
     }
 }

@@ -6,7 +6,6 @@ ghost use Rattle.gi_script.specs.Reading.{Takes};
 ghost use Rattle.gi_script.specs.Words.{words_of};
 
 use crate::number::number;
-use crate::verb::{direction_named, side_named};
 use gi_day::GasDay;
 use gi_pairs::{Code, Direction, Quantity, Side};
 use std::marker::Model;
@@ -84,14 +83,14 @@ impl<'a> Words<'a> {
     pub fn side(&mut self) -> Option<Side>
         ensures { Takes IsSideWord self.old result self.new }
     {
-        side_named(self.next()?)
+        self.next()?.parse::<Side>().ok()
     }
 
     /// A direction.
     pub fn direction(&mut self) -> Option<Direction>
         ensures { Takes IsDirectionWord self.old result self.new }
     {
-        direction_named(self.next()?)
+        self.next()?.parse::<Direction>().ok()
     }
 
     /// A quantity, in kWh/h.

@@ -2,7 +2,7 @@
 use Rattle.std.proofs.Common.{◌≡◌, ◌<◌, ◌+◌, ℕ, List, nat_lt, ltb-false, ltb-true, Bool, true, false, Option, Some, None, option_map, arith, ap, refl}
 use Rattle.std.specs.List.{position}
 use Rattle.gi_pairs.specs.declared.side.Side.{Side}
-use Rattle.gi_simulation.proofs.PacketNumbers.{numbered, unnumbered}
+use Rattle.gi_world.proofs.Numbers.{numbered, unnumbered}
 use Rattle.gi_world.specs.World.{IsNumberOf, WorldState, has_bytes, other, station_of}
 use Rattle.gi_simulation.specs.Simulation.{number_of}
 

@@ -16,8 +16,8 @@ use Rattle.gi_script.specs.declared.line.Line.{Line}
 use Rattle.gi_simulation.specs.OnItsWay.{IsDelivered, OnlySentEverWaits, OnlySentWaits, WasSent, WereSent, WhatIsCarriedIsDelivered, WhatWasSentIsDelivered}
 use Rattle.gi_simulation.specs.Runs.{run}
 use Rattle.gi_simulation.specs.Simulation.{LinkState, SimulationState, after, after_any, delivering, link_to, moved_on, new_simulation, out_of, prepared, side_of_step, step_of, with_link, with_message, with_packet, with_packets}
-use Rattle.gi_simulation.proofs.Waiting.{given_is, next_are}
-use Rattle.gi_simulation.proofs.PacketNumbers.{BytesAt, numbered, unnumbered}
+use Rattle.gi_carrier.proofs.CarrierLaws.{given_is, next_are}
+use Rattle.gi_world.proofs.Numbers.{BytesAt, numbered, unnumbered}
 use Rattle.gi_world.specs.World.{StationState, WorldState, after as world_after, after_call, after_delivery, after_if, after_restart, called, delivered, delivery, has_bytes, is_delivery, other, outcome as world_outcome, station_of, with_station}
 use Rattle.gi_world.specs.declared.step.Step.{Step}
 use Rattle.gi_world.specs.declared.step.Step.TheVariants as steps

@@ -22,10 +22,6 @@ pub noted-append : {N : Type 0} (note : Note N) (old : N) (s : SimulationState) 
 noted-append note old s [] back = refl
 noted-append note old s (line ∷ front) back = noted-append note (note old line (outcome_of s line.instruction)) (after s line.instruction) front back
 
--- no turn is made yet
-pub run-none : {N : Type 0} (note : Note N) (s : SimulationState) (turns : List Line) (old : N) → turns ≡ [] → IsRun note s turns old old s
-run-none note s turns old none = record { notes = ap (noted note old s) (sym none); simulation = ap (run s) (sym none) }
-
 -- a run, and then another
 pub run-then : {N : Type 0} (note : Note N) (s mid end : SimulationState) (front back : List Line) (old middle new : N) → IsRun note s front old middle mid → IsRun note mid back middle new end
     → IsRun note s (front ++ back) old new end
@@ -51,11 +47,6 @@ cut-then note s mid end front turn later all old middle new first second is =
       world =
           subst (λ (m : SimulationState). (end.world ≡ m.world) ⊎ (end.world ≡ (after m second.next.instruction).world)) (sym after_made) second.world;
     }
-
--- one turn
-pub run-one : {N : Type 0} (note : Note N) (s end : SimulationState) (line : Line) (outcome : Option Outcome) (old new : N) → outcome ≡ outcome_of s line.instruction
-    → end ≡ after s line.instruction → new ≡ note old line outcome → IsRun note s (line ∷ []) old new end
-run-one note s end line outcome old new is next noted_as = record { notes = noted_as ∙ ap (note old line) is; simulation = next }
 
 pub cut-one : {N : Type 0} (note : Note N) (s end : SimulationState) (line : Line) (old new : N) → new ≡ old
     → (end.world ≡ s.world) ⊎ (end.world ≡ (after s line.instruction).world) → IsCutOff note s (line ∷ []) old new end

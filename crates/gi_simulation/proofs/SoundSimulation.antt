@@ -11,7 +11,7 @@ use Rattle.gi_simulation.specs.OnItsWay.{IsSound, WaitedOrCame, WasSent, WereLet
 use Rattle.gi_simulation.specs.Simulation.{LinkState, SimulationState, link_to, moved_on, new_simulation, side_of_step, with_link, with_packet}
 use Rattle.gi_simulation.proofs.NewWorld.{new_one_quantity}
 use Rattle.gi_simulation.proofs.OnItsWay.{AreAmong, Bodies, both, either, lets_out, new_waits, packet_comes, placed, wait_on}
-use Rattle.gi_simulation.proofs.Waiting.{next_are}
+use Rattle.gi_carrier.proofs.CarrierLaws.{next_are}
 use Rattle.gi_world.specs.Headline.{OneConfirmedQuantity}
 use Rattle.gi_world.specs.Histories.{held}
 use Rattle.gi_world.specs.Keeping.{OnlyAppends}

@@ -4,7 +4,7 @@ use Rattle.gi_desk.specs.declared.call.Call.{Call}
 use Rattle.gi_desk.specs.declared.call.Call.TheVariants as calls
 use Rattle.gi_messages.specs.Decoding.{decoded}
 use Rattle.gi_messages.specs.declared.message.Message.{Message}
-use Rattle.gi_messages.specs.declared.message.Message.TheVariants.{Nomint, Acknow, Nomres, Delord, Delres}
+use Rattle.gi_messages.specs.declared.message.Message.TheVariants.{Nomint}
 use Rattle.gi_messages.specs.declared.message_fault.MessageFault.{MessageFault}
 use Rattle.gi_pairs.specs.declared.side.Side.{Side}
 use Rattle.gi_pairs.specs.declared.side.Side.TheVariants.{I, M}
@@ -12,27 +12,17 @@ use Rattle.gi_script.specs.declared.instruction.Instruction.{Instruction}
 use Rattle.gi_script.specs.declared.instruction.Instruction.TheVariants as instructions
 use Rattle.gi_script.specs.declared.line.Line.{Line}
 use Rattle.gi_simulation.specs.declared.outcome.Outcome.{Outcome}
-use Rattle.gi_simulation.specs.declared.outcome.Outcome.TheVariants.{Recorded, Repeat, Saved, Resent, Stopped, Restarted, Nothing, Refused, NotMade}
+use Rattle.gi_simulation.specs.declared.outcome.Outcome.TheVariants.{Refused}
 
 -- the portfolio of a submission; none where its bytes are no NOMINT
 abbrev pub portfolio_in : Result Message MessageFault → Option (List ℕ)
-portfolio_in (Err fault) = None
 portfolio_in (Ok (Nomint document)) = Some document.portfolio
-portfolio_in (Ok (Acknow message)) = None
-portfolio_in (Ok (Nomres message)) = None
-portfolio_in (Ok (Delord message)) = None
-portfolio_in (Ok (Delres message)) = None
+portfolio_in _ = None
 
 -- a submission's, and nothing of another call
 abbrev pub submitted_by : Call → List (Option (List ℕ))
-submitted_by (calls.Contract contract) = []
-submitted_by (calls.Notice notice) = []
 submitted_by (calls.Submit body) = portfolio_in (decoded body) ∷ []
-submitted_by (calls.Close id) = []
-submitted_by (calls.Deliver body) = []
-submitted_by (calls.Resend id) = []
-submitted_by (calls.MarkSaved n fact) = []
-submitted_by calls.Halt = []
+submitted_by _ = []
 
 -- that of a call at the side
 abbrev pub at_side : Side → Side → List (Option (List ℕ)) → List (Option (List ℕ))
@@ -43,24 +33,12 @@ at_side M M found = found
 
 abbrev pub submitted : Side → Instruction → List (Option (List ℕ))
 submitted side (instructions.Call at call) = at_side side at (submitted_by call)
-submitted side (instructions.Save at count) = []
-submitted side (instructions.Deliver at packet) = []
-submitted side (instructions.Restart at keep) = []
-submitted side (instructions.Plan at plan) = []
-submitted side (instructions.Carry at) = []
+submitted side _ = []
 
 -- where the desk refused it
 abbrev pub where_refused : Option Outcome → List (Option (List ℕ)) → List (Option (List ℕ))
-where_refused None found = []
-where_refused (Some (Recorded n)) found = []
-where_refused (Some (Repeat n)) found = []
-where_refused (Some (Saved n)) found = []
-where_refused (Some (Resent packets)) found = []
-where_refused (Some Stopped) found = []
-where_refused (Some (Restarted saved)) found = []
-where_refused (Some Nothing) found = []
 where_refused (Some (Refused refusal)) found = found
-where_refused (Some (NotMade fault)) found = []
+where_refused _ found = []
 
 -- the portfolio of a line's submission, where the side refused it
 abbrev pub refused_by : Side → Line → Option Outcome → List (Option (List ℕ))

@@ -13,12 +13,8 @@ use Rattle.gi_simulation.specs.declared.outcome.Outcome.{Outcome}
 
 -- how often an instruction is made: `save COUNT` COUNT times, any other once
 abbrev pub times : Instruction → ℕ
-times (Call side call) = 1
 times (Save side count) = count
-times (Deliver side packet) = 1
-times (Restart side keep) = 1
-times (Plan side plan) = 1
-times (Carry side) = 1
+times _ = 1
 
 -- each line as often as it is made, in order
 abbrev pub turns_of : Line → List Line

@@ -112,12 +112,8 @@ shown (Err fault) = NotMade fault
 
 -- where no step is made, nothing came; and of a plan line nothing is said
 abbrev pub outcome_without : Instruction → Option Outcome
-outcome_without (instructions.Call side call) = Some Nothing
-outcome_without (instructions.Save side count) = Some Nothing
-outcome_without (instructions.Deliver side packet) = Some Nothing
-outcome_without (instructions.Restart side keep) = Some Nothing
 outcome_without (instructions.Plan side plan) = None
-outcome_without (instructions.Carry side) = Some Nothing
+outcome_without _ = Some Nothing
 
 abbrev pub outcome_with : WorldState → Instruction → Option Step → Option Outcome
 outcome_with w instruction None = outcome_without instruction
@@ -132,8 +128,7 @@ outcome_of s instruction = outcome_with s.world instruction (step_of s instructi
 -- the packets that a step lets out
 abbrev pub out_of : Result WorldReply WorldFault → List Packet
 out_of (Ok (replies.Desk r)) = r.out
-out_of (Ok (replies.Restarted saved)) = []
-out_of (Err fault) = []
+out_of _ = []
 
 -- the side at which a step is made
 abbrev pub side_of_step : Step → Side
@@ -154,12 +149,9 @@ after_any s (Some step) = after_step s step
 
 -- before its step, a plan line sets the plan, and `carry` makes the carrier's move
 abbrev pub prepared : SimulationState → Instruction → SimulationState
-prepared s (instructions.Call side call) = s
-prepared s (instructions.Save side count) = s
-prepared s (instructions.Deliver side packet) = s
-prepared s (instructions.Restart side keep) = s
 prepared s (instructions.Plan side plan) = with_link side (record { carrier = (link_to side s).carrier; plan = plan }) s
 prepared s (instructions.Carry side) = with_link side (moved_on (link_to side s)) s
+prepared s _ = s
 
 abbrev pub after : SimulationState → Instruction → SimulationState
 after s instruction = after_any (prepared s instruction) (step_of s instruction)

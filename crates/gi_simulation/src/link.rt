@@ -55,7 +55,6 @@ impl Link {
         Ok(())
     }
 
-    /// A message comes to those on the way; where the carrier is full it is lost.
     fn send(&mut self, message: Vec<u8>) -> Result<(), AllocError>
         ensures kept { OnErr result (self.new ≡ self.old) }
         ensures sent { OnOk result (self.new ≡ with_message self.old message.items) }
@@ -66,7 +65,6 @@ impl Link {
         }
     }
 
-    /// A packet comes to them where it is for the peer.
     fn send_packet(&mut self, packet: Packet) -> Result<(), AllocError>
         ensures kept { OnErr result (self.new ≡ self.old) }
         ensures sent { OnOk result (self.new ≡ with_packet self.old packet) }

@@ -33,7 +33,6 @@ impl Model for Refused {
     ghost view = { λ r. record { side = r.side; portfolios = r.portfolios.items } };
 }
 
-/// The portfolio of a submission; none where its bytes are no NOMINT.
 fn portfolio_of(alloc: Global, body: &[u8]) -> Result<Option<Code>, AllocError>
     ensures { IfOk result (λ portfolio. portfolio ≡ portfolio_in (decoded body.now)) }
 {
@@ -45,7 +44,6 @@ fn portfolio_of(alloc: Global, body: &[u8]) -> Result<Option<Code>, AllocError>
 }
 
 impl Refused {
-    /// None yet.
     fn new(alloc: Global, side: Side) -> Refused
         ensures { result ≡ record { side = side; portfolios = [] } }
     {

@@ -8,7 +8,6 @@ use crate::simulation::Simulation;
 use gi_script::{Instruction, Line};
 use std::alloc::AllocError;
 
-/// How often an instruction is made.
 fn times(instruction: &Instruction) -> u32
     ensures { result ≡ times_of instruction.now }
 {
@@ -18,7 +17,6 @@ fn times(instruction: &Instruction) -> u32
     }
 }
 
-/// Makes a line once.
 fn make_once<N: Notes>(
     simulation: &mut Simulation,
     line: &Line,
@@ -31,7 +29,6 @@ fn make_once<N: Notes>(
     notes.note(line, outcome)
 }
 
-/// Makes a line as often as it says.
 fn make_line<N: Notes>(
     simulation: &mut Simulation,
     line: &Line,

@@ -43,8 +43,7 @@ pub fn simulate(alloc: Global, script: &Script) -> Result<Simulated, StartFault>
     let mut simulation = Simulation::new(alloc, script.point())?;
     let mut text = Text::new(alloc);
     let complete = run(&mut simulation, script.lines(), &mut text).is_ok();
-    // Its clauses hold of any simulation.
-    simulation.world();
+    simulation.known();
     Ok(Simulated {
         simulation,
         text: text.into_string(),

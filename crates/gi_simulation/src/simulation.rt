@@ -2,7 +2,7 @@ ghost use Rattle.std.specs.Prelude.{◌≡◌, ◌⊎◌, IfErr, IfOk, OnErr, On
 ghost use Rattle.gi_carrier.specs.Carrier.{given};
 ghost use Rattle.gi_carrier.specs.Kept.{bytes_of};
 ghost use Rattle.gi_desk.specs.Queries.{unsaved};
-ghost use Rattle.gi_simulation.specs.OnItsWay.{AllIsDelivered, OnlySentWaits, WereLetOut};
+ghost use Rattle.gi_simulation.specs.OnItsWay.{AllIsDelivered, IsSound, OnlySentWaits, WereLetOut};
 ghost use Rattle.gi_simulation.specs.Simulation.{after, after_step, answered, link_to, marking, moved_on, new_simulation, number_of as number_in, outcome_of, outcome_without, prepared, shown, side_of_step, step_of, with_link, with_packets};
 ghost use Rattle.gi_world.specs.Headline.{OneConfirmedQuantity};
 ghost use Rattle.gi_world.specs.Histories.{held};
@@ -40,17 +40,6 @@ impl Model for Simulation {
     ghost invariant = { λ s. IsSound (record { world = s.world; to_initiating = s.to_initiating; to_matching = s.to_matching }) };
 }
 
-/// The other side.
-fn peer(side: Side) -> Side
-    ensures { result ≡ other side }
-{
-    match side {
-        Side::I => Side::M,
-        Side::M => Side::I,
-    }
-}
-
-/// The mark of a desk's next fact to save, where there is one.
 fn mark<R: Role>(desk: &Desk<R>) -> Result<Option<Call>, AllocError>
     ensures { IfOk result (λ call. call ≡ marking (unsaved desk.now)) }
 {
@@ -63,7 +52,6 @@ fn mark<R: Role>(desk: &Desk<R>) -> Result<Option<Call>, AllocError>
     }))
 }
 
-/// The answer, as it is told.
 fn outcome(reply: &Reply) -> Outcome
     ensures { result ≡ answered reply.now.out reply.now.answer }
 {
@@ -77,7 +65,6 @@ fn outcome(reply: &Reply) -> Outcome
     }
 }
 
-/// The side at which a step is made.
 fn side_of(step: &Step) -> Side
     ensures { result ≡ side_of_step step.now }
 {
@@ -86,7 +73,6 @@ fn side_of(step: &Step) -> Side
     }
 }
 
-/// What comes of an instruction that makes no step.
 fn without_step(instruction: &Instruction) -> Option<Outcome>
     ensures { result ≡ outcome_without instruction.now }
 {
@@ -122,7 +108,14 @@ impl Simulation {
         &self.world
     }
 
-    /// The plan of the carrier towards a side is set.
+    /// In every simulation a quantity that is confirmed or told is the lower of the two frozen ones,
+    /// only what the other side let out is on its way to a side, and it is delivered.
+    pub(crate) fn known(&self)
+        ensures { IsSound self.now × AllIsDelivered self.now }
+    {
+        let _ = self.world();
+    }
+
     fn set(&mut self, side: Side, plan: &Plan) -> Result<(), AllocError>
         ensures next { OnOk result (self.new ≡ with_link side (record { carrier = (link_to side self.old).carrier; plan = plan.now }) self.old) }
         ensures kept { OnErr result (self.new ≡ self.old) }
@@ -133,7 +126,6 @@ impl Simulation {
         }
     }
 
-    /// What the carrier towards a side gives next.
     fn next(&mut self, side: Side) -> Result<Option<Vec<u8>>, AllocError>
         ensures given { IfOk result (λ message. option_map bytes_of message ≡ given (link_to side self.old).plan (link_to side self.old).carrier) }
         ensures next { OnOk result (self.new ≡ with_link side (moved_on (link_to side self.old)) self.old) }
@@ -157,7 +149,6 @@ impl Simulation {
         }
     }
 
-    /// The mark of a side's next fact to save, where there is one.
     fn mark(&self, side: Side) -> Result<Option<Step>, AllocError>
         ensures { IfOk result (λ step. step ≡ option_map (steps.Local side) (marking (unsaved (station_of side self.now.world).desk))) }
     {
@@ -168,7 +159,6 @@ impl Simulation {
         Ok(call.map(|call| Step::Local { side, call }))
     }
 
-    /// The least number, from 1, of a packet with these bytes that the other side let out.
     #[tactic(auto, using(crate::proofs::Numbers::number_is))]
     fn number_of(&self, side: Side, bytes: &[u8]) -> Option<u64>
         ensures { result ≡ number_in self.now.world side bytes.now }
@@ -176,7 +166,6 @@ impl Simulation {
         self.world.number_of(side, bytes)
     }
 
-    /// The delivery of what the carrier towards a side gives next, where it gives something.
     fn carry(&mut self, side: Side) -> Result<Option<Step>, AllocError>
         ensures step { IfOk result (λ step. step ≡ step_of self.old (instructions.Carry side)) }
         ensures next { OnOk result (self.new ≡ prepared self.old (instructions.Carry side)) }
@@ -234,7 +223,7 @@ impl Simulation {
             Err(fault) => return Ok(Outcome::NotMade(fault)),
         };
         let outcome = outcome(&reply);
-        self.send(peer(side_of(step)), reply.out.into_vec())?;
+        self.send(side_of(step).other(), reply.out.into_vec())?;
         Ok(outcome)
     }
 
@@ -248,7 +237,7 @@ impl Simulation {
         ensures delivers { AllIsDelivered self.old }
         ensures world { OnErr result ((self.new.world ≡ self.old.world) ⊎ (self.new.world ≡ (after self.old instruction.now).world)) }
     {
-        self.world();
+        self.known();
         let Some(step) = self.prepare(instruction)? else {
             return Ok(without_step(instruction));
         };

@@ -4,5 +4,4 @@ pub mod Failures
 pub mod Meanings
 pub mod Readings
 pub mod Walk
-pub mod Faults
 pub mod Numbering

@@ -20,11 +20,11 @@ use Rattle.gi_store.specs.Facts.{AreFacts, StopsIn}
 use Rattle.gi_store.specs.Keeping.{IsFirstBook, IsIdle}
 
 -- the connection, and how many rows are known since the last `load`
-pub record Book (S : Type 0) : Type 0 where
+pub record BookState (S : Type 0) : Type 0 where
   pub connection : Held S
   pub loaded : Option ℕ
 
-abbrev pub book_code : {S : Type 0} → Coded S → Coded (Book S)
+abbrev pub book_code : {S : Type 0} → Coded S → Coded (BookState S)
 book_code {S} store = code_by (Held S × Option ℕ) (coded× (held_code store) (coded_option coded_ℕ)) (λ b. (b.connection, b.loaded)) (λ p. record { connection = p.0; loaded = p.1 }) (λ _. refl)
 
 -- the rows have the numbers from this one on
@@ -79,8 +79,7 @@ IsLoadFault s (Gap n) = Stops s (Gap n)
 IsLoadFault s (Damaged n) = Stops s (Damaged n)
 IsLoadFault s Store = ⊤
 IsLoadFault s OutOfMemory = ⊤
-IsLoadFault s NotLoaded = ⊥
-IsLoadFault s (NotNext n) = ⊥
+IsLoadFault s _ = ⊥
 
 -- ---- save_next
 

@@ -5,7 +5,7 @@ use Rattle.sqlite_value.specs.Order.{Row, column}
 use Rattle.gi_facts.specs.declared.fact.Fact.{Fact}
 use Rattle.gi_facts.specs.Decoding.{fact_of}
 use Rattle.gi_store.specs.declared.store_fault.StoreFault.{StoreFault}
-use Rattle.gi_store.specs.declared.store_fault.StoreFault.TheVariants.{Version, Gap, Damaged, NotLoaded, NotNext, Store, OutOfMemory}
+use Rattle.gi_store.specs.declared.store_fault.StoreFault.TheVariants.{Gap, Damaged, Store, OutOfMemory}
 
 -- the row's body is a text that is this fact
 abbrev pub HasBody : Row → Fact → Type 0
@@ -41,10 +41,7 @@ abbrev pub IsBodyFault : Row → ℤ → StoreFault → Type 0
 IsBodyFault row number (Damaged m) = (m ≡ number) × ((fact : Fact) → ¬ HasBody row fact)
 IsBodyFault row number Store = ⊤
 IsBodyFault row number OutOfMemory = ⊤
-IsBodyFault row number Version = ⊥
-IsBodyFault row number (Gap m) = ⊥
-IsBodyFault row number NotLoaded = ⊥
-IsBodyFault row number (NotNext m) = ⊥
+IsBodyFault row number _ = ⊥
 
 -- what a row is refused for, where n comes next
 abbrev pub IsRowFault : ℕ → Row → StoreFault → Type 0
@@ -52,9 +49,7 @@ IsRowFault n row (Gap m) = (m ≡ n) × IsAbove n row
 IsRowFault n row (Damaged m) = IsDamaged n row m
 IsRowFault n row Store = ⊤
 IsRowFault n row OutOfMemory = ⊤
-IsRowFault n row Version = ⊥
-IsRowFault n row NotLoaded = ⊥
-IsRowFault n row (NotNext m) = ⊥
+IsRowFault n row _ = ⊥
 
 -- The rows before one of these are the facts from 1 on, and that one is refused.
 pub record StopsIn (rows : List Row) (fault : StoreFault) : Type 0 where
@@ -72,6 +67,4 @@ IsReadFault rows (Gap n) = StopsIn rows (Gap n)
 IsReadFault rows (Damaged n) = StopsIn rows (Damaged n)
 IsReadFault rows Store = ⊤
 IsReadFault rows OutOfMemory = ⊤
-IsReadFault rows Version = ⊥
-IsReadFault rows NotLoaded = ⊥
-IsReadFault rows (NotNext n) = ⊥
+IsReadFault rows _ = ⊥

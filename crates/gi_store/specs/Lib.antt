@@ -1,3 +1,4 @@
+pub mod Clean
 pub mod Tables
 pub mod Rows
 pub mod Order

@@ -2,7 +2,7 @@
 use Rattle.std.specs.Prelude.{⊤}
 use Rattle.sqlite.specs.State.{State}
 use Rattle.gi_store.specs.declared.store_fault.StoreFault.{StoreFault}
-use Rattle.gi_store.specs.declared.store_fault.StoreFault.TheVariants.{Version, Gap, Damaged, NotLoaded, NotNext, Store, OutOfMemory}
+use Rattle.gi_store.specs.declared.store_fault.StoreFault.TheVariants.{Version, Store, OutOfMemory}
 use Rattle.gi_store.specs.Tables.{IsFree}
 use Rattle.gi_store.specs.Keeping.{IsFirstBook}
 
@@ -11,17 +11,11 @@ abbrev pub IsVersionFault : State → StoreFault → Type 0
 IsVersionFault s Version = ¬ IsFirstBook s.now
 IsVersionFault s Store = ⊤
 IsVersionFault s OutOfMemory = ⊤
-IsVersionFault s (Gap n) = ⊥
-IsVersionFault s (Damaged n) = ⊥
-IsVersionFault s NotLoaded = ⊥
-IsVersionFault s (NotNext n) = ⊥
+IsVersionFault s _ = ⊥
 
 -- it is no book of version 1, and the two tables cannot be made in it
 abbrev pub IsOpenFault : State → StoreFault → Type 0
 IsOpenFault s Version = (¬ IsFirstBook s.now) × (¬ IsFree s.now.schema)
 IsOpenFault s Store = ⊤
 IsOpenFault s OutOfMemory = ⊤
-IsOpenFault s (Gap n) = ⊥
-IsOpenFault s (Damaged n) = ⊥
-IsOpenFault s NotLoaded = ⊥
-IsOpenFault s (NotNext n) = ⊥
+IsOpenFault s _ = ⊥

@@ -1,7 +1,7 @@
 //! A book of facts, one row each.
 
 ghost use Rattle.std.specs.Prelude.{◌≡◌, ◌≢◌, ◌⊎◌, ◌++◌, ◌∷◌, [], length, Err, None, IfOk, IfErr, OnOk, OnErr};
-ghost use Rattle.sqlite.specs.State.{HasCleanDisk};
+ghost use Rattle.gi_store.specs.Clean.{IsClean};
 ghost use Rattle.sqlite.specs.Held.{Held, state};
 ghost use Rattle.gi_facts.specs.Grammar.{IsWritable};
 ghost use Rattle.gi_store.specs.Facts.{AreFacts};
@@ -39,17 +39,17 @@ impl<S: Alter + Drop> Drop for BookStore<S> {
 }
 
 impl<S: Alter> Model for BookStore<S> {
-    ghost use Rattle.sqlite.specs.State.{HasCleanDisk};
+    ghost use Rattle.gi_store.specs.Clean.{IsClean};
     ghost use Rattle.sqlite.specs.Held.{Held, state};
-    ghost use Rattle.gi_store.specs.Book.{Book, IsCounted, IsKept, book_code};
+    ghost use Rattle.gi_store.specs.Book.{BookState, IsCounted, IsKept, book_code};
 
-    ghost Value = { Book S };
+    ghost Value = { BookState S };
 
     ghost coded = { book_code S.code };
 
     ghost view = { λ b. record { connection = b.connection; loaded = b.loaded } };
 
-    ghost invariant = { λ b. IsCounted b.loaded × (HasCleanDisk (state S.Store b.connection) → IsKept (state S.Store b.connection) b.loaded) };
+    ghost invariant = { λ b. IsCounted b.loaded × (IsClean S.Store b.connection → IsKept (state S.Store b.connection) b.loaded) };
 }
 
 /// So many rows, where the number that comes next is a `u32`.
@@ -67,14 +67,14 @@ impl<S: Alter + Drop> BookStore<S> {
     /// Opens the book that the database has, or makes one where its tables are missing: see
     /// `prepare`. It is not loaded.
     pub fn open(alloc: Global, mut connection: Connection<S>) -> Result<BookStore<S>, StoreFault>
-        ensures ready { IfOk result (λ book. HasCleanDisk (state S.Store book.connection) → IsReady (state S.Store book.connection)) }
-        ensures kept { IfOk result (λ book. HasCleanDisk (state S.Store book.connection) → KeepsOrMakes (state S.Store connection) (state S.Store book.connection)) }
-        ensures crash { IfOk result (λ book. HasCleanDisk (state S.Store book.connection) → LeavesOrMakes (state S.Store connection) (state S.Store book.connection)) }
+        ensures ready { IfOk result (λ book. IsClean S.Store book.connection → IsReady (state S.Store book.connection)) }
+        ensures kept { IfOk result (λ book. IsClean S.Store book.connection → KeepsOrMakes (state S.Store connection) (state S.Store book.connection)) }
+        ensures crash { IfOk result (λ book. IsClean S.Store book.connection → LeavesOrMakes (state S.Store connection) (state S.Store book.connection)) }
         ensures not_loaded { IfOk result (λ book. book.loaded ≡ None) }
         ensures named { IfErr result IsRefusal }
 
         // Where no disk lies, as in memory, `Version` means that no book was there or could be made.
-        ensures refused { ((c : Held S) → HasCleanDisk (state S.Store c)) → IfErr result (IsOpenFault (state S.Store connection)) }
+        ensures refused { ((c : Held S) → IsClean S.Store c) → IfErr result (IsOpenFault (state S.Store connection)) }
     {
         prepare(&mut connection)?;
         Ok(BookStore {
@@ -99,17 +99,17 @@ impl<S: Alter> BookStore<S> {
     /// database fails or memory runs out. No row is changed, and after a refusal the book is not
     /// loaded.
     pub fn load(&mut self) -> Result<Vec<Fact>, StoreFault>
-        ensures early { HasCleanDisk (state S.Store self.new.connection) → HasCleanDisk (state S.Store self.old.connection) }
+        ensures early { IsClean S.Store self.new.connection → IsClean S.Store self.old.connection }
 
         // On `Ok` the rows are these facts, from 1 on, and there are no others.
-        ensures facts { HasCleanDisk (state S.Store self.new.connection) → IfOk result (λ facts. IsRead (state S.Store self.new.connection) facts.items) }
+        ensures facts { IsClean S.Store self.new.connection → IfOk result (λ facts. IsRead (state S.Store self.new.connection) facts.items) }
 
         // A refusal has its cause, and is the first by number.
-        ensures refused { HasCleanDisk (state S.Store self.new.connection) → IfErr result (IsLoadFault (state S.Store self.old.connection)) }
+        ensures refused { IsClean S.Store self.new.connection → IfErr result (IsLoadFault (state S.Store self.old.connection)) }
 
         // No row is changed, and a crash leaves nothing that it could not leave before.
-        ensures kept { HasCleanDisk (state S.Store self.new.connection) → Keeps (state S.Store self.old.connection) (state S.Store self.new.connection) }
-        ensures crash { HasCleanDisk (state S.Store self.new.connection) → AddsNoOutcome (state S.Store self.old.connection) (state S.Store self.new.connection) }
+        ensures kept { IsClean S.Store self.new.connection → Keeps (state S.Store self.old.connection) (state S.Store self.new.connection) }
+        ensures crash { IsClean S.Store self.new.connection → AddsNoOutcome (state S.Store self.old.connection) (state S.Store self.new.connection) }
         ensures loaded { IfOk result (λ facts. self.new.loaded ≡ counted (length facts.items)) }
         ensures not_loaded { OnErr result (self.new.loaded ≡ None) }
     {
@@ -125,26 +125,26 @@ impl<S: Alter> BookStore<S> {
     /// out: then the row may be there or not, and the book is not loaded.
     pub fn save_next(&mut self, n: u32, fact: &Fact) -> Result<(), StoreFault>
         requires { IsWritable fact.now }
-        ensures early { HasCleanDisk (state S.Store self.new.connection) → HasCleanDisk (state S.Store self.old.connection) }
+        ensures early { IsClean S.Store self.new.connection → IsClean S.Store self.old.connection }
 
         // Which refusal it is.
         ensures answer { AnswersSave n self.old.loaded result }
         ensures unchanged { IfErr result (λ fault. IsFailure fault ⊎ (self.new ≡ self.old)) }
 
         // A crash at any moment leaves what it could leave before, or the rows with this one.
-        ensures crash { HasCleanDisk (state S.Store self.new.connection) → SavesOrLeaves n fact.now (state S.Store self.old.connection) (state S.Store self.new.connection) }
+        ensures crash { IsClean S.Store self.new.connection → SavesOrLeaves n fact.now (state S.Store self.old.connection) (state S.Store self.new.connection) }
 
         // Where the book is loaded, that is the rows as they were, or those with this one.
-        ensures before { HasCleanDisk (state S.Store self.new.connection) → SavesOrNot n fact.now self.old.loaded (state S.Store self.old.connection) (state S.Store self.new.connection) }
+        ensures before { IsClean S.Store self.new.connection → SavesOrNot n fact.now self.old.loaded (state S.Store self.old.connection) (state S.Store self.new.connection) }
 
         // On `Ok` the row is there, and each crash leaves it.
-        ensures saved { HasCleanDisk (state S.Store self.new.connection) → OnOk result (IsSaved n fact.now (state S.Store self.old.connection) (state S.Store self.new.connection)) }
+        ensures saved { IsClean S.Store self.new.connection → OnOk result (IsSaved n fact.now (state S.Store self.old.connection) (state S.Store self.new.connection)) }
 
         // The facts of the book go on by this one.
-        ensures facts { HasCleanDisk (state S.Store self.new.connection) → OnOk result ((facts : _) → AreFacts (facts_in (state S.Store self.old.connection).now) facts → AreFacts (facts_in (state S.Store self.new.connection).now) (facts ++ fact.now ∷ [])) }
+        ensures facts { IsClean S.Store self.new.connection → OnOk result ((facts : _) → AreFacts (facts_in (state S.Store self.old.connection).now) facts → AreFacts (facts_in (state S.Store self.new.connection).now) (facts ++ fact.now ∷ [])) }
 
         // After a refusal the rows that can be read are as before.
-        ensures kept { HasCleanDisk (state S.Store self.new.connection) → OnErr result (Keeps (state S.Store self.old.connection) (state S.Store self.new.connection)) }
+        ensures kept { IsClean S.Store self.new.connection → OnErr result (Keeps (state S.Store self.old.connection) (state S.Store self.new.connection)) }
         ensures loaded { OnOk result (self.new.loaded ≡ counted n) }
         ensures not_loaded { IfErr result (λ fault. IsFailure fault → self.new.loaded ≡ None) }
     {

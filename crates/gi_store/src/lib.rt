@@ -13,7 +13,7 @@
 //! A crash at any moment of a save leaves the rows as before or with that one. After a refused save
 //! the row may be there or not, so the book has to be loaded again. What is said of a database
 //! stands under one premise: nobody else wrote the file, and the disk returned what was written
-//! (`HasCleanDisk`); in memory it always holds ([`memory_is_clean`]).
+//! (`IsClean`); in memory it always holds ([`memory_is_clean`]).
 #![tactic(auto)]
 
 mod book_store;

@@ -1,7 +1,7 @@
 //! A book's facts are read.
 
 ghost use Rattle.std.specs.Prelude.{IfOk, IfErr};
-ghost use Rattle.sqlite.specs.State.{HasCleanDisk};
+ghost use Rattle.gi_store.specs.Clean.{IsClean};
 ghost use Rattle.sqlite.specs.Held.{state};
 ghost use Rattle.gi_store.specs.Book.{IsLoadFault, IsRead};
 ghost use Rattle.gi_store.specs.Keeping.{AddsNoOutcome, IsIdle, Keeps};
@@ -19,13 +19,13 @@ pub fn read_book<S: Alter>(
     alloc: Global,
     connection: &mut Connection<S>,
 ) -> Result<Vec<Fact>, StoreFault>
-    requires { HasCleanDisk (state S.Store connection.old) → IsIdle (state S.Store connection.old) }
-    ensures early { HasCleanDisk (state S.Store connection.new) → HasCleanDisk (state S.Store connection.old) }
-    ensures facts { HasCleanDisk (state S.Store connection.new) → IfOk result (λ facts. IsRead (state S.Store connection.new) facts.items) }
-    ensures refused { HasCleanDisk (state S.Store connection.new) → IfErr result (IsLoadFault (state S.Store connection.old)) }
-    ensures idle { HasCleanDisk (state S.Store connection.new) → IsIdle (state S.Store connection.new) }
-    ensures kept { HasCleanDisk (state S.Store connection.new) → Keeps (state S.Store connection.old) (state S.Store connection.new) }
-    ensures crash { HasCleanDisk (state S.Store connection.new) → AddsNoOutcome (state S.Store connection.old) (state S.Store connection.new) }
+    requires { IsClean S.Store connection.old → IsIdle (state S.Store connection.old) }
+    ensures early { IsClean S.Store connection.new → IsClean S.Store connection.old }
+    ensures facts { IsClean S.Store connection.new → IfOk result (λ facts. IsRead (state S.Store connection.new) facts.items) }
+    ensures refused { IsClean S.Store connection.new → IfErr result (IsLoadFault (state S.Store connection.old)) }
+    ensures idle { IsClean S.Store connection.new → IsIdle (state S.Store connection.new) }
+    ensures kept { IsClean S.Store connection.new → Keeps (state S.Store connection.old) (state S.Store connection.new) }
+    ensures crash { IsClean S.Store connection.new → AddsNoOutcome (state S.Store connection.old) (state S.Store connection.new) }
 {
     check_version(connection)?;
     let rows = fact_rows(connection)?;

@@ -1,7 +1,7 @@
 //! Making a book's tables.
 
 ghost use Rattle.std.specs.Prelude.{◌≡◌, false, OnOk, OnErr};
-ghost use Rattle.sqlite.specs.State.{HasCleanDisk};
+ghost use Rattle.gi_store.specs.Clean.{IsClean};
 ghost use Rattle.sqlite.specs.Held.{state};
 ghost use Rattle.gi_store.specs.Keeping.{IsMade, KeepsCommitted, LeavesOrMakes};
 ghost use Rattle.gi_store.specs.Tables.{IsFree};
@@ -12,10 +12,10 @@ use sqlite::{Alter, Connection, Error};
 pub fn make_tables<S: Alter>(connection: &mut Connection<S>) -> Result<(), Error>
     requires autocommit { (state S.Store connection.old).in_transaction ≡ false }
     requires free { IsFree (state S.Store connection.old).now.schema }
-    ensures early { HasCleanDisk (state S.Store connection.new) → HasCleanDisk (state S.Store connection.old) }
-    ensures made { HasCleanDisk (state S.Store connection.new) → OnOk result (IsMade (state S.Store connection.old) (state S.Store connection.new)) }
-    ensures kept { HasCleanDisk (state S.Store connection.new) → OnErr result (KeepsCommitted (state S.Store connection.old) (state S.Store connection.new)) }
-    ensures crash { HasCleanDisk (state S.Store connection.new) → LeavesOrMakes (state S.Store connection.old) (state S.Store connection.new) }
+    ensures early { IsClean S.Store connection.new → IsClean S.Store connection.old }
+    ensures made { IsClean S.Store connection.new → OnOk result (IsMade (state S.Store connection.old) (state S.Store connection.new)) }
+    ensures kept { IsClean S.Store connection.new → OnErr result (KeepsCommitted (state S.Store connection.old) (state S.Store connection.new)) }
+    ensures crash { IsClean S.Store connection.new → LeavesOrMakes (state S.Store connection.old) (state S.Store connection.new) }
 {
     let mut tx = connection.transaction();
     tx.execute(

@@ -1,7 +1,7 @@
 //! A database is made ready to hold a book.
 
 ghost use Rattle.std.specs.Prelude.{IfErr, OnErr, OnOk, IsTrue};
-ghost use Rattle.sqlite.specs.State.{HasCleanDisk};
+ghost use Rattle.gi_store.specs.Clean.{IsClean};
 ghost use Rattle.sqlite.specs.Held.{state};
 ghost use Rattle.gi_store.specs.Keeping.{IsReady, Keeps, KeepsOrMakes, LeavesOrMakes};
 ghost use Rattle.gi_store.specs.FaultText.{IsRefusal};
@@ -19,24 +19,24 @@ use sqlite::{Alter, Connection};
 /// other, one of other columns, another version or none, or something else of these names.
 /// `Store` also where a transaction is under way. No row that was there is changed.
 pub fn prepare<S: Alter>(connection: &mut Connection<S>) -> Result<(), StoreFault>
-    ensures early { HasCleanDisk (state S.Store connection.new) → HasCleanDisk (state S.Store connection.old) }
+    ensures early { IsClean S.Store connection.new → IsClean S.Store connection.old }
 
     // On `Ok` the database is a book of version 1.
-    ensures ready { HasCleanDisk (state S.Store connection.new) → OnOk result (IsReady (state S.Store connection.new)) }
+    ensures ready { IsClean S.Store connection.new → OnOk result (IsReady (state S.Store connection.new)) }
 
     // `Version` means that there was no such book, and that none could be made.
-    ensures refused { HasCleanDisk (state S.Store connection.new) → IfErr result (IsOpenFault (state S.Store connection.old)) }
+    ensures refused { IsClean S.Store connection.new → IfErr result (IsOpenFault (state S.Store connection.old)) }
 
     ensures named { IfErr result IsRefusal }
 
     // A refusal leaves what can be read as it was.
-    ensures unmade { HasCleanDisk (state S.Store connection.new) → OnErr result (Keeps (state S.Store connection.old) (state S.Store connection.new)) }
+    ensures unmade { IsClean S.Store connection.new → OnErr result (Keeps (state S.Store connection.old) (state S.Store connection.new)) }
 
     // What was there stays, with a new book beside it or without.
-    ensures kept { HasCleanDisk (state S.Store connection.new) → IsTrue (state S.Store connection.new).is_open → KeepsOrMakes (state S.Store connection.old) (state S.Store connection.new) }
+    ensures kept { IsClean S.Store connection.new → IsTrue (state S.Store connection.new).is_open → KeepsOrMakes (state S.Store connection.old) (state S.Store connection.new) }
 
     // A crash at any moment leaves what it could leave before, or what was there with a new book.
-    ensures crash { HasCleanDisk (state S.Store connection.new) → LeavesOrMakes (state S.Store connection.old) (state S.Store connection.new) }
+    ensures crash { IsClean S.Store connection.new → LeavesOrMakes (state S.Store connection.old) (state S.Store connection.new) }
 {
     if !connection.is_autocommit() {
         return Err(StoreFault::Store);

@@ -22,7 +22,6 @@ fn number_of(row: &Row) -> Result<i64, StoreFault>
     }
 }
 
-/// The fact that the body of the row with this number is.
 fn body_of(alloc: Global, row: &Row, number: i64) -> Result<Fact, StoreFault>
     ensures body { IfOk result (HasBody row.now) }
     ensures refused { IfErr result (IsBodyFault row.now number) }

@@ -1,7 +1,7 @@
 //! The statements of a book, one function each.
 
 ghost use Rattle.std.specs.Prelude.{◌≡◌, ◌⊎◌, [], ◌∷◌, IsTrue, IfOk, IfErr, OnOk, OnErr, IsPermutation, codes};
-ghost use Rattle.sqlite.specs.State.{HasCleanDisk};
+ghost use Rattle.gi_store.specs.Clean.{IsClean};
 ghost use Rattle.sqlite.specs.Held.{state};
 ghost use Rattle.gi_store.specs.Keeping.{IsIdle, Keeps, AddsNoOutcome, PutsRow, MayPutRow};
 ghost use Rattle.gi_store.specs.Order.{ArePutInOrder};
@@ -13,28 +13,28 @@ use sqlite::{Alter, Connection, Error, Row};
 
 /// The rows of the table `book`.
 pub fn book_rows<S: Alter>(connection: &mut Connection<S>) -> Result<Vec<Row>, Error>
-    requires tables { HasCleanDisk (state S.Store connection.old) → HasTables (state S.Store connection.old).now.schema }
-    requires idle { HasCleanDisk (state S.Store connection.old) → IsIdle (state S.Store connection.old) }
-    ensures early { HasCleanDisk (state S.Store connection.new) → HasCleanDisk (state S.Store connection.old) }
-    ensures rows { HasCleanDisk (state S.Store connection.new) → IfOk result (λ rows. IsPermutation (versions_in (state S.Store connection.new).now) rows.items) }
-    ensures opened { HasCleanDisk (state S.Store connection.new) → OnOk result (IsTrue (state S.Store connection.new).is_open) }
-    ensures idle { HasCleanDisk (state S.Store connection.new) → IsIdle (state S.Store connection.new) }
-    ensures kept { HasCleanDisk (state S.Store connection.new) → Keeps (state S.Store connection.old) (state S.Store connection.new) }
-    ensures crash { HasCleanDisk (state S.Store connection.new) → AddsNoOutcome (state S.Store connection.old) (state S.Store connection.new) }
+    requires tables { IsClean S.Store connection.old → HasTables (state S.Store connection.old).now.schema }
+    requires idle { IsClean S.Store connection.old → IsIdle (state S.Store connection.old) }
+    ensures early { IsClean S.Store connection.new → IsClean S.Store connection.old }
+    ensures rows { IsClean S.Store connection.new → IfOk result (λ rows. IsPermutation (versions_in (state S.Store connection.new).now) rows.items) }
+    ensures opened { IsClean S.Store connection.new → OnOk result (IsTrue (state S.Store connection.new).is_open) }
+    ensures idle { IsClean S.Store connection.new → IsIdle (state S.Store connection.new) }
+    ensures kept { IsClean S.Store connection.new → Keeps (state S.Store connection.old) (state S.Store connection.new) }
+    ensures crash { IsClean S.Store connection.new → AddsNoOutcome (state S.Store connection.old) (state S.Store connection.new) }
 {
     connection.query_all("SELECT * FROM book", &[])
 }
 
 /// The rows of the table `facts`, in the order of their numbers.
 pub fn fact_rows<S: Alter>(connection: &mut Connection<S>) -> Result<Vec<Row>, Error>
-    requires tables { HasCleanDisk (state S.Store connection.old) → HasTables (state S.Store connection.old).now.schema }
-    requires idle { HasCleanDisk (state S.Store connection.old) → IsIdle (state S.Store connection.old) }
-    ensures early { HasCleanDisk (state S.Store connection.new) → HasCleanDisk (state S.Store connection.old) }
-    ensures rows { HasCleanDisk (state S.Store connection.new) → IfOk result (λ rows. ArePutInOrder (facts_in (state S.Store connection.new).now) rows.items) }
-    ensures opened { HasCleanDisk (state S.Store connection.new) → OnOk result (IsTrue (state S.Store connection.new).is_open) }
-    ensures idle { HasCleanDisk (state S.Store connection.new) → IsIdle (state S.Store connection.new) }
-    ensures kept { HasCleanDisk (state S.Store connection.new) → Keeps (state S.Store connection.old) (state S.Store connection.new) }
-    ensures crash { HasCleanDisk (state S.Store connection.new) → AddsNoOutcome (state S.Store connection.old) (state S.Store connection.new) }
+    requires tables { IsClean S.Store connection.old → HasTables (state S.Store connection.old).now.schema }
+    requires idle { IsClean S.Store connection.old → IsIdle (state S.Store connection.old) }
+    ensures early { IsClean S.Store connection.new → IsClean S.Store connection.old }
+    ensures rows { IsClean S.Store connection.new → IfOk result (λ rows. ArePutInOrder (facts_in (state S.Store connection.new).now) rows.items) }
+    ensures opened { IsClean S.Store connection.new → OnOk result (IsTrue (state S.Store connection.new).is_open) }
+    ensures idle { IsClean S.Store connection.new → IsIdle (state S.Store connection.new) }
+    ensures kept { IsClean S.Store connection.new → Keeps (state S.Store connection.old) (state S.Store connection.new) }
+    ensures crash { IsClean S.Store connection.new → AddsNoOutcome (state S.Store connection.old) (state S.Store connection.new) }
 {
     connection.query_all("SELECT * FROM facts ORDER BY 1", &[])
 }
@@ -45,13 +45,13 @@ pub fn add_fact<S: Alter>(
     n: u32,
     body: &[u8],
 ) -> Result<usize, Error>
-    requires tables { HasCleanDisk (state S.Store connection.old) → HasTables (state S.Store connection.old).now.schema }
-    requires idle { HasCleanDisk (state S.Store connection.old) → IsIdle (state S.Store connection.old) }
-    ensures early { HasCleanDisk (state S.Store connection.new) → HasCleanDisk (state S.Store connection.old) }
-    ensures idle { HasCleanDisk (state S.Store connection.new) → IsIdle (state S.Store connection.new) }
-    ensures written { HasCleanDisk (state S.Store connection.new) → OnOk result (IsTrue (state S.Store connection.old).is_open × IsTrue (state S.Store connection.new).is_open × ((state S.Store connection.new).now.schema ≡ (state S.Store connection.old).now.schema) × PutsRow (state S.Store connection.old).now.schema n body.now (state S.Store connection.old).now.trees (state S.Store connection.new).now.trees) }
-    ensures kept { HasCleanDisk (state S.Store connection.new) → OnErr result (Keeps (state S.Store connection.old) (state S.Store connection.new)) }
-    ensures crash { HasCleanDisk (state S.Store connection.new) → MayPutRow n body.now (state S.Store connection.old) (state S.Store connection.new) }
+    requires tables { IsClean S.Store connection.old → HasTables (state S.Store connection.old).now.schema }
+    requires idle { IsClean S.Store connection.old → IsIdle (state S.Store connection.old) }
+    ensures early { IsClean S.Store connection.new → IsClean S.Store connection.old }
+    ensures idle { IsClean S.Store connection.new → IsIdle (state S.Store connection.new) }
+    ensures written { IsClean S.Store connection.new → OnOk result (IsTrue (state S.Store connection.old).is_open × IsTrue (state S.Store connection.new).is_open × ((state S.Store connection.new).now.schema ≡ (state S.Store connection.old).now.schema) × PutsRow (state S.Store connection.old).now.schema n body.now (state S.Store connection.old).now.trees (state S.Store connection.new).now.trees) }
+    ensures kept { IsClean S.Store connection.new → OnErr result (Keeps (state S.Store connection.old) (state S.Store connection.new)) }
+    ensures crash { IsClean S.Store connection.new → MayPutRow n body.now (state S.Store connection.old) (state S.Store connection.new) }
 {
     let number = n.to_sql();
     let text = ValueRef::Text(body);

@@ -13,14 +13,12 @@ use sqlite_schema::schema::{Column, Kind, Schema, Stamps, Table};
 use sqlite_value::keys::Collation;
 use sqlite_value::value::Value;
 
-/// Whether there is no term.
 fn has_none(terms: &Terms) -> bool
     ensures { IsTrue result ↔ (terms.now ≡ []) }
 {
     terms.roots.is_empty()
 }
 
-/// Whether the column has this name and affinity, and takes NULL or not.
 fn is_column(column: &Column, name: &[u8], kind: Kind, not_null: bool) -> bool
     ensures { IsTrue result ↔ (column.now ≡ named_column name.now kind not_null) }
 {
@@ -32,7 +30,6 @@ fn is_column(column: &Column, name: &[u8], kind: Kind, not_null: bool) -> bool
         && column.collation == Collation::Binary
 }
 
-/// Whether the table has no rule beside its key and its columns.
 fn is_bare(table: &Table) -> bool
     ensures { IsTrue result ↔ IsBare table.now }
 {
@@ -52,14 +49,12 @@ fn is_unstamped(stamps: &Stamps) -> bool
     stamps.places.is_empty() && has_none(&stamps.terms) && stamps.formats.is_empty()
 }
 
-/// Whether the first column is the primary key.
 fn is_keyed(table: &Table) -> bool
     ensures { IsTrue result ↔ (table.now.key ≡ Some 0) × (table.now.primary ≡ 0 ∷ []) }
 {
     table.key == Some(0) && table.primary.as_slice() == [0].as_slice()
 }
 
-/// Whether the table's columns are a whole number of this name and another column, of that name and affinity.
 fn has_columns(table: &Table, key: &[u8], value: &[u8], kind: Kind) -> bool
     ensures { IsTrue result ↔ (table.now.columns ≡ named_column key.now Integer false ∷ named_column value.now kind true ∷ []) }
 {
@@ -70,7 +65,6 @@ fn has_columns(table: &Table, key: &[u8], value: &[u8], kind: Kind) -> bool
     }
 }
 
-/// Whether the table is one of this name, with these two columns and no other rule.
 fn is_table(table: &Table, name: &[u8], key: &[u8], value: &[u8], kind: Kind) -> bool
     ensures { IsTrue result ↔ (table.now ≡ plain_table name.now table.now.tree (named_column key.now Integer false) (named_column value.now kind true)) }
 {
@@ -80,7 +74,6 @@ fn is_table(table: &Table, name: &[u8], key: &[u8], value: &[u8], kind: Kind) ->
         && is_bare(table)
 }
 
-/// Whether the table of this name is listed, and has these two columns and no other rule.
 #[tactic(auto, unfolding(crate::specs::Tables::table_at, crate::specs::Tables::tree_of))]
 fn lists_table(schema: &Schema, name: &[u8], key: &[u8], value: &[u8], kind: Kind) -> bool
     ensures { IsTrue result ↔ (table_at schema.now name.now ≡ Some (plain_table name.now (tree_of schema.now name.now) (named_column key.now Integer false) (named_column value.now kind true))) }
@@ -116,7 +109,6 @@ fn lacks_sequence(schema: &Schema) -> bool
     any_counted(schema.tables.as_slice()) && !lists(schema, b"sqlite_sequence")
 }
 
-/// Whether a table of this name is listed.
 fn lists(schema: &Schema, name: &[u8]) -> bool
     ensures { result ≡ is_some (option_and_then (slice_get schema.now.tables) (table_named schema.now name.now)) }
 {

@@ -1,7 +1,7 @@
 //! The version of a book.
 
 ghost use Rattle.std.specs.Prelude.{◌≡◌, ◌↔◌, [], ◌∷◌, IsTrue, IfErr, OnOk};
-ghost use Rattle.sqlite.specs.State.{HasCleanDisk};
+ghost use Rattle.gi_store.specs.Clean.{IsClean};
 ghost use Rattle.sqlite.specs.Held.{state};
 ghost use Rattle.gi_store.specs.Keeping.{IsFirstBook, IsIdle, Keeps, AddsNoOutcome};
 ghost use Rattle.gi_store.specs.FaultText.{IsRefusal};
@@ -14,7 +14,6 @@ use crate::tables::is_book;
 use sqlite::types::ValueRef;
 use sqlite::{Alter, Connection, Row};
 
-/// Whether the row is that of version 1.
 fn is_first_version(row: &Row) -> bool
     ensures { IsTrue result ↔ (row.now ≡ first_version) }
 {
@@ -23,7 +22,6 @@ fn is_first_version(row: &Row) -> bool
         && matches!(row.get_ref(1), Ok(ValueRef::Int(1)))
 }
 
-/// Whether the one row is that of version 1.
 fn are_first_version(rows: &[Row]) -> bool
     ensures { IsTrue result ↔ (rows.now ≡ first_version ∷ []) }
 {
@@ -35,14 +33,14 @@ fn are_first_version(rows: &[Row]) -> bool
 
 /// Refuses a database that is no book of version 1, by `Version`. It changes nothing.
 pub fn check_version<S: Alter>(connection: &mut Connection<S>) -> Result<(), StoreFault>
-    requires { HasCleanDisk (state S.Store connection.old) → IsIdle (state S.Store connection.old) }
-    ensures early { HasCleanDisk (state S.Store connection.new) → HasCleanDisk (state S.Store connection.old) }
-    ensures version { HasCleanDisk (state S.Store connection.new) → OnOk result (IsTrue (state S.Store connection.new).is_open × IsFirstBook (state S.Store connection.new).now) }
-    ensures refused { HasCleanDisk (state S.Store connection.new) → IfErr result (IsVersionFault (state S.Store connection.old)) }
+    requires { IsClean S.Store connection.old → IsIdle (state S.Store connection.old) }
+    ensures early { IsClean S.Store connection.new → IsClean S.Store connection.old }
+    ensures version { IsClean S.Store connection.new → OnOk result (IsTrue (state S.Store connection.new).is_open × IsFirstBook (state S.Store connection.new).now) }
+    ensures refused { IsClean S.Store connection.new → IfErr result (IsVersionFault (state S.Store connection.old)) }
     ensures named { IfErr result IsRefusal }
-    ensures idle { HasCleanDisk (state S.Store connection.new) → IsIdle (state S.Store connection.new) }
-    ensures kept { HasCleanDisk (state S.Store connection.new) → Keeps (state S.Store connection.old) (state S.Store connection.new) }
-    ensures crash { HasCleanDisk (state S.Store connection.new) → AddsNoOutcome (state S.Store connection.old) (state S.Store connection.new) }
+    ensures idle { IsClean S.Store connection.new → IsIdle (state S.Store connection.new) }
+    ensures kept { IsClean S.Store connection.new → Keeps (state S.Store connection.old) (state S.Store connection.new) }
+    ensures crash { IsClean S.Store connection.new → AddsNoOutcome (state S.Store connection.old) (state S.Store connection.new) }
 {
     if !is_book(connection.schema()) {
         return Err(StoreFault::Version);

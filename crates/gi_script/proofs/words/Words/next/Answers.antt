@@ -1,7 +1,7 @@
 use Rattle.std.proofs.Common.{◌≡◌, arith, lit<, ◌∙◌, rules}
 use Rattle.std.proofs.lemmas.Str.Pattern.{split_once_first}
 use Rattle.gi_script.specs.Words.{space, words_of}
-use Rattle.gi_script.proofs.PartLemmas.{parts-found, parts-none}
+use Rattle.gi_script.proofs.WordLemmas.{words-found, words-none}
 use Rattle.gi_script.proofs.words.Words.next.Goals as goal
 
 pub returns-in-Some : goal.returns-in-Some
@@ -10,7 +10,7 @@ returns-in-Some c =
     let cut = split_once_first space rest c.split_once.result c.split_once.ensures.cases (lit< tt) in
     let parts = rw c.in-Some.is at cut in
     let was : c.args.self.now ≡ words_of rest = search rules in
-    rw (was, parts.1, parts.2) (parts-found space rest parts.0)
+    rw (was, parts.1, parts.2) (words-found rest parts.0)
 
 pub returns-in-None : goal.returns-in-None
 returns-in-None c =
@@ -18,4 +18,4 @@ returns-in-None c =
     let cut = split_once_first space rest c.split_once.result c.split_once.ensures.cases (lit< tt) in
     let all = rw c.in-None.is at cut in
     let was : c.args.self.now ≡ words_of rest = search rules in
-    was ∙ parts-none space rest (omega arith)
+    was ∙ words-none rest (omega arith)

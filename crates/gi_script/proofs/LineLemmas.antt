@@ -1,10 +1,10 @@
--- The first line of an input, and the lines after it.
-use Rattle.std.proofs.Common.{◌≡◌, ◌≢◌, ℕ, ◌+◌, ◌<◌, ◌≤◌, Bool, true, false, ◌==◌, List, [], ◌∷◌, length, take, drop, refl, arith, subst, Some, None, one-add, add-one, not, cond}
+-- The first line of a text, and the lines after it.
+use Rattle.std.proofs.Common.{◌≡◌, ℕ, ◌+◌, ◌<◌, ◌≤◌, Bool, true, false, ◌==◌, List, [], ◌∷◌, length, take, drop, refl, arith, subst, Some, None, one-add, add-one, not, cond}
 use Rattle.std.specs.List.{onto_first, position, position_or_len}
 use Rattle.std.proofs.lemmas.Option.{cond_some}
 use Rattle.std.proofs.lemmas.Bool.Decides.{nat_tests}
 use Rattle.std.specs.Prelude.{nat_lt}
-use Rattle.gi_commands.specs.Lines.{lines}
+use Rattle.gi_script.specs.Lines.{lines}
 
 abbrev ends_line : ℕ → Bool
 ends_line byte = byte == 10
@@ -72,15 +72,7 @@ pub lines-unended : (bytes : List ℕ) → 0 < length bytes → position ends_li
 lines-unended [] some none = absurd (omega arith)
 lines-unended (byte ∷ bytes) some none = one_line byte bytes (no_position (byte ∷ bytes) none)
 
-onto_some : (byte : ℕ) (rest : List (List ℕ)) → onto_first byte rest ≢ []
-onto_some byte [] empty = cc
-onto_some byte (line ∷ rest) empty = cc
-
-cons_some : (byte : ℕ) (bytes : List ℕ) (ended : Bool) → ends_line byte ≡ ended → lines (byte ∷ bytes) ≢ []
-cons_some byte bytes true is empty = let line = lines-line_feed byte bytes is in cc
-cons_some byte bytes false is empty = onto_some byte (lines bytes) (rw (lines-other byte bytes is) at empty)
-
--- where a byte is left, a line is
-pub lines-some : (bytes : List ℕ) → 0 < length bytes → lines bytes ≢ []
-lines-some [] some = absurd (omega arith)
-lines-some (byte ∷ bytes) some = cons_some byte bytes (ends_line byte) refl
+-- no byte, no line
+pub lines-none : (bytes : List ℕ) → length bytes ≡ 0 → lines bytes ≡ []
+lines-none [] none = lines-empty
+lines-none (byte ∷ bytes) none = absurd (omega arith)

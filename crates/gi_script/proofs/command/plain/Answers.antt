@@ -1,5 +1,5 @@
 use Rattle.std.proofs.Common.{refl}
-use Rattle.gi_script.proofs.order.plain.Goals as goal
+use Rattle.gi_script.proofs.command.plain.Goals as goal
 
 pub returns-in_err-contract-in-Contract : goal.returns-in_err-contract-in-Contract
 returns-in_err-contract-in-Contract c = λ other. rw (c.in-Contract.is, c.from_residual.ensures) (λ x says. c.in_err-contract-in-Contract.ensures says.0 says.2)

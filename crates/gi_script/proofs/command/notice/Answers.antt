@@ -1,5 +1,5 @@
 use Rattle.std.proofs.Common.{[], ◌∷◌}
-use Rattle.gi_script.proofs.order.notice.Goals as goal
+use Rattle.gi_script.proofs.command.notice.Goals as goal
 
 pub returns-in_err-day : goal.returns-in_err-day
 returns-in_err-day c =

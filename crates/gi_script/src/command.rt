@@ -142,7 +142,7 @@ fn submission(alloc: Global, side: Side, words: Words<'_>) -> Result<Instruction
 }
 
 /// What `SIDE VERB` and the words after it say.
-pub fn order(
+pub fn command(
     alloc: Global,
     side: Side,
     verb: Verb,

@@ -1,5 +1,5 @@
 use Rattle.std.proofs.Common.{[], ◌∷◌}
-use Rattle.gi_script.proofs.order.contract.Goals as goal
+use Rattle.gi_script.proofs.command.contract.Goals as goal
 
 pub returns-in_err-portfolio : goal.returns-in_err-portfolio
 returns-in_err-portfolio c =
