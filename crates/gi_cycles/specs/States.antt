@@ -1,8 +1,8 @@
 -- What a cycle holds when it is frozen, and when it is matched.
 use Rattle.std.specs.Prelude.{◌≡◌, ◌≤◌, length}
-use Rattle.gi_lesser.specs.Lesser.{HasShapeOf, IsLesser, lesser_of}
+use Rattle.gi_lesser.specs.Lesser.{IsLesser, lesser_of}
 use Rattle.gi_pairs.specs.Limits.{most_processed_rows}
-use Rattle.gi_pairs.specs.Table.{TableContents}
+use Rattle.gi_pairs.specs.Table.{HasShapeOf, TableContents}
 use Rattle.gi_pairs.specs.declared.cycle_id.CycleId.{CycleId}
 use Rattle.gi_cycles.specs.declared.meet_fault.MeetFault.{MeetFault}
 use Rattle.gi_cycles.specs.declared.meet_fault.MeetFault.TheVariants.{ShapeDiffers, OutOfMemory}

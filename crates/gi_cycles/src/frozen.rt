@@ -1,6 +1,6 @@
-ghost use Rattle.std.specs.Prelude.{◌≡◌, ◌↔◌, ◌≤◌, Err, IfErr, IfOk, IsTrue, length};
-ghost use Rattle.gi_lesser.specs.Lesser.{HasShapeOf};
+ghost use Rattle.std.specs.Prelude.{◌≡◌, ◌≤◌, Err, IfErr, IfOk, length};
 ghost use Rattle.gi_pairs.specs.Limits.{most_processed_rows};
+ghost use Rattle.gi_pairs.specs.Table.{HasShapeOf};
 ghost use Rattle.gi_cycles.specs.States.{IsMeetFault, matched_of};
 
 use crate::matched::Matched;
@@ -27,13 +27,6 @@ impl Model for Frozen {
     ghost view = { λ f. record { id = f.id; own = f.own } };
 
     ghost invariant = { λ f. length f.own.rows ≤ most_processed_rows };
-}
-
-/// Whether both tables are for the same hours.
-fn same_hours(own: &Table, peer: &Table) -> bool
-    ensures { IsTrue result ↔ HasShapeOf own.now peer.now }
-{
-    own.first() == peer.first() && own.last() == peer.last()
 }
 
 impl Frozen {
@@ -73,7 +66,7 @@ impl Frozen {
         ensures fault { IfErr result (λ refused. IsMeetFault self peer refused.1) }
         ensures kept { IfErr result (λ refused. refused.0 ≡ self) }
     {
-        if !same_hours(&self.own, &peer) {
+        if !self.own.covers_same_hours(&peer) {
             return Err((self, MeetFault::ShapeDiffers));
         }
         match lesser(alloc, &self.own, &peer) {

@@ -13,16 +13,17 @@ use Rattle.gi_pairs.specs.Table.{TableContents}
 use Rattle.gi_pairs.specs.declared.cycle_id.CycleId.{CycleId}
 use Rattle.gi_pairs.specs.declared.direction.Direction.{Direction}
 use Rattle.gi_messages.specs.Decoding.{nomint, kind_of as message_kind_of}
-use Rattle.gi_messages.specs.Grammar.{Has, IsText, IsWhole, HasTable, IsOfKind as IsOfMessageKind}
+use Rattle.gi_messages.specs.Grammar.{Has, IsText, IsWhole, HasTable}
 use Rattle.gi_messages.specs.Json.{json_of}
-use Rattle.gi_messages.specs.Key.{key_text}
 use Rattle.gi_messages.specs.Limits.{last_cycle}
-use Rattle.gi_messages.specs.Reading.{Read, ◌>>=◌, wanted, member_at, text, code, day, direction, number, table}
+use Rattle.gi_messages.specs.Reading.{Read, ◌>>=◌, code, day, direction, number, span, table}
+use Rattle.gi_messages.specs.declared.head.Span.{Span}
 use Rattle.gi_messages.specs.declared.key.Key.TheVariants as keys
 use Rattle.gi_messages.specs.declared.kind.Kind.{Kind as MessageKind}
 use Rattle.gi_messages.specs.declared.kind.Kind.TheVariants as message_kinds
 use Rattle.gi_messages.specs.declared.message.Nomint.{Nomint}
-use Rattle.gi_messages.proofs.FieldLemmas.{Reads, Reads-code, Reads-day, Reads-direction, Reads-field, Reads-named, Reads-number, bind_ok, wanted_ok}
+use Rattle.gi_messages.proofs.FieldLemmas.{Reads, Reads-code, Reads-day, Reads-direction, Reads-field, Reads-named, Reads-number, bind_ok}
+use Rattle.gi_messages.proofs.HeadLemmas.{Reads-span, made_span}
 use Rattle.gi_messages.proofs.HoursLemmas.{ok_is}
 use Rattle.gi_messages.proofs.MessageLemmas.{found_passes, kind_of-again, kind_of-takes}
 use Rattle.gi_messages.proofs.NominationLemmas.{nomint_takes, nomint_again}
@@ -37,7 +38,6 @@ use Rattle.gi_facts.specs.Kind.{kind_named, kind_text, kinds as all_kinds}
 use Rattle.gi_facts.specs.declared.fact.Fact.{Fact}
 use Rattle.gi_facts.specs.declared.fact.Fact.TheVariants as facts
 use Rattle.gi_facts.specs.declared.fact_fault.FactFault.{FactFault}
-use Rattle.gi_facts.specs.declared.fact_fault.FactFault.TheVariants.{NotAFact, OutOfMemory}
 use Rattle.gi_facts.specs.declared.kind.Kind.{Kind}
 use Rattle.gi_facts.specs.declared.kind.Kind.TheVariants as kinds
 
@@ -79,28 +79,27 @@ contract_again d c h =
 
 -- ---- notices
 
-made_notice : Date → Direction → ℕ → ℕ → ℕ → ℕ → Notice
-made_notice date direction first last firm interruptible = record { day = date; direction = direction; first = first; last = last; firm = firm; interruptible = interruptible }
+made_notice : Date → Direction → Span → ℕ → ℕ → Notice
+made_notice date direction s firm interruptible = record { day = date; direction = direction; first = s.first; last = s.last; firm = firm; interruptible = interruptible }
 
 notice_takes : (d : Data) (n : Notice) → notice d ≡ Ok n → IsNotice d n
 unfolding notice made_notice
 notice_takes d n e =
-    let sixth = λ (w : Date) (x : Direction) (first last firm : ℕ). number 0 most_permille keys.Interruptible d >>= λ interruptible. Ok (made_notice w x first last firm interruptible) in
-    let fifth = λ (w : Date) (x : Direction) (first last : ℕ). number 0 most_permille keys.Firm d >>= sixth w x first last in
-    let fourth = λ (w : Date) (x : Direction) (first : ℕ). number first last_hour keys.Last d >>= fifth w x first in
-    let third = λ (w : Date) (x : Direction). number 1 last_hour keys.First d >>= fourth w x in
+    let fifth = λ (w : Date) (x : Direction) (s : Span) (firm : ℕ). number 0 most_permille keys.Interruptible d >>= λ interruptible. Ok (made_notice w x s firm interruptible) in
+    let fourth = λ (w : Date) (x : Direction) (s : Span). number 0 most_permille keys.Firm d >>= fifth w x s in
+    let third = λ (w : Date) (x : Direction). span d >>= fourth w x in
     let second = λ (w : Date). direction keys.Direction d >>= third w in
     let w = bind_ok (day keys.Day d) second n e in
     let x = bind_ok (direction keys.Direction d) (third w.0) n w.2 in
-    let f = bind_ok (number 1 last_hour keys.First d) (fourth w.0 x.0) n x.2 in
-    let l = bind_ok (number f.0 last_hour keys.Last d) (fifth w.0 x.0 f.0) n f.2 in
-    let firm = bind_ok (number 0 most_permille keys.Firm d) (sixth w.0 x.0 f.0 l.0) n l.2 in
-    let i = bind_ok (number 0 most_permille keys.Interruptible d) (λ interruptible. Ok (made_notice w.0 x.0 f.0 l.0 firm.0 interruptible)) n firm.2 in
-    subst {A = Notice} (IsNotice d) (ok_is (made_notice w.0 x.0 f.0 l.0 firm.0 i.0) n i.2) (record {
+    let s = bind_ok (span d) (fourth w.0 x.0) n x.2 in
+    let firm = bind_ok (number 0 most_permille keys.Firm d) (fifth w.0 x.0 s.0) n s.2 in
+    let i = bind_ok (number 0 most_permille keys.Interruptible d) (λ interruptible. Ok (made_notice w.0 x.0 s.0 firm.0 interruptible)) n firm.2 in
+    let hours = Reads-span.takes d s.0 s.1 in
+    subst {A = Notice} (IsNotice d) (ok_is (made_notice w.0 x.0 s.0 firm.0 i.0) n i.2) (record {
       day = (Reads-day keys.Day).takes d w.0 w.1;
       direction = (Reads-direction keys.Direction).takes d x.0 x.1;
-      first = (Reads-number 1 last_hour keys.First).takes d f.0 f.1;
-      last = (Reads-number f.0 last_hour keys.Last).takes d l.0 l.1;
+      first = hours.first;
+      last = hours.last;
       firm = (Reads-number 0 most_permille keys.Firm).takes d firm.0 firm.1;
       interruptible = (Reads-number 0 most_permille keys.Interruptible).takes d i.0 i.1;
     })
@@ -111,8 +110,7 @@ notice_again d n h =
     rw (
       (Reads-day keys.Day).again d n.day h.day,
       (Reads-direction keys.Direction).again d n.direction h.direction,
-      (Reads-number 1 last_hour keys.First).again d n.first h.first,
-      (Reads-number n.first last_hour keys.Last).again d n.last h.last,
+      Reads-span.again d (made_span n.first n.last) (record { first = h.first; last = h.last }),
       (Reads-number 0 most_permille keys.Firm).again d n.firm h.firm,
       (Reads-number 0 most_permille keys.Interruptible).again d n.interruptible h.interruptible,
     ) refl
@@ -161,15 +159,13 @@ cycle_id_again d id h = rw ((Reads-day keys.Day).again d id.day h.day, (Reads-nu
 peer_table_takes : (d : Data) (peer : TableContents) → peer_table d ≡ Ok peer → IsPeerTable d peer
 unfolding peer_table
 peer_table_takes d peer e =
-    let third = λ (first last : ℕ). table keys.Peer most_processed_rows first last d in
-    let second = λ (first : ℕ). number first last_hour keys.Last d >>= third first in
-    let f = bind_ok (number 1 last_hour keys.First d) second peer e in
-    let l = bind_ok (number f.0 last_hour keys.Last d) (third f.0) peer f.2 in
-    let rows = table_takes keys.Peer most_processed_rows f.0 l.0 d peer l.2 in
-    let moved = λ (P : ℕ → ℕ → Type 0). for_its_hours P f.0 l.0 peer rows.makes.begins rows.makes.ends in
+    let s = bind_ok (span d) (λ s. table keys.Peer most_processed_rows s.first s.last d) peer e in
+    let hours = Reads-span.takes d s.0 s.1 in
+    let rows = table_takes keys.Peer most_processed_rows s.0.first s.0.last d peer s.2 in
+    let moved = λ (P : ℕ → ℕ → Type 0). for_its_hours P s.0.first s.0.last peer rows.makes.begins rows.makes.ends in
     record {
-      first = moved (λ first last. Has (IsWhole 1 last_hour) keys.First d first) ((Reads-number 1 last_hour keys.First).takes d f.0 f.1);
-      last = moved (λ first last. Has (IsWhole first last_hour) keys.Last d last) ((Reads-number f.0 last_hour keys.Last).takes d l.0 l.1);
+      first = moved (λ first last. Has (IsWhole 1 last_hour) keys.First d first) hours.first;
+      last = moved (λ first last. Has (IsWhole first last_hour) keys.Last d last) hours.last;
       rows = moved (λ first last. HasTable most_processed_rows first last keys.Peer d peer) rows;
     }
 
@@ -177,8 +173,7 @@ peer_table_again : (d : Data) (peer : TableContents) → IsPeerTable d peer → 
 unfolding peer_table
 peer_table_again d peer h =
     rw (
-      (Reads-number 1 last_hour keys.First).again d peer.first h.first,
-      (Reads-number peer.first last_hour keys.Last).again d peer.last h.last,
+      Reads-span.again d (made_span peer.first peer.last) (record { first = h.first; last = h.last }),
       table_again keys.Peer most_processed_rows peer.first peer.last d peer h.rows,
     ) refl
 

@@ -1,11 +1,9 @@
 -- Facts are the same exactly where they are equal.
-use Rattle.std.proofs.Common.{◌≡◌, ℕ, Bool, true, false, ◌&&◌, List, refl, ap, subst, nat_eq}
+use Rattle.std.proofs.Common.{◌≡◌, ℕ, true, ◌&&◌, List, refl, ap, subst, nat_eq}
 use Rattle.std.specs.Prelude.{Decides}
 use Rattle.std.specs.Cmp.Lexicographic.{pointwise}
-use Rattle.std.specs.Str.{bytes_eq}
-use Rattle.std.proofs.lemmas.Bool.{and_parts, and_from}
 use Rattle.std.proofs.lemmas.Bool.Decides.{Decides-and, Decides-eqb, Decides-like}
-use Rattle.std.proofs.lemmas.Slice.Eq.{bytes_eq-Decides, slice_eq-Decides}
+use Rattle.std.proofs.lemmas.Slice.Eq.{slice_eq-Decides}
 use Rattle.gi_day.specs.SameDay.{same_day}
 use Rattle.gi_day.proofs.DayLaws.{same_day-Decides}
 use Rattle.gi_pairs.specs.Direction.{place_of}
@@ -15,13 +13,13 @@ use Rattle.gi_pairs.specs.declared.cycle_id.CycleId.{CycleId}
 use Rattle.gi_pairs.specs.declared.direction.Direction.{Direction}
 use Rattle.gi_pairs.specs.declared.direction.Direction.TheVariants.{IM, MI}
 use Rattle.gi_pairs.specs.declared.row.Row.{Row}
-use Rattle.gi_messages.specs.Lines.{line_eq}
+use Rattle.gi_messages.specs.Lines.{line_eq, nomint_eq}
 use Rattle.gi_messages.specs.declared.line.Line.{Line}
 use Rattle.gi_messages.specs.declared.message.Nomint.{Nomint}
-use Rattle.gi_processing.specs.Capacity.{same_direction}
+use Rattle.gi_processing.specs.Capacity.{contract_eq, notice_eq, same_direction}
 use Rattle.gi_processing.specs.declared.contract.Contract.{Contract}
 use Rattle.gi_processing.specs.declared.notice.Notice.{Notice}
-use Rattle.gi_facts.specs.Same.{same_contract, same_cycle, same_fact, same_nomint, same_notice}
+use Rattle.gi_facts.specs.Same.{same_cycle, same_fact}
 use Rattle.gi_facts.specs.declared.fact.Fact.{Fact}
 use Rattle.gi_facts.specs.declared.fact.Fact.TheVariants.{Contracted, Noticed, Nominated, Closed, Met}
 
@@ -79,18 +77,21 @@ same_lines a b =
 
 -- ---- what facts are made of
 
-contracts : (a b : Contract) → Decides (same_contract a b) (a ≡ b)
+contracts : (a b : Contract) → Decides (contract_eq a b) (a ≡ b)
 contracts a b =
-    let portfolio = bytes_eq a.portfolio b.portfolio in
+    let portfolio = pointwise nat_eq a.portfolio b.portfolio in
     let day = same_day a.day b.day in
     let direction = same_direction a.direction b.direction in
     let firm = nat_eq a.firm b.firm in
     let interruptible = nat_eq a.interruptible b.interruptible in
-    let all = Decides-and (portfolio && day && direction && firm) interruptible (Decides-and (portfolio && day && direction) firm (Decides-and (portfolio && day) direction (Decides-and portfolio day (bytes_eq-Decides a.portfolio b.portfolio) (same_day-Decides a.day b.day)) (directions a.direction b.direction)) (numbers a.firm b.firm)) (numbers a.interruptible b.interruptible) in
-    Decides-like (same_contract a b) (λ h. λ i. record { portfolio = h.0.0.0.0 i; day = h.0.0.0.1 i; direction = h.0.0.1 i; firm = h.0.1 i; interruptible = h.1 i })
-    (λ e. ((((ap (λ (c : Contract). c.portfolio) e, ap (λ (c : Contract). c.day) e), ap (λ (c : Contract). c.direction) e), ap (λ (c : Contract). c.firm) e), ap (λ (c : Contract). c.interruptible) e)) all
+    let numbers_too = Decides-and firm interruptible (numbers a.firm b.firm) (numbers a.interruptible b.interruptible) in
+    let direction_too = Decides-and direction (firm && interruptible) (directions a.direction b.direction) numbers_too in
+    let day_too = Decides-and day (direction && (firm && interruptible)) (same_day-Decides a.day b.day) direction_too in
+    let all = Decides-and portfolio (day && (direction && (firm && interruptible))) (lists a.portfolio b.portfolio) day_too in
+    Decides-like (contract_eq a b) (λ h. λ i. record { portfolio = h.0 i; day = h.1.0 i; direction = h.1.1.0 i; firm = h.1.1.1.0 i; interruptible = h.1.1.1.1 i })
+    (λ e. (ap (λ (c : Contract). c.portfolio) e, (ap (λ (c : Contract). c.day) e, (ap (λ (c : Contract). c.direction) e, (ap (λ (c : Contract). c.firm) e, ap (λ (c : Contract). c.interruptible) e))))) all
 
-notices : (a b : Notice) → Decides (same_notice a b) (a ≡ b)
+notices : (a b : Notice) → Decides (notice_eq a b) (a ≡ b)
 notices a b =
     let day = same_day a.day b.day in
     let direction = same_direction a.direction b.direction in
@@ -98,20 +99,27 @@ notices a b =
     let last = nat_eq a.last b.last in
     let firm = nat_eq a.firm b.firm in
     let interruptible = nat_eq a.interruptible b.interruptible in
-    let all = Decides-and (day && direction && first && last && firm) interruptible (Decides-and (day && direction && first && last) firm (Decides-and (day && direction && first) last (Decides-and (day && direction) first (Decides-and day direction (same_day-Decides a.day b.day) (directions a.direction b.direction)) (numbers a.first b.first)) (numbers a.last b.last)) (numbers a.firm b.firm)) (numbers a.interruptible b.interruptible) in
-    Decides-like (same_notice a b) (λ h. λ i. record { day = h.0.0.0.0.0 i; direction = h.0.0.0.0.1 i; first = h.0.0.0.1 i; last = h.0.0.1 i; firm = h.0.1 i; interruptible = h.1 i })
-    (λ e. (((((ap (λ (n : Notice). n.day) e, ap (λ (n : Notice). n.direction) e), ap (λ (n : Notice). n.first) e), ap (λ (n : Notice). n.last) e), ap (λ (n : Notice). n.firm) e), ap (λ (n : Notice). n.interruptible) e)) all
+    let numbers_too = Decides-and firm interruptible (numbers a.firm b.firm) (numbers a.interruptible b.interruptible) in
+    let last_too = Decides-and last (firm && interruptible) (numbers a.last b.last) numbers_too in
+    let first_too = Decides-and first (last && (firm && interruptible)) (numbers a.first b.first) last_too in
+    let direction_too = Decides-and direction (first && (last && (firm && interruptible))) (directions a.direction b.direction) first_too in
+    let all = Decides-and day (direction && (first && (last && (firm && interruptible)))) (same_day-Decides a.day b.day) direction_too in
+    Decides-like (notice_eq a b) (λ h. λ i. record { day = h.0 i; direction = h.1.0 i; first = h.1.1.0 i; last = h.1.1.1.0 i; firm = h.1.1.1.1.0 i; interruptible = h.1.1.1.1.1 i })
+    (λ e. (ap (λ (n : Notice). n.day) e, (ap (λ (n : Notice). n.direction) e, (ap (λ (n : Notice). n.first) e, (ap (λ (n : Notice). n.last) e, (ap (λ (n : Notice). n.firm) e, ap (λ (n : Notice). n.interruptible) e)))))) all
 
-documents : (a b : Nomint) → Decides (same_nomint a b) (a ≡ b)
+documents : (a b : Nomint) → Decides (nomint_eq a b) (a ≡ b)
 documents a b =
-    let point = bytes_eq a.point b.point in
-    let portfolio = bytes_eq a.portfolio b.portfolio in
+    let point = pointwise nat_eq a.point b.point in
+    let portfolio = pointwise nat_eq a.portfolio b.portfolio in
     let day = same_day a.day b.day in
     let version = nat_eq a.version b.version in
     let lines = pointwise line_eq a.lines b.lines in
-    let all = Decides-and (point && portfolio && day && version) lines (Decides-and (point && portfolio && day) version (Decides-and (point && portfolio) day (Decides-and point portfolio (bytes_eq-Decides a.point b.point) (bytes_eq-Decides a.portfolio b.portfolio)) (same_day-Decides a.day b.day)) (numbers a.version b.version)) (slice_eq-Decides same_lines a.lines b.lines (pointwise line_eq a.lines b.lines) refl) in
-    Decides-like (same_nomint a b) (λ h. λ i. record { point = h.0.0.0.0 i; portfolio = h.0.0.0.1 i; day = h.0.0.1 i; version = h.0.1 i; lines = h.1 i })
-    (λ e. ((((ap (λ (m : Nomint). m.point) e, ap (λ (m : Nomint). m.portfolio) e), ap (λ (m : Nomint). m.day) e), ap (λ (m : Nomint). m.version) e), ap (λ (m : Nomint). m.lines) e)) all
+    let version_too = Decides-and version lines (numbers a.version b.version) (slice_eq-Decides same_lines a.lines b.lines lines refl) in
+    let day_too = Decides-and day (version && lines) (same_day-Decides a.day b.day) version_too in
+    let portfolio_too = Decides-and portfolio (day && (version && lines)) (lists a.portfolio b.portfolio) day_too in
+    let all = Decides-and point (portfolio && (day && (version && lines))) (lists a.point b.point) portfolio_too in
+    Decides-like (nomint_eq a b) (λ h. λ i. record { point = h.0 i; portfolio = h.1.0 i; day = h.1.1.0 i; version = h.1.1.1.0 i; lines = h.1.1.1.1 i })
+    (λ e. (ap (λ (m : Nomint). m.point) e, (ap (λ (m : Nomint). m.portfolio) e, (ap (λ (m : Nomint). m.day) e, (ap (λ (m : Nomint). m.version) e, ap (λ (m : Nomint). m.lines) e))))) all
 
 pub cycles : (a b : CycleId) → Decides (same_cycle a b) (a ≡ b)
 cycles a b =

@@ -1,16 +1,14 @@
 -- What is written for a fact stands for it, and is read back.
-use Rattle.std.proofs.Common.{◌≡◌, ℕ, ◌≤◌, true, false, List, Some, Result, Ok, Err, refl, ap, ◌∙◌, arith, IsUtf8}
+use Rattle.std.proofs.Common.{◌≡◌, ℕ, ◌≤◌, true, false, Some, Result, Ok, Err, refl, ap, ◌∙◌, arith}
 use Rattle.std.specs.Prelude.{IfOk}
 use Rattle.std.specs.Global.{Vec}
 use Rattle.std.specs.Str.{is_utf8}
 use Rattle.std.proofs.lemmas.Str.{is_utf8-from_IsUtf8}
 use Rattle.json.proofs.Printed.Utf8.{IsUtf8-are_ascii}
 use Rattle.serde_json.specs.Data.{Data, depth}
-use Rattle.serde_json.specs.Find.{get}
 use Rattle.serde_json.specs.View.{view}
 use Rattle.serde_json.specs.declared.value.Value.{Value}
 use Rattle.serde_json.specs.Written.{has_float, compact_text}
-use Rattle.gi_pairs.specs.Direction.{direction_text}
 use Rattle.gi_pairs.specs.Limits.{last_hour, most_processed_rows}
 use Rattle.gi_pairs.specs.Quantity.{most_quantity}
 use Rattle.gi_pairs.specs.Table.{TableContents}
@@ -23,14 +21,14 @@ use Rattle.gi_messages.specs.declared.message.Message.TheVariants.{Nomint as Nom
 use Rattle.gi_messages.specs.declared.message.Nomint.{Nomint}
 use Rattle.gi_messages.proofs.Plain.{IsPlain, IsUtf8-compact_text, json_of-compact_text}
 use Rattle.gi_messages.proofs.TableLemmas.{is_code}
-use Rattle.gi_messages.proofs.WritingLemmas.{depth-data_of as depth-message, fits_from_writable, has_float-data_of as has_float-message}
+use Rattle.gi_messages.proofs.WritingLemmas.{fits_from_writable, has_float-data_of as has_float-message}
 use Rattle.gi_messages.proofs.WrittenKinds.{nomint_plain, nomint_stands, of_kind-nomint}
-use Rattle.gi_messages.proofs.WrittenParts.{code_utf8, depth-lines, depth-rows, direction_utf8, few_rows, has_float-lines, has_float-rows, plain_day, plain_table, stands_code, stands_day, stands_direction, stands_number, stands_table}
+use Rattle.gi_messages.proofs.WrittenParts.{code_utf8, depth-lines, depth-rows, direction_utf8, few_rows, has_float-rows, plain_day, plain_table, stands_code, stands_day, stands_direction, stands_number, stands_table}
 use Rattle.gi_processing.specs.CapacityLimits.{most_permille}
 use Rattle.gi_processing.specs.declared.contract.Contract.{Contract}
 use Rattle.gi_processing.specs.declared.notice.Notice.{Notice}
 use Rattle.gi_facts.specs.Decoding.{fact_of}
-use Rattle.gi_facts.specs.Grammar.{IsContract, IsCycleId, IsFact, IsNotice, IsOfKind, IsPeerTable, IsWritable, Spells}
+use Rattle.gi_facts.specs.Grammar.{IsCycleId, IsFact, IsWritable, Spells}
 use Rattle.gi_facts.specs.Writable.{FitsContract, FitsCycle, FitsFact, FitsNotice, FitsProcessed}
 use Rattle.gi_facts.specs.Writing.{closing_data, contract_data, data_of, fact_text, meeting_data, nomination_data, notice_data}
 use Rattle.gi_facts.specs.declared.fact.Fact.{Fact}

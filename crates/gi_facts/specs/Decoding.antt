@@ -2,15 +2,15 @@
 use Rattle.std.specs.Prelude.{◌≡◌, ℕ, List, Option, Some, None, option_and_then, Result, Ok, Err}
 use Rattle.std.specs.Result.{result_ok}
 use Rattle.serde_json.specs.Data.{Data}
-use Rattle.gi_pairs.specs.Limits.{last_hour, most_processed_rows}
+use Rattle.gi_pairs.specs.Limits.{most_processed_rows}
 use Rattle.gi_pairs.specs.Quantity.{most_quantity}
 use Rattle.gi_pairs.specs.Table.{TableContents}
 use Rattle.gi_pairs.specs.declared.cycle_id.CycleId.{CycleId}
 use Rattle.gi_messages.specs.Decoding.{nomint, kind_of as message_kind_of}
 use Rattle.gi_messages.specs.Json.{json_of}
 use Rattle.gi_messages.specs.Limits.{last_cycle}
-use Rattle.gi_messages.specs.Reading.{Read, ◌>>=◌, wanted, member_at, text, code, day, direction, number, table}
-use Rattle.gi_messages.specs.declared.key.Key.TheVariants.{Portfolio, Day, Direction, Cycle, First, Last, Fact as FactKey, Nomint as NomintKey, Firm, Interruptible, Peer}
+use Rattle.gi_messages.specs.Reading.{Read, ◌>>=◌, wanted, member_at, text, code, day, direction, number, span, table}
+use Rattle.gi_messages.specs.declared.key.Key.TheVariants.{Portfolio, Day, Direction, Cycle, Fact as FactKey, Nomint as NomintKey, Firm, Interruptible, Peer}
 use Rattle.gi_messages.specs.declared.kind.Kind.{Kind as MessageKind}
 use Rattle.gi_messages.specs.declared.kind.Kind.TheVariants as messages
 use Rattle.gi_messages.specs.declared.message.Nomint.{Nomint}
@@ -39,11 +39,10 @@ unfoldable pub notice : Data → Read Notice
 notice d = do
   date ← day Day d
   direction ← direction Direction d
-  first ← number 1 last_hour First d
-  last ← number first last_hour Last d
+  span ← span d
   firm ← number 0 most_permille Firm d
   interruptible ← number 0 most_permille Interruptible d
-  Ok (record { day = date; direction = direction; first = first; last = last; firm = firm; interruptible = interruptible })
+  Ok (record { day = date; direction = direction; first = span.first; last = span.last; firm = firm; interruptible = interruptible })
 
 -- a NOMINT names its kind
 abbrev pub if_nomint : Option MessageKind → Read Nomint → Read Nomint
@@ -65,9 +64,8 @@ cycle_id d = do
 
 unfoldable pub peer_table : Data → Read TableContents
 peer_table d = do
-  first ← number 1 last_hour First d
-  last ← number first last_hour Last d
-  table Peer most_processed_rows first last d
+  span ← span d
+  table Peer most_processed_rows span.first span.last d
 
 unfoldable pub meeting : Data → Read Fact
 meeting d = do

@@ -12,11 +12,11 @@ use crate::fact::Fact;
 use crate::fact_fault::FactFault;
 use crate::kind::{Kind, kind_named};
 use gi_messages::parts::{
-    FieldFault, Kind as MessageKind, code, day, direction, json, kind_of, needed, nomint, number,
-    table, text,
+    FieldFault, Kind as MessageKind, Span, code, day, direction, json, kind_of, needed, nomint,
+    number, span_of, table, text,
 };
 use gi_messages::{Key, LAST_CYCLE, Nomint};
-use gi_pairs::{CycleId, LAST_HOUR, MOST_PROCESSED_ROWS, Quantity, Table};
+use gi_pairs::{CycleId, MOST_PROCESSED_ROWS, Quantity, Table};
 use gi_processing::{Contract, MOST_PERMILLE, Notice};
 use serde_json::Value;
 use std::alloc::Global;
@@ -58,16 +58,14 @@ fn notice(object: &Value) -> Result<Notice, Key>
 {
     let day = day(object, Key::Day)?;
     let direction = direction(object, Key::Direction)?;
-    let first = number(object, Key::First, 1, u64::from(LAST_HOUR))?;
-    let last = number(object, Key::Last, first, u64::from(LAST_HOUR))? as u8;
-    let first = first as u8;
+    let span = span_of(object)?;
     let firm = number(object, Key::Firm, 0, u64::from(MOST_PERMILLE))? as u16;
     let interruptible = number(object, Key::Interruptible, 0, u64::from(MOST_PERMILLE))? as u16;
     Ok(Notice {
         day,
         direction,
-        first,
-        last,
+        first: span.first,
+        last: span.last,
         firm,
         interruptible,
     })
@@ -106,9 +104,7 @@ fn cycle_id(object: &Value) -> Result<CycleId, Key>
 fn peer_table(alloc: Global, object: &Value) -> Result<Table, FieldFault>
     ensures { reading.Gives (λ found. found) result (peer_table (view object.now)) }
 {
-    let first = number(object, Key::First, 1, u64::from(LAST_HOUR))?;
-    let last = number(object, Key::Last, first, u64::from(LAST_HOUR))? as u8;
-    let first = first as u8;
+    let Span { first, last } = span_of(object)?;
     table(alloc, object, Key::Peer, MOST_PROCESSED_ROWS, first, last)
 }
 

@@ -1,4 +1,5 @@
 ghost use Rattle.std.specs.Prelude.{◌≡◌, IfOk};
+ghost use Rattle.gi_facts.specs.Same.{same_fact};
 
 use gi_messages::Nomint;
 use gi_pairs::{CycleId, Table};
@@ -28,7 +29,7 @@ impl Fact {
         Ok(match self {
             Fact::Contracted(contract) => Fact::Contracted(*contract),
             Fact::Noticed(notice) => Fact::Noticed(*notice),
-            Fact::Nominated(document) => Fact::Nominated(copy_nomination(document)?),
+            Fact::Nominated(document) => Fact::Nominated(document.copy()?),
             Fact::Closed(id) => Fact::Closed(*id),
             Fact::Met { id, peer } => Fact::Met {
                 id: *id,
@@ -36,17 +37,20 @@ impl Fact {
             },
         })
     }
-}
 
-/// An equal nomination.
-pub fn copy_nomination(document: &Nomint) -> Result<Nomint, AllocError>
-    ensures { IfOk result (λ copy. copy ≡ document.now) }
-{
-    Ok(Nomint {
-        point: document.point,
-        portfolio: document.portfolio,
-        day: document.day,
-        version: document.version,
-        lines: document.lines.copy()?,
-    })
+    /// Whether it is the same as another.
+    pub fn is(&self, other: &Fact) -> bool
+        ensures { result ≡ same_fact self.now other.now }
+    {
+        match (self, other) {
+            (Fact::Contracted(a), Fact::Contracted(b)) => a == b,
+            (Fact::Noticed(a), Fact::Noticed(b)) => a == b,
+            (Fact::Nominated(a), Fact::Nominated(b)) => a == b,
+            (Fact::Closed(a), Fact::Closed(b)) => a == b,
+            (Fact::Met { id: a, peer }, Fact::Met { id: b, peer: other }) => {
+                a == b && peer == other
+            }
+            _ => false,
+        }
+    }
 }

@@ -11,10 +11,10 @@ mod same;
 
 pub use decoding::decode_fact;
 pub use encoding::encode_fact;
-pub use fact::{Fact, copy_nomination};
+pub use fact::Fact;
 pub use fact_fault::FactFault;
 pub use laws::{
     fact_is_text, fact_round_trip, fact_writable_exactly, one_fact, reads_fact,
     same_facts_are_equal, writes_fact,
 };
-pub use same::same_table;
+pub use same::{copy_nomination, same_table};

@@ -6,15 +6,16 @@ use Rattle.std.proofs.lemmas.Option.{option_and_then_some}
 use Rattle.serde_json.specs.Data.{Data, null, boolean, number, string, array, object, unsigned, negative, float, Items, no_items, item}
 use Rattle.serde_json.specs.Events.{items_len}
 use Rattle.serde_json.specs.Find.{get, as_number, as_u64, as_str, as_array}
+use Rattle.gi_pairs.specs.Direction.{direction_named}
 use Rattle.gi_messages.specs.declared.key.Key.{Key}
 use Rattle.gi_messages.specs.Key.{key_text}
 use Rattle.gi_messages.specs.Dates.{day_of}
-use Rattle.gi_messages.specs.Names.{code_of, direction_of}
+use Rattle.gi_messages.specs.Names.{code_of}
 use Rattle.gi_messages.specs.Grammar.{Has, IsText, NamesCode, NamesDay, NamesDirection, IsWhole, Each, AreElements}
 use Rattle.gi_messages.specs.Reading.{Read, ◌>>=◌, wanted, member_at, limited, whole, each, code, day, direction}
 use Rattle.gi_messages.specs.Reading as reading
 use Rattle.gi_messages.proofs.DateLemmas.{day_of-takes, day_of-again}
-use Rattle.gi_messages.proofs.NameLemmas.{code_of-takes, code_of-again, direction_of-takes, direction_of-again}
+use Rattle.gi_messages.proofs.NameLemmas.{code_of-takes, code_of-again, direction_named-takes, direction_named-again}
 
 -- what is read stands in the relation, and what stands in it is read
 pub record Reads {X : Type 0} (read : Data → Read X) (Stands : Data → X → Type 0) : Type 0 where
@@ -107,7 +108,7 @@ Reads-day key = Reads-named key day_of NamesDay day_of-takes (λ text x h. day_o
 
 pub Reads-direction : (key : Key) → Reads (direction key) (Has (IsText NamesDirection) key)
 unfolding direction
-Reads-direction key = Reads-named key direction_of NamesDirection direction_of-takes direction_of-again
+Reads-direction key = Reads-named key direction_named NamesDirection direction_named-takes direction_named-again
 
 -- ---- arrays
 

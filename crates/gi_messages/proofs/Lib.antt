@@ -5,12 +5,15 @@ pub mod DateLemmas
 pub mod NameLemmas
 pub mod Elements
 pub mod HoursLemmas
+pub mod HeadLemmas
 pub mod RowLemmas
 pub mod LineLemmas
 pub mod TableLemmas
 pub mod NominationLemmas
 pub mod OrderLemmas
 pub mod MessageLemmas
+pub mod Refusing
+pub mod FirstFaults
 pub mod WrittenParts
 pub mod WrittenKinds
 pub mod WritingLemmas

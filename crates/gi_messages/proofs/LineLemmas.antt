@@ -44,10 +44,10 @@ line_again count d l h many =
       hours_again count d l.hours h.quantities many,
     ) refl
 
-Reads-line : Reads (line None) IsLine
+pub Reads-line : Reads (line None) IsLine
 Reads-line = record { takes = λ d l e. (line_takes None d l e).0; again = λ d l h. line_again None d l h tt }
 
-Reads-line_for : (count : ℕ) → Reads (line (Some count)) (IsLineFor count)
+pub Reads-line_for : (count : ℕ) → Reads (line (Some count)) (IsLineFor count)
 Reads-line_for count = record {
   takes = λ d l e. let t = line_takes (Some count) d l e in record { stands = t.0; whole = t.1 };
   again = λ d l h. line_again (Some count) d l h.stands h.whole;

@@ -8,10 +8,10 @@ use Rattle.std.proofs.lemmas.Option.{same_Some}
 use Rattle.std.proofs.lemmas.Slice.Eq.{bytes_eq-Decides}
 use Rattle.std.proofs.lemmas.List.Sums.{AllPass-from_list_all, list_all-from_AllPass}
 use Rattle.gi_pairs.specs.Code.{IsCode, is_character}
-use Rattle.gi_pairs.specs.Direction.{direction_text}
+use Rattle.gi_pairs.specs.Direction.{direction_named, direction_text}
 use Rattle.gi_pairs.specs.declared.direction.Direction.{Direction}
 use Rattle.gi_pairs.specs.declared.direction.Direction.TheVariants.{IM, MI}
-use Rattle.gi_messages.specs.Names.{is_code, code_of, direction_of}
+use Rattle.gi_messages.specs.Names.{is_code, code_of}
 
 pub is_code-IsCode : (text : List ℕ) → IsCode text → is_code text ≡ true
 is_code-IsCode text code =
@@ -53,14 +53,14 @@ direction_by text d true mi im-is mi-is e = (bytes_eq-Decides text (direction_te
 direction_by text d false true im-is mi-is e = (bytes_eq-Decides text (direction_text MI)).0 mi-is ∙ ap direction_text (same_Some MI d e)
 direction_by text d false false im-is mi-is e = absurd cc
 
-pub direction_of-takes : (text : List ℕ) (d : Direction) → direction_of text ≡ Some d → text ≡ direction_text d
-unfolding direction_of
-direction_of-takes text d e = direction_by text d (bytes_eq text (direction_text IM)) (bytes_eq text (direction_text MI)) refl refl e
+pub direction_named-takes : (text : List ℕ) (d : Direction) → direction_named text ≡ Some d → text ≡ direction_text d
+unfolding direction_named
+direction_named-takes text d e = direction_by text d (bytes_eq text (direction_text IM)) (bytes_eq text (direction_text MI)) refl refl e
 
-direction_of-text : (d : Direction) → direction_of (direction_text d) ≡ Some d
-unfolding direction_of
-direction_of-text IM = refl
-direction_of-text MI = refl
+direction_named-text : (d : Direction) → direction_named (direction_text d) ≡ Some d
+unfolding direction_named
+direction_named-text IM = refl
+direction_named-text MI = refl
 
-pub direction_of-again : (text : List ℕ) (d : Direction) → text ≡ direction_text d → direction_of text ≡ Some d
-direction_of-again text d is = ap direction_of is ∙ direction_of-text d
+pub direction_named-again : (text : List ℕ) (d : Direction) → text ≡ direction_text d → direction_named text ≡ Some d
+direction_named-again text d is = ap direction_named is ∙ direction_named-text d

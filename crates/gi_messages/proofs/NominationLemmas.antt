@@ -3,17 +3,18 @@ use Rattle.std.proofs.Common.{◌≡◌, ℕ, List, Some, None, Ok, refl, subst}
 use Rattle.jiff_core.specs.declared.civil.date.Date.{Date}
 use Rattle.serde_json.specs.Data.{Data}
 use Rattle.gi_pairs.specs.Table.{covered}
-use Rattle.gi_pairs.specs.Limits.{last_hour}
 use Rattle.gi_messages.specs.declared.key.Key.TheVariants as keys
+use Rattle.gi_messages.specs.declared.head.Span.{Span}
 use Rattle.gi_messages.specs.declared.line.Line.{Line}
 use Rattle.gi_messages.specs.declared.message.Nomint.{Nomint}
 use Rattle.gi_messages.specs.declared.message.Acknow.{Acknow}
 use Rattle.gi_messages.specs.declared.message.Nomres.{Nomres}
 use Rattle.gi_messages.specs.Limits.{last_cycle, last_version}
 use Rattle.gi_messages.specs.Grammar.{IsNomint, IsAcknow, IsNomres}
-use Rattle.gi_messages.specs.Reading.{◌>>=◌, code, day, number, lines}
+use Rattle.gi_messages.specs.Reading.{◌>>=◌, code, day, number, span, lines}
 use Rattle.gi_messages.specs.Decoding.{nomint, acknow, nomres}
 use Rattle.gi_messages.proofs.FieldLemmas.{bind_ok, Reads-code, Reads-day, Reads-number}
+use Rattle.gi_messages.proofs.HeadLemmas.{Reads-span, made_span}
 use Rattle.gi_messages.proofs.HoursLemmas.{ok_is}
 use Rattle.gi_messages.proofs.LineLemmas.{Reads-lines, Reads-lines_for}
 
@@ -81,15 +82,14 @@ acknow_again d m h =
       (Reads-number 1 last_version keys.Version).again d m.version h.version,
     ) refl
 
-made_nomres : List ℕ → List ℕ → Date → ℕ → ℕ → ℕ → List Line → Nomres
-made_nomres point portfolio date cycle first last ls = record { point = point; portfolio = portfolio; day = date; cycle = cycle; first = first; last = last; lines = ls }
+made_nomres : List ℕ → List ℕ → Date → ℕ → Span → List Line → Nomres
+made_nomres point portfolio date cycle s ls = record { point = point; portfolio = portfolio; day = date; cycle = cycle; first = s.first; last = s.last; lines = ls }
 
 pub nomres_takes : (d : Data) (m : Nomres) → nomres d ≡ Ok m → IsNomres d m
 unfolding nomres made_nomres
 nomres_takes d m e =
-    let seventh = λ (p q : List ℕ) (w : Date) (c first last : ℕ). lines (Some (covered first last)) d >>= λ ls. Ok (made_nomres p q w c first last ls) in
-    let sixth = λ (p q : List ℕ) (w : Date) (c first : ℕ). number first last_hour keys.Last d >>= seventh p q w c first in
-    let fifth = λ (p q : List ℕ) (w : Date) (c : ℕ). number 1 last_hour keys.First d >>= sixth p q w c in
+    let sixth = λ (p q : List ℕ) (w : Date) (c : ℕ) (s : Span). lines (Some (covered s.first s.last)) d >>= λ ls. Ok (made_nomres p q w c s ls) in
+    let fifth = λ (p q : List ℕ) (w : Date) (c : ℕ). span d >>= sixth p q w c in
     let fourth = λ (p q : List ℕ) (w : Date). number 0 last_cycle keys.Cycle d >>= fifth p q w in
     let third = λ (p q : List ℕ). day keys.Day d >>= fourth p q in
     let second = λ (p : List ℕ). code keys.Portfolio d >>= third p in
@@ -97,17 +97,17 @@ nomres_takes d m e =
     let q = bind_ok (code keys.Portfolio d) (third p.0) m p.2 in
     let w = bind_ok (day keys.Day d) (fourth p.0 q.0) m q.2 in
     let c = bind_ok (number 0 last_cycle keys.Cycle d) (fifth p.0 q.0 w.0) m w.2 in
-    let f = bind_ok (number 1 last_hour keys.First d) (sixth p.0 q.0 w.0 c.0) m c.2 in
-    let l = bind_ok (number f.0 last_hour keys.Last d) (seventh p.0 q.0 w.0 c.0 f.0) m f.2 in
-    let ls = bind_ok (lines (Some (covered f.0 l.0)) d) (λ ls. Ok (made_nomres p.0 q.0 w.0 c.0 f.0 l.0 ls)) m l.2 in
-    subst {A = Nomres} (IsNomres d) (ok_is (made_nomres p.0 q.0 w.0 c.0 f.0 l.0 ls.0) m ls.2) (record {
+    let s = bind_ok (span d) (sixth p.0 q.0 w.0 c.0) m c.2 in
+    let ls = bind_ok (lines (Some (covered s.0.first s.0.last)) d) (λ ls. Ok (made_nomres p.0 q.0 w.0 c.0 s.0 ls)) m s.2 in
+    let hours = Reads-span.takes d s.0 s.1 in
+    subst {A = Nomres} (IsNomres d) (ok_is (made_nomres p.0 q.0 w.0 c.0 s.0 ls.0) m ls.2) (record {
       point = (Reads-code keys.Point).takes d p.0 p.1;
       portfolio = (Reads-code keys.Portfolio).takes d q.0 q.1;
       day = (Reads-day keys.Day).takes d w.0 w.1;
       cycle = (Reads-number 0 last_cycle keys.Cycle).takes d c.0 c.1;
-      first = (Reads-number 1 last_hour keys.First).takes d f.0 f.1;
-      last = (Reads-number f.0 last_hour keys.Last).takes d l.0 l.1;
-      lines = (Reads-lines_for (covered f.0 l.0)).takes d ls.0 ls.1;
+      first = hours.first;
+      last = hours.last;
+      lines = (Reads-lines_for (covered s.0.first s.0.last)).takes d ls.0 ls.1;
     })
 
 pub nomres_again : (d : Data) (m : Nomres) → IsNomres d m → nomres d ≡ Ok m
@@ -118,7 +118,6 @@ nomres_again d m h =
       (Reads-code keys.Portfolio).again d m.portfolio h.portfolio,
       (Reads-day keys.Day).again d m.day h.day,
       (Reads-number 0 last_cycle keys.Cycle).again d m.cycle h.cycle,
-      (Reads-number 1 last_hour keys.First).again d m.first h.first,
-      (Reads-number m.first last_hour keys.Last).again d m.last h.last,
+      Reads-span.again d (made_span m.first m.last) (record { first = h.first; last = h.last }),
       (Reads-lines_for (covered m.first m.last)).again d m.lines h.lines,
     ) refl

@@ -36,11 +36,11 @@ IsRow-IsRowFor count d r h = record {
 
 -- ---- the table that they make
 
-some_of_ok : (r : Result TableContents TableFault) (t : TableContents) → result_ok r ≡ Some t → r ≡ Ok t
+pub some_of_ok : (r : Result TableContents TableFault) (t : TableContents) → result_ok r ≡ Some t → r ≡ Ok t
 some_of_ok (Ok s) t e = let same : s ≡ t = cc in ap (λ (u : TableContents). Ok u) same
 some_of_ok (Err f) t e = absurd cc
 
-makes : (first last : ℕ) (rows : List Row) (t : TableContents) → All IsRow rows → built first last rows ≡ Ok t → HasRows first last rows t
+pub makes : (first last : ℕ) (rows : List Row) (t : TableContents) → All IsRow rows → built first last rows ≡ Ok t → HasRows first last rows t
 makes first last rows t all e =
     let same = (built-contents first last rows t e).1 in
     record {
@@ -50,7 +50,7 @@ makes first last rows t all e =
       table = built-is_table first last rows t all e;
     }
 
-made : (first last : ℕ) (rows : List Row) (t : TableContents) → HasRows first last rows t → built first last rows ≡ Ok t
+pub made : (first last : ℕ) (rows : List Row) (t : TableContents) → HasRows first last rows t → built first last rows ≡ Ok t
 made first last rows t h = ap (λ n. built n last rows) (sym h.begins) ∙ ap (λ n. built t.first n rows) (sym h.ends) ∙ built-again rows t h.table h.same
 
 few_ok : {X : Type 0} (b : Bool) (key : Key) (r : Read X) (x : X) → cond b (Err key) r ≡ Ok x → (b ≡ false) × (r ≡ Ok x)

@@ -2,10 +2,12 @@
 use Rattle.std.specs.Prelude.{◌≡◌, ℕ, List, length, nat_lt, Option, Some, None, option_and_then, Result, Ok, Err, if◌then◌else◌}
 use Rattle.serde_json.specs.Data.{Data}
 use Rattle.serde_json.specs.Find.{get, as_str}
-use Rattle.gi_pairs.specs.Limits.{last_hour, most_processed_rows, most_rows}
-use Rattle.gi_pairs.specs.Table.{covered}
-use Rattle.gi_messages.specs.declared.key.Key.TheVariants.{Point, Portfolio, Day, Version, Cycle, First, Last, Processed, Confirmed}
+use Rattle.gi_pairs.specs.Limits.{most_processed_rows, most_rows}
+use Rattle.gi_pairs.specs.Table.{TableContents, covered}
+use Rattle.gi_messages.specs.declared.key.Key.TheVariants.{Point, Portfolio, Day, Version, Cycle, Processed, Confirmed}
 use Rattle.gi_messages.specs.declared.key.Key.TheVariants as keys
+use Rattle.gi_messages.specs.declared.head.Head.{Head}
+use Rattle.gi_messages.specs.declared.head.Span.{Span}
 use Rattle.gi_messages.specs.declared.kind.Kind.{Kind}
 use Rattle.gi_messages.specs.declared.kind.Kind.TheVariants as kinds
 use Rattle.gi_messages.specs.Limits.{most_bytes, last_cycle, last_version}
@@ -21,7 +23,7 @@ use Rattle.gi_messages.specs.declared.message_fault.MessageFault.TheVariants as 
 use Rattle.gi_messages.specs.Json.{json_of}
 use Rattle.gi_messages.specs.Key.{key_text}
 use Rattle.gi_messages.specs.Kind.{kind_named}
-use Rattle.gi_messages.specs.Reading.{Read, ◌>>=◌, code, day, number, lines, table}
+use Rattle.gi_messages.specs.Reading.{Read, ◌>>=◌, code, day, number, span, lines, table}
 
 -- the fields of each kind, in their order
 unfoldable pub nomint : Data → Read Nomint
@@ -47,31 +49,34 @@ nomres d = do
   portfolio ← code Portfolio d
   date ← day Day d
   cycle ← number 0 last_cycle Cycle d
-  first ← number 1 last_hour First d
-  last ← number first last_hour Last d
-  lines ← lines (Some (covered first last)) d
-  Ok (record { point = point; portfolio = portfolio; day = date; cycle = cycle; first = first; last = last; lines = lines })
+  span ← span d
+  lines ← lines (Some (covered span.first span.last)) d
+  Ok (record { point = point; portfolio = portfolio; day = date; cycle = cycle; first = span.first; last = span.last; lines = lines })
+
+-- what an order and a response begin with
+unfoldable pub head : Data → Read Head
+head d = do
+  point ← code Point d
+  date ← day Day d
+  cycle ← number 0 last_cycle Cycle d
+  span ← span d
+  Ok (record { point = point; day = date; cycle = cycle; span = span })
+
+abbrev pub processed : Span → Data → Read TableContents
+processed span d = table Processed most_processed_rows span.first span.last d
 
 unfoldable pub delord : Data → Read Delord
 delord d = do
-  point ← code Point d
-  date ← day Day d
-  cycle ← number 0 last_cycle Cycle d
-  first ← number 1 last_hour First d
-  last ← number first last_hour Last d
-  processed ← table Processed most_processed_rows first last d
-  Ok (record { point = point; day = date; cycle = cycle; processed = processed })
+  head ← head d
+  processed ← processed head.span d
+  Ok (record { point = head.point; day = head.day; cycle = head.cycle; processed = processed })
 
 unfoldable pub delres : Data → Read Delres
 delres d = do
-  point ← code Point d
-  date ← day Day d
-  cycle ← number 0 last_cycle Cycle d
-  first ← number 1 last_hour First d
-  last ← number first last_hour Last d
-  processed ← table Processed most_processed_rows first last d
-  confirmed ← table Confirmed most_rows first last d
-  Ok (record { point = point; day = date; cycle = cycle; processed = processed; confirmed = confirmed })
+  head ← head d
+  processed ← processed head.span d
+  confirmed ← table Confirmed most_rows head.span.first head.span.last d
+  Ok (record { point = head.point; day = head.day; cycle = head.cycle; processed = processed; confirmed = confirmed })
 
 -- the kind that an object names
 unfoldable pub kind_of : Data → Option Kind
@@ -103,11 +108,8 @@ decoded bytes = if nat_lt most_bytes (length bytes) then Err faults.TooLarge els
 
 -- What a function returned is what decoding gives, unless memory ran out.
 abbrev pub Fails : {Y : Type 0} → MessageFault → Result Y MessageFault → Type 0
-Fails faults.TooLarge read = read ≡ Err faults.TooLarge
-Fails faults.NotJson read = read ≡ Err faults.NotJson
-Fails faults.UnknownKind read = read ≡ Err faults.UnknownKind
-Fails (faults.Field key) read = read ≡ Err (faults.Field key)
 Fails faults.OutOfMemory read = Unit {0}
+Fails fault read = read ≡ Err fault
 
 abbrev pub Gives : {Y : Type 0} → Result Y MessageFault → Result Y MessageFault → Type 0
 Gives (Ok x) read = read ≡ Ok x

@@ -1,9 +1,12 @@
 -- What holds of all messages.
-use Rattle.std.specs.Prelude.{◌≡◌, ◌≤◌, ◌↔◌, ℕ, List, length, Ok}
+use Rattle.std.specs.Prelude.{◌≡◌, ◌≤◌, ◌↔◌, ℕ, List, length, Ok, Err}
 use Rattle.serde_json.specs.Data.{Data}
+use Rattle.gi_messages.specs.declared.key.Key.{Key}
 use Rattle.gi_messages.specs.declared.message.Message.{Message}
+use Rattle.gi_messages.specs.declared.message_fault.MessageFault.TheVariants.{Field, UnknownKind}
 use Rattle.gi_messages.specs.Limits.{most_bytes}
 use Rattle.gi_messages.specs.Decoding.{decoded}
+use Rattle.gi_messages.specs.FirstFault.{HasNoKind, IsRefusedFor}
 use Rattle.gi_messages.specs.Grammar.{IsMessage, IsWritable, Fits, HasFewLines, Spells}
 use Rattle.gi_messages.specs.Writing.{data_of, text_of}
 
@@ -14,6 +17,13 @@ IsOneMessage = (d : Data) (m n : Message) → IsMessage d m → IsMessage d n �
 -- what is read of bytes is the message that they spell
 abbrev pub ReadsSpelling : Type 0
 ReadsSpelling = (bytes : List ℕ) (m : Message) → (decoded bytes ≡ Ok m) ↔ Spells bytes m
+
+-- which key is named, and when no kind is
+abbrev pub NamesFirstKey : Type 0
+NamesFirstKey = (bytes : List ℕ) (key : Key) → (decoded bytes ≡ Err (Field key)) ↔ IsRefusedFor bytes key
+
+abbrev pub MissesKind : Type 0
+MissesKind = (bytes : List ℕ) → (decoded bytes ≡ Err UnknownKind) ↔ HasNoKind bytes
 
 -- which messages can be written
 abbrev pub IsWritableExactly : Type 0

@@ -9,5 +9,6 @@ pub mod Reading
 pub mod Fault
 pub mod Decoding
 pub mod Grammar
+pub mod FirstFault
 pub mod Writing
 pub mod Laws

@@ -1,11 +1,7 @@
--- The code and the direction that a text names.
-use Rattle.std.specs.Prelude.{ℕ, List, [], ◌∷◌, length, find, Bool, ◌&&◌, nat_le, Option, Some, None, if◌then◌else◌}
+-- The code that a text names.
+use Rattle.std.specs.Prelude.{ℕ, List, length, Bool, ◌&&◌, nat_le, Option, Some, None, if◌then◌else◌}
 use Rattle.std.specs.List.{list_all}
-use Rattle.std.specs.Str.{bytes_eq}
 use Rattle.gi_pairs.specs.Code.{is_character}
-use Rattle.gi_pairs.specs.Direction.{direction_text}
-use Rattle.gi_pairs.specs.declared.direction.Direction.{Direction}
-use Rattle.gi_pairs.specs.declared.direction.Direction.TheVariants.{IM, MI}
 
 -- 1 to 16 characters of a code
 abbrev pub is_code : List ℕ → Bool
@@ -13,9 +9,3 @@ is_code text = nat_le 1 (length text) && nat_le (length text) 16 && list_all is_
 
 unfoldable pub code_of : List ℕ → Option (List ℕ)
 code_of text = if is_code text then Some text else None
-
-abbrev pub directions : List Direction
-directions = IM ∷ MI ∷ []
-
-unfoldable pub direction_of : List ℕ → Option Direction
-direction_of text = find (λ direction. bytes_eq text (direction_text direction)) directions

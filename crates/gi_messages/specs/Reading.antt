@@ -5,18 +5,21 @@ use Rattle.serde_json.specs.Data.{Data, Items, no_items, item}
 use Rattle.serde_json.specs.Events.{items_len}
 use Rattle.serde_json.specs.Find.{get, as_number, as_u64, as_str, as_array, as_object}
 use Rattle.jiff_core.specs.declared.civil.date.Date.{Date}
+use Rattle.gi_pairs.specs.Direction.{direction_named}
 use Rattle.gi_pairs.specs.declared.direction.Direction.{Direction}
 use Rattle.gi_pairs.specs.declared.row.Row.{Row}
 use Rattle.gi_pairs.specs.Table.{TableContents, covered, built}
+use Rattle.gi_pairs.specs.Limits.{last_hour}
 use Rattle.gi_pairs.specs.Quantity.{most_quantity}
 use Rattle.gi_messages.specs.declared.key.Key.{Key}
-use Rattle.gi_messages.specs.declared.key.Key.TheVariants.{Lines, Counterparty, Initiating, Matching, Direction as DirectionKey, Hours}
+use Rattle.gi_messages.specs.declared.key.Key.TheVariants.{First, Last, Lines, Counterparty, Initiating, Matching, Direction as DirectionKey, Hours}
+use Rattle.gi_messages.specs.declared.head.Span.{Span}
 use Rattle.gi_messages.specs.declared.line.Line.{Line}
 use Rattle.gi_messages.specs.declared.fault.FieldFault.{FieldFault}
 use Rattle.gi_messages.specs.declared.fault.FieldFault.TheVariants as fault
 use Rattle.gi_messages.specs.Key.{key_text}
 use Rattle.gi_messages.specs.Dates.{day_of}
-use Rattle.gi_messages.specs.Names.{code_of, direction_of}
+use Rattle.gi_messages.specs.Names.{code_of}
 
 -- what was read, or the key of the first fault
 abbrev pub Read : Type 0 → Type 0
@@ -82,7 +85,14 @@ day key d = do
 unfoldable pub direction : Key → Data → Read Direction
 direction key d = do
   name ← text key d
-  wanted key (direction_of name)
+  wanted key (direction_named name)
+
+-- the hours that an object names
+unfoldable pub span : Data → Read Span
+span d = do
+  first ← number 1 last_hour First d
+  last ← number first last_hour Last d
+  Ok (record { first = first; last = last })
 
 -- the elements of the array at a key
 unfoldable pub items : Key → Data → Read Items

@@ -1,16 +1,17 @@
 //! Reading messages.
 
-ghost use Rattle.std.specs.Prelude.{◌≡◌, ◌<◌, length, IfOk, Ok, Err};
+ghost use Rattle.std.specs.Prelude.{◌≡◌, ◌<◌, ◌≤◌, length, IfOk, Ok, Err};
 ghost use Rattle.serde_json.specs.View.{view};
 ghost use Rattle.gi_messages.specs.Reading as reading;
 ghost use Rattle.gi_messages.specs.declared.message.Message.{Message};
 ghost use Rattle.gi_messages.specs.Grammar.{Spells};
 ghost use Rattle.gi_messages.specs.declared.key.Key.TheVariants.{Version};
 ghost use Rattle.gi_messages.specs.Limits.{most_bytes, last_version};
-ghost use Rattle.gi_messages.specs.Decoding.{Gives, nomint, acknow, nomres, delord, delres, kind_of, of_kind, decoded};
+ghost use Rattle.gi_messages.specs.Decoding.{Gives, nomint, acknow, nomres, processed, delord, delres, kind_of, of_kind, decoded};
 
 use crate::fault::FieldFault;
 use crate::fields::{code, day, number};
+use crate::head::{Span, head_of, span_of};
 use crate::json_text::json;
 use crate::key::Key;
 use crate::kind::{Kind, kind_named};
@@ -20,7 +21,7 @@ use crate::message::{
 };
 use crate::message_fault::MessageFault;
 use crate::rows::table;
-use gi_pairs::{LAST_HOUR, MOST_PROCESSED_ROWS, MOST_ROWS};
+use gi_pairs::{MOST_PROCESSED_ROWS, MOST_ROWS, Table};
 use serde_json::Value;
 use std::alloc::Global;
 
@@ -77,20 +78,34 @@ fn nomres(alloc: Global, object: &Value) -> Result<Nomres, FieldFault>
     let portfolio = code(object, Key::Portfolio)?;
     let day = day(object, Key::Day)?;
     let cycle = number(object, Key::Cycle, 0, u64::from(LAST_CYCLE))? as u8;
-    let first = number(object, Key::First, 1, u64::from(LAST_HOUR))?;
-    let last = number(object, Key::Last, first, u64::from(LAST_HOUR))? as u8;
-    let first = first as u8;
-    let count = usize::from(last) + 1 - usize::from(first);
+    let span = span_of(object)?;
+    let count = usize::from(span.last) + 1 - usize::from(span.first);
     let lines = lines(alloc, object, Some(count))?;
     Ok(Nomres {
         point,
         portfolio,
         day,
         cycle,
-        first,
-        last,
+        first: span.first,
+        last: span.last,
         lines,
     })
+}
+
+/// The processed table for these hours that an object has.
+fn processed(alloc: Global, object: &Value, span: Span) -> Result<Table, FieldFault>
+    requires { span.first ≤ span.last }
+    ensures { reading.Gives (λ found. found) result (processed span (view object.now)) }
+{
+    let Span { first, last } = span;
+    table(
+        alloc,
+        object,
+        Key::Processed,
+        MOST_PROCESSED_ROWS,
+        first,
+        last,
+    )
 }
 
 /// The DELORD that an object is.
@@ -98,24 +113,12 @@ fn nomres(alloc: Global, object: &Value) -> Result<Nomres, FieldFault>
 fn delord(alloc: Global, object: &Value) -> Result<Delord, FieldFault>
     ensures { reading.Gives (λ found. found) result (delord (view object.now)) }
 {
-    let point = code(object, Key::Point)?;
-    let day = day(object, Key::Day)?;
-    let cycle = number(object, Key::Cycle, 0, u64::from(LAST_CYCLE))? as u8;
-    let first = number(object, Key::First, 1, u64::from(LAST_HOUR))?;
-    let last = number(object, Key::Last, first, u64::from(LAST_HOUR))? as u8;
-    let first = first as u8;
-    let processed = table(
-        alloc,
-        object,
-        Key::Processed,
-        MOST_PROCESSED_ROWS,
-        first,
-        last,
-    )?;
+    let head = head_of(object)?;
+    let processed = processed(alloc, object, head.span)?;
     Ok(Delord {
-        point,
-        day,
-        cycle,
+        point: head.point,
+        day: head.day,
+        cycle: head.cycle,
         processed,
     })
 }
@@ -125,25 +128,14 @@ fn delord(alloc: Global, object: &Value) -> Result<Delord, FieldFault>
 fn delres(alloc: Global, object: &Value) -> Result<Delres, FieldFault>
     ensures { reading.Gives (λ found. found) result (delres (view object.now)) }
 {
-    let point = code(object, Key::Point)?;
-    let day = day(object, Key::Day)?;
-    let cycle = number(object, Key::Cycle, 0, u64::from(LAST_CYCLE))? as u8;
-    let first = number(object, Key::First, 1, u64::from(LAST_HOUR))?;
-    let last = number(object, Key::Last, first, u64::from(LAST_HOUR))? as u8;
-    let first = first as u8;
-    let processed = table(
-        alloc,
-        object,
-        Key::Processed,
-        MOST_PROCESSED_ROWS,
-        first,
-        last,
-    )?;
+    let head = head_of(object)?;
+    let Span { first, last } = head.span;
+    let processed = processed(alloc, object, head.span)?;
     let confirmed = table(alloc, object, Key::Confirmed, MOST_ROWS, first, last)?;
     Ok(Delres {
-        point,
-        day,
-        cycle,
+        point: head.point,
+        day: head.day,
+        cycle: head.cycle,
         processed,
         confirmed,
     })

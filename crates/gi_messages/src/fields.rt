@@ -5,7 +5,7 @@ ghost use Rattle.serde_json.specs.View.{view, items_view};
 ghost use Rattle.gi_messages.specs.Reading.{Finds, member_at, whole, number, text, code, day, direction, items};
 
 use crate::key::Key;
-use crate::names::{code_named, day_named, direction_named};
+use crate::names::{code_named, day_named};
 use gi_day::GasDay;
 use gi_pairs::{Code, Direction};
 use serde_json::Value;
@@ -67,7 +67,7 @@ pub fn day(object: &Value, key: Key) -> Result<GasDay, Key>
 pub fn direction(object: &Value, key: Key) -> Result<Direction, Key>
     ensures { result ≡ direction key (view object.now) }
 {
-    direction_named(text(object, key)?).ok_or(key)
+    text(object, key)?.parse::<Direction>().ok().ok_or(key)
 }
 
 /// The array at a key.

@@ -1,6 +1,6 @@
 //! What holds of all messages. These functions do nothing; their clauses are the laws.
 
-ghost use Rattle.gi_messages.specs.Laws.{IsOneMessage, ReadsSpelling, IsWritableExactly, WritesMessage, RoundTrips, TextsAreShort};
+ghost use Rattle.gi_messages.specs.Laws.{IsOneMessage, MissesKind, NamesFirstKey, ReadsSpelling, IsWritableExactly, WritesMessage, RoundTrips, TextsAreShort};
 
 /// A JSON value stands for one message at most.
 pub fn one_message()
@@ -10,6 +10,13 @@ pub fn one_message()
 /// Bytes are read as the message that they spell, and as no other.
 pub fn reads_spelling()
     ensures { ReadsSpelling }
+{}
+
+/// A refused field is the first of its kind that has no value; in rows and lines it is that of the
+/// first element that is none. `UnknownKind` comes exactly where no kind is named.
+pub fn names_first_key()
+    ensures key { NamesFirstKey }
+    ensures kind { MissesKind }
 {}
 
 /// A message is writable exactly where its point, portfolio and counterparties are codes, its day a

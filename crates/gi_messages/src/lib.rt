@@ -5,6 +5,7 @@ mod decoding;
 mod encoding;
 mod fault;
 mod fields;
+mod head;
 mod json_text;
 mod key;
 mod kind;
@@ -23,7 +24,8 @@ pub use decoding::decode;
 pub use encoding::encode;
 pub use key::Key;
 pub use laws::{
-    one_message, reads_spelling, round_trip, texts_are_short, writable_exactly, writes_message,
+    names_first_key, one_message, reads_spelling, round_trip, texts_are_short, writable_exactly,
+    writes_message,
 };
 pub use line::Line;
 pub use lines::Lines;

@@ -1,6 +1,9 @@
+ghost use Rattle.std.specs.Prelude.{◌≡◌, IfOk};
+
 use crate::lines::Lines;
 use gi_day::GasDay;
 use gi_pairs::{Code, Table};
+use std::alloc::AllocError;
 
 /// How many bytes a message has at most.
 pub const MOST_BYTES: usize = 16_777_216;
@@ -13,7 +16,7 @@ pub const LAST_VERSION: u32 = 999_999_999;
 
 /// What a shipper nominates: all lines of one portfolio for one gas day, in both directions. No
 /// lines at all withdraw what was nominated.
-#[derive(Debug, Drop)]
+#[derive(Debug, Drop, PartialEq, Eq)]
 pub struct Nomint {
     pub point: Code,
     pub portfolio: Code,
@@ -21,6 +24,21 @@ pub struct Nomint {
     /// From 1 to 999,999,999.
     pub version: u32,
     pub lines: Lines,
+}
+
+impl Nomint {
+    /// An equal nomination.
+    pub fn copy(&self) -> Result<Nomint, AllocError>
+        ensures { IfOk result (λ nomination. nomination ≡ self.now) }
+    {
+        Ok(Nomint {
+            point: self.point,
+            portfolio: self.portfolio,
+            day: self.day,
+            version: self.version,
+            lines: self.lines.copy()?,
+        })
+    }
 }
 
 /// What an operator answers when a nomination is recorded and saved.

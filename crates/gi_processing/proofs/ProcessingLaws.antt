@@ -20,12 +20,13 @@ use Rattle.gi_nominations.specs.Lines.{has_twins}
 use Rattle.std.specs.Str.{bytes_eq}
 use Rattle.std.proofs.lemmas.Bool.Decides.{Decides-eqb, nat_tests}
 use Rattle.gi_pairs.specs.Limits.{most_processed_rows, most_rows}
+use Rattle.gi_pairs.specs.Pair.{pair_of}
 use Rattle.gi_pairs.specs.Table.{TableContents, IsTable, built, covered, in_order, is_at, is_hour_range, keys_of, reading}
 use Rattle.gi_pairs.proofs.Refusals.{accepted}
 use Rattle.gi_messages.specs.declared.message.Nomint.{Nomint}
 use Rattle.gi_processing.specs.Capacity.{Capacity}
 use Rattle.gi_processing.specs.CapacityLimits.{most_portfolios}
-use Rattle.gi_processing.specs.Processing.{AreSound, CanProcess, IsInForce, IsLineKey, IsProcessed, IsSpan, available_to, line_key, lines_in_force, lines_of, ordered_lines, pair_of, portfolio_rows, processed_in, processed_row, processed_rows, readings, span_of, span_table}
+use Rattle.gi_processing.specs.Processing.{AreSound, CanProcess, IsInForce, IsLineKey, IsProcessed, IsSpan, available_to, line_key, lines_in_force, lines_of, ordered_lines, portfolio_rows, processed_in, processed_row, processed_rows, readings, span_of, span_table}
 use Rattle.gi_processing.specs.Recording.{portfolios_of}
 use Rattle.gi_processing.specs.Reduction.{IsReduction, in_direction, is_in, part, quantity_at, total}
 use Rattle.gi_processing.specs.declared.span.Span.{Span}

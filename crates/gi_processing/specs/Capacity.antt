@@ -1,6 +1,8 @@
 -- What is available to a portfolio in an hour: what its contract gives, cut by a notice (this project's profile).
 use Rattle.std.specs.Prelude.{ℕ, ◌+◌, ◌*◌, ◌/◌, List, Bool, ◌&&◌, nat_eq, nat_le, find, reverse, Option, Some, None}
 use Rattle.std.specs.List.{list_any}
+use Rattle.std.specs.Cmp.Lexicographic.{pointwise}
+use Rattle.std.specs.Ordering.{eq_of_both, on}
 use Rattle.std.specs.Str.{bytes_eq}
 use Rattle.jiff_core.specs.declared.civil.date.Date.{Date}
 use Rattle.gi_day.specs.SameDay.{same_day}
@@ -17,6 +19,17 @@ pub record Capacity : Type 0 where
 
 abbrev pub same_direction : Direction → Direction → Bool
 same_direction a b = nat_eq (place_of a) (place_of b)
+
+-- contracts and notices are equal where all their parts are
+abbrev pub contract_eq : Contract → Contract → Bool
+contract_eq =
+    eq_of_both (on (λ c. c.portfolio) (pointwise nat_eq)) (eq_of_both (on (λ c. c.day) same_day)
+    (eq_of_both (on (λ c. c.direction) same_direction) (eq_of_both (on (λ c. c.firm) nat_eq) (on (λ c. c.interruptible) nat_eq))))
+
+abbrev pub notice_eq : Notice → Notice → Bool
+notice_eq =
+    eq_of_both (on (λ n. n.day) same_day) (eq_of_both (on (λ n. n.direction) same_direction) (eq_of_both (on (λ n. n.first) nat_eq)
+    (eq_of_both (on (λ n. n.last) nat_eq) (eq_of_both (on (λ n. n.firm) nat_eq) (on (λ n. n.interruptible) nat_eq)))))
 
 -- whether a contract is of the portfolio, for the day
 abbrev pub is_of : List ℕ → Date → Contract → Bool

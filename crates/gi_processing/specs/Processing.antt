@@ -6,13 +6,12 @@ use Rattle.std.specs.Str.{bytes_eq}
 use Rattle.jiff_core.specs.declared.civil.date.Date.{Date}
 use Rattle.gi_day.specs.Cycles.{first_hour, hour_count}
 use Rattle.gi_pairs.specs.Limits.{last_hour}
+use Rattle.gi_pairs.specs.Pair.{pair_of}
 use Rattle.gi_pairs.specs.Table.{TableContents, IsTable, covered, in_order, keys_of, reading}
 use Rattle.gi_pairs.specs.declared.direction.Direction.{Direction}
 use Rattle.gi_pairs.specs.declared.key.Key.{Key}
-use Rattle.gi_pairs.specs.declared.pair.Pair.{Pair}
 use Rattle.gi_pairs.specs.declared.row.Row.{Row}
 use Rattle.gi_pairs.specs.declared.side.Side.{Side}
-use Rattle.gi_pairs.specs.declared.side.Side.TheVariants.{I, M}
 use Rattle.gi_messages.specs.declared.line.Line.{Line}
 use Rattle.gi_messages.specs.declared.message.Nomint.{Nomint}
 use Rattle.gi_nominations.specs.Book.{in_force}
@@ -30,11 +29,6 @@ lines_of (Some document) = document.lines
 
 unfoldable pub lines_in_force : List ℕ → Date → List Nomint → List Line
 lines_in_force portfolio day documents = lines_of (in_force portfolio day documents)
-
--- a line of the portfolio with the counterparty: at the initiating side the portfolio is the pair's first
-abbrev pub pair_of : Side → List ℕ → List ℕ → Pair
-pair_of I portfolio counterparty = record { initiating = portfolio; matching = counterparty }
-pair_of M portfolio counterparty = record { initiating = counterparty; matching = portfolio }
 
 -- what the line's row is for
 abbrev pub line_key : Side → List ℕ → Line → Key

@@ -3,7 +3,7 @@ ghost use Rattle.gi_day.specs.Cycles.{hour_count, IsCycle};
 ghost use Rattle.gi_nominations.specs.Lines.{lines_fault};
 ghost use Rattle.gi_pairs.specs.Table.{IsTable, built};
 ghost use Rattle.gi_pairs.specs.Limits.{most_processed_rows};
-ghost use Rattle.gi_processing.specs.Processing.{AreSound, CanProcess, IsProcessed, IsSpan, pair_of as pair_of_side, portfolio_rows, processed as processed_table, processed_in, processed_row, processed_rows, span_table};
+ghost use Rattle.gi_processing.specs.Processing.{AreSound, CanProcess, IsProcessed, IsSpan, portfolio_rows, processed as processed_table, processed_in, processed_row, processed_rows, span_table};
 
 use crate::contracts::Contracts;
 use crate::reduction::processed_quantity;
@@ -13,22 +13,6 @@ use gi_messages::Line;
 use gi_nominations::Book;
 use gi_pairs::{Code, Hours, Pair, Quantity, Row, Side, Table};
 use std::alloc::{AllocError, Global};
-
-/// The pair of a portfolio and its counterparty at the other side.
-fn pair_of(side: Side, portfolio: Code, counterparty: Code) -> Pair
-    ensures { result ≡ pair_of_side side portfolio counterparty }
-{
-    match side {
-        Side::I => Pair {
-            initiating: portfolio,
-            matching: counterparty,
-        },
-        Side::M => Pair {
-            initiating: counterparty,
-            matching: portfolio,
-        },
-    }
-}
 
 /// What is processed of a portfolio's line in an hour.
 #[tactic(auto, unfolding(crate::specs::Processing::processed_in))]
@@ -71,7 +55,7 @@ fn row_of(
         quantities.push(quantity)?;
     }
     Ok(Row {
-        pair: pair_of(span.side, portfolio, line.counterparty),
+        pair: Pair::of(span.side, portfolio, line.counterparty),
         direction: line.direction,
         hours: Hours::from(quantities),
     })

@@ -1,0 +1,61 @@
+//! Reading the hours that a message is for, and what an order and a response begin with.
+
+ghost use Rattle.std.specs.Prelude.{◌≡◌, ◌≤◌, IfOk};
+ghost use Rattle.serde_json.specs.View.{view};
+ghost use Rattle.gi_messages.specs.Reading.{span};
+ghost use Rattle.gi_messages.specs.Decoding.{head};
+
+use crate::fields::{code, day, number};
+use crate::key::Key;
+use crate::message::LAST_CYCLE;
+use gi_day::GasDay;
+use gi_pairs::{Code, LAST_HOUR};
+use serde_json::Value;
+
+/// The hours from `first` to `last`, numbered from 1 to 25 at most.
+#[derive(Clone, Copy)]
+pub struct Span {
+    pub first: u8,
+    pub last: u8,
+}
+
+/// What a DELORD and a DELRES begin with.
+#[derive(Clone, Copy)]
+pub(crate) struct Head {
+    pub point: Code,
+    pub day: GasDay,
+    pub cycle: u8,
+    pub span: Span,
+}
+
+/// The hours that an object names.
+#[tactic(auto, unfolding(crate::specs::Reading::span))]
+pub fn span_of(object: &Value) -> Result<Span, Key>
+    ensures value { result ≡ span (view object.now) }
+    ensures ordered { IfOk result (λ span. span.first ≤ span.last) }
+{
+    let first = number(object, Key::First, 1, u64::from(LAST_HOUR))?;
+    let last = number(object, Key::Last, first, u64::from(LAST_HOUR))?;
+    Ok(Span {
+        first: first as u8,
+        last: last as u8,
+    })
+}
+
+/// What a DELORD or a DELRES begins with.
+#[tactic(auto, unfolding(crate::specs::Decoding::head))]
+pub(crate) fn head_of(object: &Value) -> Result<Head, Key>
+    ensures value { result ≡ head (view object.now) }
+    ensures ordered { IfOk result (λ head. head.span.first ≤ head.span.last) }
+{
+    let point = code(object, Key::Point)?;
+    let day = day(object, Key::Day)?;
+    let cycle = number(object, Key::Cycle, 0, u64::from(LAST_CYCLE))? as u8;
+    let span = span_of(object)?;
+    Ok(Head {
+        point,
+        day,
+        cycle,
+        span,
+    })
+}
