@@ -18,7 +18,7 @@ use Rattle.gi_messages.specs.declared.message.Nomint.{Nomint}
 use Rattle.gi_messages.specs.declared.message.Nomres.{Nomres}
 use Rattle.gi_cycles.specs.States.{FrozenCycle, MatchedCycle}
 use Rattle.gi_desk.specs.declared.packet.Packet.{Packet}
-use Rattle.gi_desk.specs.declared.recipient.Recipient.TheVariants.{Peer, User}
+use Rattle.gi_desk.specs.declared.packet.Recipient.TheVariants.{Peer, User}
 
 abbrev pub to_peer : Message → Packet
 to_peer message = record { to = Peer; body = text_of message }

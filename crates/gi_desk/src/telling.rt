@@ -5,11 +5,9 @@ ghost use Rattle.gi_messages.specs.declared.message.Message.TheVariants as messa
 ghost use Rattle.gi_desk.specs.Messages.{line_of as line_of_row, lines_of as lines_of_rows, other_of, own_of, portfolios_in as portfolios_in_rows, to_user, told_of, told_packets as told_packets_of, with_code};
 ghost use Rattle.gi_desk.specs.Queries.{stands_in as stands_in_rows, told_if as told_if_met};
 
-use crate::body::Body;
-use crate::packet::Packet;
-use crate::recipient::Recipient;
+use crate::packet::{Packet, Recipient};
 use gi_cycles::Matched;
-use gi_messages::{Line, Lines, Message, Nomres, encode};
+use gi_messages::{Line, Lines, Message, Nomres};
 use gi_pairs::{Code, Pair, Row, Side};
 use std::alloc::{AllocError, Global};
 
@@ -33,7 +31,6 @@ fn other_code(side: Side, pair: Pair) -> Code
     }
 }
 
-/// The row as a line for the side's portfolio.
 fn line_of(side: Side, row: &Row) -> Result<Line, AllocError>
     ensures { IfOk result (λ line. line ≡ line_of_row side row.now) }
 {
@@ -44,7 +41,6 @@ fn line_of(side: Side, row: &Row) -> Result<Line, AllocError>
     })
 }
 
-/// The rows of a portfolio as lines, in their order.
 fn lines_of(alloc: Global, side: Side, portfolio: Code, rows: &[Row]) -> Result<Lines, AllocError>
     ensures { IfOk result (λ lines. lines ≡ lines_of_rows side portfolio rows.now) }
 {
@@ -57,7 +53,6 @@ fn lines_of(alloc: Global, side: Side, portfolio: Code, rows: &[Row]) -> Result<
     Ok(Lines::from(lines))
 }
 
-/// What a portfolio is told: its confirmed rows.
 fn told(
     alloc: Global,
     side: Side,
@@ -80,14 +75,12 @@ fn told(
     })
 }
 
-/// Whether the side's portfolio stands in one of the rows.
 fn stands_in(side: Side, portfolio: Code, rows: &[Row]) -> bool
     ensures { result ≡ stands_in_rows side portfolio rows.now }
 {
     rows.iter().any(|row| own_code(side, row.pair) == portfolio)
 }
 
-/// What a portfolio is told, where it stands in a confirmed row.
 pub(crate) fn told_if(
     alloc: Global,
     side: Side,
@@ -103,7 +96,6 @@ pub(crate) fn told_if(
     Ok(Some(told(alloc, side, point, cycle, portfolio)?))
 }
 
-/// The packet that tells a portfolio.
 fn packet_for(
     alloc: Global,
     side: Side,
@@ -114,13 +106,9 @@ fn packet_for(
     ensures { IfOk result (λ packet. packet ≡ to_user portfolio (messages.Nomres (told_of side point cycle.now portfolio))) }
 {
     let message = Message::Nomres(told(alloc, side, point, cycle, portfolio)?);
-    Ok(Packet {
-        to: Recipient::User(portfolio),
-        body: Body::from(encode(alloc, &message)?),
-    })
+    Packet::of(alloc, Recipient::User(portfolio), &message)
 }
 
-/// The packets that tell these portfolios, in their order.
 pub(crate) fn packets_for(
     alloc: Global,
     side: Side,
@@ -149,7 +137,6 @@ fn insert(codes: &mut Vec<Code>, code: Code) -> Result<(), AllocError>
     Ok(())
 }
 
-/// The side's portfolios that stand in the rows, each once, by code.
 fn portfolios_in(alloc: Global, side: Side, rows: &[Row]) -> Result<Vec<Code>, AllocError>
     ensures { IfOk result (λ codes. codes.items ≡ portfolios_in_rows side rows.now) }
 {

@@ -3,13 +3,12 @@ ghost use Rattle.gi_desk.specs.Deciding.{IsUnlessShort, by_order, may_want};
 use gi_cycles::CycleState;
 use gi_desk::{Decision, Refusal, met_again, same_hours};
 use gi_messages::Delord;
-use std::alloc::Global;
 
 /// What comes of an order in a state of its cycle: `NotClosed` while nominations are collected;
 /// `ShapeDiffers` where its table is for other hours than the frozen one. A frozen cycle meets the
 /// table; a matched one has met it already, or answers `Conflict`. `OutOfMemory` comes only where
 /// the cycle is closed and the hours are the same.
-pub fn take_order(_alloc: Global, state: &CycleState, order: &Delord) -> Decision
+pub fn take_order(state: &CycleState, order: &Delord) -> Decision
     ensures { IsUnlessShort (may_want order.now.processed state.now) (by_order order.now.processed state.now) result }
 {
     let peer = &order.processed;

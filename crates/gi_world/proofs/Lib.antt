@@ -9,7 +9,7 @@ mod HistoryConfirms
 mod HistoryLaws
 mod Meetings
 mod MemoryWanted
-mod Numbers
+pub mod Numbers
 mod OneQuantity
 mod Opening
 mod Recorded

@@ -119,7 +119,7 @@ moved_after : (s next peer : DeskState) (new : Option Fact) → MeetsAfter s pee
     → ((id : CycleId) (table : TableContents) → new ≡ Some (Met id table) → is_some (peer_of id (saved_facts peer)) ≡ true) → MeetsAfter next peer
 moved_after s next peer new met moved may = λ id table there. ⊎_elim (λ old. met id table old) (λ fresh. may id table fresh) (moved.meets id table there)
 
-some_in : (o : Option TableContents) → is_some o ≡ true → (table : TableContents) × (o ≡ Some table)
+pub some_in : (o : Option TableContents) → is_some o ≡ true → (table : TableContents) × (o ≡ Some table)
 some_in None e = absurd cc
 some_in (Some table) e = (table, refl)
 
@@ -253,15 +253,3 @@ met-sound orders responses w step sound fits = (step_met orders responses w step
 pub after-sound : DeliversOrders → DeliversResponses → (w : WorldState) (step : Step) → IsSound w → FitsWorld w
     → MeetsAfter (after w step).initiating.desk (after w step).matching.desk
 after-sound orders responses w step sound fits = (step_met orders responses w step sound fits).after
-
--- a desk without facts met nothing
-met_none : (id : CycleId) (table : TableContents) → peer_of id [] ≡ Some table → ⊥
-unfolding peer_of
-met_none id table e = absurd cc
-
-pub new-met : (point : List ℕ) (side : Side) → MeetsFrozen side (station_of side (new_world point)).desk (station_of (other side) (new_world point)).desk
-new-met point I = λ id table met. absurd (met_none id table met)
-new-met point M = λ id table met. absurd (met_none id table met)
-
-pub new-after : (point : List ℕ) → MeetsAfter (new_world point).initiating.desk (new_world point).matching.desk
-new-after point = λ id table met. absurd (met_none id table met)

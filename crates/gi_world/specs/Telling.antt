@@ -9,6 +9,7 @@ use Rattle.gi_messages.specs.Decoding.{decoded}
 use Rattle.gi_messages.specs.declared.line.Line.{Line}
 use Rattle.gi_messages.specs.declared.message.Message.TheVariants as messages
 use Rattle.gi_messages.specs.declared.message.Nomres.{Nomres}
+use Rattle.gi_desk.specs.Deciding.{cycle_of}
 use Rattle.gi_desk.specs.declared.packet.Packet.{Packet}
 use Rattle.gi_world.specs.Confirming.{IsLowerOfFrozen, table_confirmed}
 use Rattle.gi_world.specs.Histories.{Histories, history_of}
@@ -20,7 +21,7 @@ pair_of M portfolio counterparty = record { initiating = counterparty; matching 
 
 -- the cycle of a message
 abbrev pub cycle_told : Nomres → CycleId
-cycle_told message = record { day = message.day; cycle = message.cycle }
+cycle_told message = cycle_of message.day message.cycle
 
 -- Each quantity of a line, from the message's first hour on, is the table's for the pair of the message's portfolio and the
 -- line's counterparty, in the line's direction and in that hour.

@@ -5,7 +5,7 @@ use Rattle.gi_pairs.specs.declared.side.Side.{Side}
 use Rattle.gi_pairs.specs.declared.side.Side.TheVariants.{I, M}
 use Rattle.gi_messages.specs.Decoding.{decoded}
 use Rattle.gi_messages.specs.declared.message.Message.{Message}
-use Rattle.gi_messages.specs.declared.message.Message.TheVariants.{Nomint, Acknow, Nomres, Delord, Delres}
+use Rattle.gi_messages.specs.declared.message.Message.TheVariants.{Nomres}
 use Rattle.gi_messages.specs.declared.message_fault.MessageFault.{MessageFault}
 use Rattle.gi_desk.specs.Machine.{DeskState, after as desk_after, is_for_peer, may_want as desk_may_want, reply}
 use Rattle.gi_desk.specs.declared.call.Call.{Call}
@@ -55,12 +55,8 @@ with_station M station w = record { initiating = w.initiating; matching = statio
 
 -- whether a packet tells confirmed quantities: its bytes read as a NOMRES
 abbrev pub is_telling : Result Message MessageFault → Bool
-is_telling (Err fault) = false
-is_telling (Ok (Nomint message)) = false
-is_telling (Ok (Acknow message)) = false
 is_telling (Ok (Nomres message)) = true
-is_telling (Ok (Delord message)) = false
-is_telling (Ok (Delres message)) = false
+is_telling read = false
 
 abbrev pub tells : Packet → Bool
 tells packet = is_telling (decoded packet.body)
@@ -110,14 +106,8 @@ IsNumberOf w side bytes (Some n) = (bytes_delivered w side n ≡ Some bytes) × 
 IsNumberOf w side bytes None = (n : ℕ) → ¬ (bytes_delivered w side n ≡ Some bytes)
 
 abbrev pub is_delivery : Call → Bool
-is_delivery (calls.Contract contract) = false
-is_delivery (calls.Notice notice) = false
-is_delivery (calls.Submit body) = false
-is_delivery (calls.Close id) = false
 is_delivery (calls.Deliver body) = true
-is_delivery (calls.Resend id) = false
-is_delivery (calls.MarkSaved n fact) = false
-is_delivery calls.Halt = false
+is_delivery call = false
 
 -- what comes of a call at a side, of a delivery and of a restart
 abbrev pub called : Side → StationState → Call → Result WorldReply WorldFault

@@ -1,6 +1,6 @@
 use Rattle.std.proofs.lemmas.List.Elements.{All-more}
 use Rattle.gi_messages.specs.Grammar.{FitsLine}
-use Rattle.gi_desk.proofs.ranges.lines_in_range.Goals as goal
+use Rattle.gi_desk.proofs.ranges.lines_known.Goals as goal
 
 pub loop-line-preserved : goal.loop-line-preserved
 loop-line-preserved c =

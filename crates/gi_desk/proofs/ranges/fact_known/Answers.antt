@@ -5,7 +5,7 @@ use Rattle.gi_desk.specs.Machine.{would_record}
 use Rattle.gi_facts.specs.Writable.{FitsFact}
 use Rattle.gi_facts.specs.declared.fact.Fact.{Fact}
 use Rattle.gi_desk.proofs.Fitting.{closing-fits, meeting_fact-fits, nomination-fits, notice-fits}
-use Rattle.gi_desk.proofs.ranges.fact_in_range.Goals as goal
+use Rattle.gi_desk.proofs.ranges.fact_known.Goals as goal
 
 pub returns-in-Noticed : goal.returns-in-Noticed
 returns-in-Noticed c =
@@ -17,7 +17,7 @@ pub returns-in-Nominated : goal.returns-in-Nominated
 returns-in-Nominated c =
     let known = c.requires in
     let recorded = subst (λ (fact : Fact). would_record known.0 known.1 known.2 fact ≡ true) c.in-Nominated.is known.4 in
-    let lines = subst (λ (lines : List Line). All FitsLine lines) c.as_slice.ensures c.lines_in_range.ensures in
+    let lines = subst (λ (lines : List Line). All FitsLine lines) c.as_slice.ensures c.lines_known.ensures in
     subst FitsFact (sym c.in-Nominated.is)
     (nomination-fits known.0 known.1 known.2 c.in-Nominated.document recorded c.as_str.ensures.code c.as_str-in-Nominated.ensures.code c.in_range-in-Nominated.ensures lines)
 
