@@ -1,27 +1,21 @@
 -- What the saved facts say of a cycle that met its peer's table.
-use Rattle.std.proofs.Common.{arith, ◌≡◌, ◌<◌, ◌≤◌, ◌+◌, ℕ, zero, suc, List, [], ◌∷◌, ◌++◌, length, take, Bool, true, false, cond, not, nat_eq, nat_lt, Option, Some, None, option_and_then, refl, sym, ap, ◌∙◌, subst}
-use Rattle.std.specs.Prelude.{option_map, slice_get}
-use Rattle.std.specs.List.{cons_option}
+use Rattle.std.proofs.Common.{arith, ◌≡◌, ◌<◌, ◌≤◌, ◌+◌, ℕ, zero, suc, List, [], ◌∷◌, ◌++◌, length, take, Bool, true, false, cond, not, nat_lt, Option, Some, None, refl, sym, ap, ◌∙◌, subst}
+use Rattle.std.specs.Prelude.{option_map}
 use Rattle.std.proofs.lemmas.Bool.{and_parts}
-use Rattle.std.proofs.lemmas.Bool.Decides.{Decides-eqb, nat_tests}
+use Rattle.std.proofs.lemmas.Bool.Decides.{nat_tests}
 use Rattle.std.proofs.lemmas.List.{append_assoc}
 use Rattle.std.proofs.lemmas.List.Sums.{take_while-cons}
-use Rattle.gi_day.specs.SameDay.{same_day}
-use Rattle.gi_day.proofs.DayLaws.{same_day-Decides}
 use Rattle.gi_pairs.specs.Table.{TableContents}
 use Rattle.gi_pairs.specs.declared.cycle_id.CycleId.{CycleId}
 use Rattle.gi_pairs.specs.declared.side.Side.{Side}
 use Rattle.gi_lesser.specs.Lesser.{lesser_of}
 use Rattle.gi_cycles.specs.States.{FrozenCycle, MatchedCycle, matched_of}
 use Rattle.gi_cycles.specs.declared.cycle_state.CycleState.{CycleState}
-use Rattle.gi_cycles.specs.declared.cycle_state.CycleState.TheVariants.{Collecting, Frozen, Matched}
-use Rattle.gi_desk.specs.Deciding.{by_order}
-use Rattle.gi_desk.specs.History.{facts_before, frozen_cycle, frozen_table, is_closed, is_meeting, met_by, number_of, peer_in, peer_of, state_of}
-use Rattle.gi_desk.specs.Judging.{by_decision}
+use Rattle.gi_cycles.specs.declared.cycle_state.CycleState.TheVariants.{Collecting, Matched}
+use Rattle.gi_desk.specs.History.{facts_before, frozen_cycle, is_closed, is_meeting, met_by, number_of, peer_in, peer_of, state_of}
 use Rattle.gi_desk.specs.Kept.{closed_state}
-use Rattle.gi_desk.specs.Machine.{DeskState, bad_fact, bad_from, is_record, most_facts, would_record}
+use Rattle.gi_desk.specs.Machine.{DeskState, bad_fact, bad_from, most_facts, would_record}
 use Rattle.gi_desk.specs.Queries.{confirmed, met_saved, stage_of}
-use Rattle.gi_facts.specs.Same.{same_cycle}
 use Rattle.gi_facts.specs.declared.fact.Fact.{Fact}
 use Rattle.gi_facts.specs.declared.fact.Fact.TheVariants.{Contracted, Noticed, Nominated, Closed, Met}
 use Rattle.gi_desk.specs.declared.stage_name.StageName.TheVariants as stages

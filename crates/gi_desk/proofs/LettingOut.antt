@@ -1,43 +1,37 @@
 -- What is let out, and to whom.
-use Rattle.std.proofs.Common.{arith, nat_lt, ltb-false, ◌≡◌, ◌<◌, ◌≤◌, ◌+◌, ◌-◌, ℕ, suc, List, [], ◌∷◌, ◌++◌, length, take, drop, get_or, filter, filter_map, map, Bool, true, false, not, cond, ◌||◌, Option, Some, None, refl, sym, ap, ◌∙◌, subst}
+use Rattle.std.proofs.Common.{arith, nat_lt, ltb-false, ◌≡◌, ◌<◌, ◌≤◌, ◌+◌, ◌-◌, ℕ, suc, List, [], ◌∷◌, ◌++◌, length, take, drop, get_or, filter, map, Bool, true, false, not, cond, ◌||◌, Option, Some, None, refl, sym, ap, ◌∙◌, subst}
 use Rattle.std.specs.Prelude.{is_some, slice_get}
-use Rattle.std.specs.List.{cons_option, insert, list_any, position_or_len}
+use Rattle.std.specs.List.{insert, list_any, position_or_len}
 use Rattle.std.specs.Option.{unwrap_or}
 use Rattle.std.specs.Ordering.{is_le}
 use Rattle.std.specs.Str.{bytes_eq}
 use Rattle.std.specs.declared.cmp.Ordering.{Ordering}
 use Rattle.std.specs.declared.cmp.Ordering.TheVariants.{Less, Equal, Greater}
 use Rattle.std.proofs.Math.ListN.{drop_of_length-le}
-use Rattle.std.proofs.lemmas.Bool.{and_parts}
 use Rattle.std.proofs.lemmas.List.{append-nil, drop_more, get_or-take, length-take, take-append-drop}
-use Rattle.std.proofs.lemmas.List.Elements.{filter-append, filter_map-append}
+use Rattle.std.proofs.lemmas.List.Elements.{filter-append}
 use Rattle.std.proofs.lemmas.List.Folds.{list_any-append}
 use Rattle.std.proofs.lemmas.List.Sums.{passes_at_first, prefix_len-le-length}
 use Rattle.std.proofs.lemmas.Map.Text.{is_eq-slice_cmp}
 use Rattle.std.proofs.lemmas.Option.{slice_get_read}
 use Rattle.gi_pairs.specs.Key.{code_cmp}
-use Rattle.gi_pairs.specs.Table.{TableContents, table_eq}
+use Rattle.gi_pairs.specs.Table.{TableContents}
 use Rattle.gi_pairs.specs.declared.cycle_id.CycleId.{CycleId}
 use Rattle.gi_pairs.specs.declared.side.Side.{Side}
 use Rattle.gi_messages.specs.declared.message.Message.{Message}
 use Rattle.gi_messages.specs.declared.message.Message.TheVariants as messages
 use Rattle.gi_messages.specs.declared.message.Nomint.{Nomint}
 use Rattle.gi_cycles.specs.States.{FrozenCycle, MatchedCycle, matched_of}
-use Rattle.gi_cycles.specs.declared.cycle_state.CycleState.{CycleState}
-use Rattle.gi_cycles.specs.declared.cycle_state.CycleState.TheVariants.{Collecting, Frozen, Matched}
-use Rattle.gi_desk.specs.Deciding.{by_order, same_hours}
-use Rattle.gi_desk.specs.History.{frozen_cycle, frozen_table, is_closed, is_closing, is_meeting, met_by, number_of, peer_in, peer_of, state_of}
-use Rattle.gi_desk.specs.Judging.{by_decision}
+use Rattle.gi_cycles.specs.declared.cycle_state.CycleState.TheVariants.{Matched}
+use Rattle.gi_desk.specs.History.{frozen_cycle, frozen_table, is_closed, is_closing, is_meeting, met_by, number_of, peer_of, state_of}
 use Rattle.gi_desk.specs.LetOut.{IsFact, if_fact, let_out, let_out_on_closing, packets_of, sent}
-use Rattle.gi_desk.specs.Machine.{DeskState, bad_fact, is_for_peer, is_record, saved_out, would_record}
+use Rattle.gi_desk.specs.Machine.{DeskState, bad_fact, is_for_peer, saved_out}
 use Rattle.gi_desk.specs.Messages.{acknow_of, on_closed, on_met, portfolios_in, to_user, told_of, told_packets, with_code}
 use Rattle.gi_facts.specs.Same.{same_cycle}
-use Rattle.gi_desk.specs.declared.decision.Decision.TheVariants.{Again, Refused}
 use Rattle.gi_facts.specs.declared.fact.Fact.{Fact}
 use Rattle.gi_facts.specs.declared.fact.Fact.TheVariants.{Contracted, Noticed, Nominated, Closed, Met}
 use Rattle.gi_facts.proofs.SameLemmas.{same_cycle-self}
 use Rattle.gi_desk.specs.declared.packet.Packet.{Packet}
-use Rattle.gi_desk.specs.declared.refusal.Refusal.TheVariants.{Conflict, ShapeDiffers}
 use Rattle.gi_desk.proofs.CycleLaws.{peer_of-last, recorded-meeting}
 use Rattle.gi_desk.proofs.HistoryLaws.{one_more}
 use Rattle.gi_desk.proofs.Legality.{legal-at}

@@ -7,7 +7,7 @@ use Rattle.std.proofs.lemmas.Bool.Decides.{nat_tests}
 use Rattle.std.proofs.lemmas.Option.{slice_get_within}
 use Rattle.gi_day.specs.Cycles.{cycle_count}
 use Rattle.gi_pairs.specs.Limits.{most_processed_rows}
-use Rattle.gi_pairs.specs.Table.{TableContents, table_eq}
+use Rattle.gi_pairs.specs.Table.{TableContents, same_hours, table_eq}
 use Rattle.gi_pairs.specs.declared.cycle_id.CycleId.{CycleId}
 use Rattle.gi_pairs.specs.declared.side.Side.{Side}
 use Rattle.gi_pairs.specs.declared.side.Side.TheVariants.{I, M}
@@ -27,7 +27,7 @@ use Rattle.gi_processing.specs.declared.notice_fault.NoticeFault.{NoticeFault}
 use Rattle.gi_processing.specs.declared.notice_fault.NoticeFault.TheVariants as notices
 use Rattle.gi_cycles.specs.declared.cycle_state.CycleState.{CycleState}
 use Rattle.gi_cycles.specs.declared.cycle_state.CycleState.TheVariants.{Collecting, Frozen, Matched}
-use Rattle.gi_desk.specs.Deciding.{by_order, by_response, cycle_of, difference, met_again, same_hours, unless_differs}
+use Rattle.gi_desk.specs.Deciding.{by_order, by_response, cycle_of, difference, met_again, unless_differs}
 use Rattle.gi_desk.specs.History.{capacity_of, is_closed, last_closed, number_of, state_of}
 use Rattle.gi_desk.specs.Judging.{by_decision, by_verdict, closed, contracted, delivered, if_same, noticed, of_point, submitted, unless_fault, unless_later, verdict_on}
 use Rattle.gi_desk.specs.Kept.{CanFollow}

@@ -8,6 +8,7 @@ use Rattle.std.proofs.lemmas.List.Elements.{All-append, All-cons, All-filter, Al
 use Rattle.std.proofs.lemmas.Option.{get_or_from_slice_get, slice_get_within}
 use Rattle.gi_pairs.specs.Code.{IsCode}
 use Rattle.gi_pairs.specs.Key.{code_cmp}
+use Rattle.gi_pairs.specs.Pair.{code_at}
 use Rattle.gi_pairs.specs.Row.{IsRow}
 use Rattle.gi_pairs.specs.Table.{TableContents, covered}
 use Rattle.gi_pairs.specs.declared.cycle_id.CycleId.{CycleId}
@@ -29,7 +30,7 @@ use Rattle.gi_cycles.specs.declared.cycle_state.CycleState.TheVariants.{Collecti
 use Rattle.gi_desk.specs.History.{state_of}
 use Rattle.gi_desk.specs.LetOut.{IsFact, frozen_of, if_fact, let_out, let_out_on_closing, sent}
 use Rattle.gi_desk.specs.Machine.{bad_fact}
-use Rattle.gi_desk.specs.Messages.{acknow_of, is_row_of, line_of, on_closed, on_met, order_of, own_of, portfolios_in, response_of, to_peer, to_user, told_of, told_packets, with_code}
+use Rattle.gi_desk.specs.Messages.{acknow_of, is_row_of, line_of, on_closed, on_met, order_of, portfolios_in, response_of, to_peer, to_user, told_of, told_packets, with_code}
 use Rattle.gi_desk.specs.Writable.{FitsDesk, FitsFrozen, FitsMatched, FitsState, IsReadable}
 use Rattle.gi_facts.specs.Writable.{FitsFact}
 use Rattle.gi_facts.specs.declared.fact.Fact.{Fact}
@@ -73,7 +74,7 @@ line-fits : (side : Side) (row : Row) → IsRow row → FitsLine (line_of side r
 line-fits I row is = record { counterparty = is.key.matching; quantities = is.quantities }
 line-fits M row is = record { counterparty = is.key.initiating; quantities = is.quantities }
 
-own_code : (side : Side) (row : Row) → IsRow row → IsCode (own_of side row.pair)
+own_code : (side : Side) (row : Row) → IsRow row → IsCode (code_at side row.pair)
 own_code I row is = is.key.initiating
 own_code M row is = is.key.matching
 
@@ -144,7 +145,7 @@ coded code (x ∷ xs) here all =
 pub portfolios-coded : (side : Side) (rows : List Row) → All IsRow rows → All IsCode (portfolios_in side rows)
 portfolios-coded side [] all = All-nil IsCode
 portfolios-coded side (row ∷ rows) all =
-    coded (own_of side row.pair) (portfolios_in side rows) (own_code side row (All-head IsRow row rows all)) (portfolios-coded side rows (All-tail IsRow row rows all))
+    coded (code_at side row.pair) (portfolios_in side rows) (own_code side row (All-head IsRow row rows all)) (portfolios-coded side rows (All-tail IsRow row rows all))
 
 told-readable : (side : Side) (point : List ℕ) (cycle : MatchedCycle) → IsCode point → FitsMatched cycle → All IsReadable (told_packets side point cycle)
 unfolding told_packets

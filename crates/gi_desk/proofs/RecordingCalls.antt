@@ -1,5 +1,5 @@
 -- Each fact that may come next is recorded by a call, which the fact names.
-use Rattle.std.proofs.Common.{arith, ◌≡◌, ◌≤◌, ℕ, List, [], ◌∷◌, length, All, Bool, true, cond, ◌&&◌, nat_eq, Some, None, Ok, eq-eqb, refl, sym, ap, ◌∙◌, subst}
+use Rattle.std.proofs.Common.{arith, ◌≡◌, ◌≤◌, ℕ, List, [], ◌∷◌, length, All, Bool, true, cond, ◌&&◌, nat_eq, Some, None, eq-eqb, refl, sym, ap, ◌∙◌, subst}
 use Rattle.std.specs.Str.{bytes_eq}
 use Rattle.std.proofs.lemmas.Bool.{and_from, and_parts}
 use Rattle.std.proofs.lemmas.Bool.Decides.{Decides-eqb}
@@ -8,29 +8,21 @@ use Rattle.std.proofs.lemmas.Slice.Eq.{bytes_eq-Decides}
 use Rattle.gi_day.specs.Cycles.{hour_count}
 use Rattle.gi_day.proofs.DayFacts.{day_facts}
 use Rattle.gi_pairs.specs.Code.{IsCode}
-use Rattle.gi_pairs.specs.Direction.{place_of}
 use Rattle.gi_pairs.specs.Limits.{last_hour}
-use Rattle.gi_pairs.specs.Row.{pair_eq, row_eq}
 use Rattle.gi_pairs.specs.Table.{TableContents}
 use Rattle.gi_pairs.specs.declared.cycle_id.CycleId.{CycleId}
-use Rattle.gi_pairs.specs.declared.pair.Pair.{Pair}
-use Rattle.gi_pairs.specs.declared.row.Row.{Row}
 use Rattle.gi_pairs.specs.declared.side.Side.{Side}
 use Rattle.gi_pairs.specs.declared.side.Side.TheVariants.{I, M}
 use Rattle.gi_pairs.proofs.Reading.{find_all}
 use Rattle.gi_lesser.specs.Lesser.{HasShapeOf, lesser_of}
 use Rattle.gi_lesser.proofs.LesserLaws.{lesser_of-IsLesser}
-use Rattle.gi_messages.specs.Decoding.{decoded}
 use Rattle.gi_messages.specs.Grammar.{Fits, HasFewLines}
 use Rattle.gi_messages.specs.Writing.{text_of}
 use Rattle.gi_messages.specs.declared.line.Line.{Line}
 use Rattle.gi_messages.specs.declared.message.Delord.{Delord}
 use Rattle.gi_messages.specs.declared.message.Delres.{Delres}
-use Rattle.gi_messages.specs.declared.message.Message.{Message}
 use Rattle.gi_messages.specs.declared.message.Message.TheVariants as messages
 use Rattle.gi_messages.specs.declared.message.Nomint.{Nomint}
-use Rattle.gi_messages.proofs.ShortTexts.{texts_are_short}
-use Rattle.gi_messages.proofs.WritingLemmas.{round_trip, writable_from_fits}
 use Rattle.gi_nominations.specs.Lines.{has_hours}
 use Rattle.gi_nominations.specs.declared.verdict.Verdict.{Verdict}
 use Rattle.gi_nominations.specs.declared.verdict.Verdict.TheVariants as verdicts
@@ -39,7 +31,7 @@ use Rattle.gi_cycles.specs.declared.cycle_state.CycleState.TheVariants.{Frozen}
 use Rattle.gi_processing.specs.Recording.{is_refused, notice_refusal}
 use Rattle.gi_processing.specs.declared.contract.Contract.{Contract}
 use Rattle.gi_processing.specs.declared.notice.Notice.{Notice}
-use Rattle.gi_desk.specs.Deciding.{by_order, by_response, compared, difference, one_later}
+use Rattle.gi_desk.specs.Deciding.{by_order, by_response, compared}
 use Rattle.gi_desk.specs.History.{capacity_of, frozen_cycle, frozen_table, state_of}
 use Rattle.gi_desk.specs.Judging.{by_decision, by_verdict, closed, contracted, delivered, noticed, submitted, verdict_on}
 use Rattle.gi_desk.specs.Kept.{is_state_of, states_of}

@@ -1,9 +1,9 @@
 -- What a desk makes of its peer's message, by the state of the cycle.
-use Rattle.std.specs.Prelude.{◌≡◌, ◌≤◌, ◌⊎◌, ℕ, ◌+◌, List, [], ◌∷◌, length, Bool, false, ◌&&◌, nat_eq, if◌then◌else◌, Option, Some, None, IsTrue}
+use Rattle.std.specs.Prelude.{◌≡◌, ◌≤◌, ◌⊎◌, ℕ, ◌+◌, List, [], ◌∷◌, length, Bool, false, ◌&&◌, if◌then◌else◌, Option, Some, None, IsTrue}
 use Rattle.jiff_core.specs.declared.civil.date.Date.{Date}
 use Rattle.gi_pairs.specs.Limits.{most_processed_rows}
 use Rattle.gi_pairs.specs.Row.{row_eq}
-use Rattle.gi_pairs.specs.Table.{TableContents, table_eq}
+use Rattle.gi_pairs.specs.Table.{TableContents, same_hours, table_eq}
 use Rattle.gi_pairs.specs.declared.cycle_id.CycleId.{CycleId}
 use Rattle.gi_pairs.specs.declared.row.Row.{Row}
 use Rattle.gi_pairs.specs.declared.side.Side.{Side}
@@ -16,10 +16,6 @@ use Rattle.gi_cycles.specs.declared.cycle_state.CycleState.TheVariants.{Collecti
 use Rattle.gi_desk.specs.declared.decision.Decision.{Decision}
 use Rattle.gi_desk.specs.declared.decision.Decision.TheVariants.{Meet, Again, Refused}
 use Rattle.gi_desk.specs.declared.refusal.Refusal.TheVariants.{OutOfMemory, WrongKind, NotClosed, ShapeDiffers, NotTheLesser, Conflict}
-
--- both tables are for the same hours
-abbrev pub same_hours : TableContents → TableContents → Bool
-same_hours a b = nat_eq a.first b.first && nat_eq a.last b.last
 
 -- the least place, from 1, at which rows differ; a row that one list lacks differs
 abbrev pub one_later : Option ℕ → Option ℕ

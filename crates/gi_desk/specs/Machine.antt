@@ -1,6 +1,6 @@
 -- The desk as a machine: its state is a list of facts, how many of them are saved, and whether it is halted. Every
 -- answer, every packet and the next state are functions of the state and the call.
-use Rattle.std.specs.Prelude.{◌≡◌, ◌<◌, ℕ, ◌+◌, List, [], ◌∷◌, ◌++◌, length, filter, Bool, true, false, not, ◌&&◌, nat_le, nat_lt, IsTrue, ◌⊎◌, if◌then◌else◌, Option, Some, None, Result, Ok, Err}
+use Rattle.std.specs.Prelude.{◌≡◌, ◌<◌, ℕ, ◌+◌, List, [], ◌∷◌, ◌++◌, length, take, filter, Bool, true, false, not, ◌&&◌, nat_le, nat_lt, IsTrue, ◌⊎◌, if◌then◌else◌, Option, Some, None, Result, Ok, Err}
 use Rattle.gi_pairs.specs.Limits.{most_processed_rows}
 use Rattle.gi_pairs.specs.declared.side.Side.{Side}
 use Rattle.gi_messages.specs.Decoding.{decoded}
@@ -34,6 +34,10 @@ pub record DeskState : Type 0 where
   pub facts : List Fact
   pub saved : ℕ
   pub halted : Bool
+
+-- a desk that starts again from its first facts, which are then saved
+abbrev pub started_again : DeskState → ℕ → DeskState
+started_again s keep = record { point = s.point; facts = take keep s.facts; saved = keep; halted = false }
 
 -- what a call comes to by itself
 abbrev pub comes_to : Side → DeskState → Call → Outcome

@@ -11,7 +11,6 @@ ghost use Rattle.gi_desk.specs.declared.decision.Decision.TheVariants.{Refused};
 ghost use Rattle.gi_desk.specs.declared.refusal.Refusal.TheVariants.{OutOfMemory};
 ghost use Rattle.gi_desk.specs.Machine.{is_record as is_record_of, most_facts, unless_full as unless_full_of};
 
-use crate::deciding::same_hours;
 use crate::decision::Decision;
 use crate::history::{
     is_closed, last_closed, number_of_closing, number_of_meeting, number_of_taking,
@@ -167,7 +166,7 @@ pub(crate) fn can_meet(state: &CycleState, peer: &Table) -> bool
     match state {
         CycleState::Collecting(_) => false,
         CycleState::Frozen(cycle) => {
-            same_hours(cycle.own(), peer) && peer.rows().len() <= MOST_PROCESSED_ROWS
+            cycle.own().covers_same_hours(peer) && peer.rows().len() <= MOST_PROCESSED_ROWS
         }
         CycleState::Matched(_) => false,
     }

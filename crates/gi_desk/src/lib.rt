@@ -64,7 +64,7 @@ mod stages;
 mod telling;
 
 pub use call::Call;
-pub use deciding::{difference, met_again, same_hours};
+pub use deciding::{difference, met_again};
 pub use decision::Decision;
 pub use desk::Desk;
 pub use gi_facts::{Fact, FactFault, decode_fact, encode_fact};

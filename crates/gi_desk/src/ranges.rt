@@ -16,10 +16,10 @@ use gi_processing::Contract;
 fn contract_known(contract: &Contract)
     ensures { FitsContract contract.now }
 {
-    let _ = contract.portfolio.as_str();
-    contract.day.in_range();
-    let _ = contract.firm.value();
-    let _ = contract.interruptible.value();
+    contract.portfolio.known();
+    contract.day.known();
+    contract.firm.known();
+    contract.interruptible.known();
 }
 
 /// Every line has a code and quantities in range.
@@ -27,8 +27,8 @@ fn lines_known(lines: &[Line])
     ensures { All FitsLine lines.now }
 {
     for line in lines {
-        let _ = line.counterparty.as_str();
-        let _ = line.hours.as_slice();
+        line.counterparty.known();
+        line.hours.known();
     }
 }
 
@@ -39,16 +39,14 @@ pub(crate) fn fact_known(fact: &Fact)
 {
     match fact {
         Fact::Contracted(contract) => contract_known(contract),
-        Fact::Noticed(notice) => notice.day.in_range(),
+        Fact::Noticed(notice) => notice.day.known(),
         Fact::Nominated(document) => {
-            let _ = document.point.as_str();
-            let _ = document.portfolio.as_str();
-            document.day.in_range();
+            document.point.known();
+            document.portfolio.known();
+            document.day.known();
             lines_known(document.lines.as_slice());
         }
-        Fact::Closed(id) => id.day.in_range(),
-        Fact::Met { peer, .. } => {
-            let _ = peer.rows();
-        }
+        Fact::Closed(id) => id.day.known(),
+        Fact::Met { peer, .. } => peer.known(),
     }
 }

@@ -2,40 +2,20 @@
 
 ghost use Rattle.std.specs.Prelude.{◌≡◌, IfOk, OnOk, Some, map};
 ghost use Rattle.gi_messages.specs.declared.message.Message.TheVariants as messages;
-ghost use Rattle.gi_desk.specs.Messages.{line_of as line_of_row, lines_of as lines_of_rows, other_of, own_of, portfolios_in as portfolios_in_rows, to_user, told_of, told_packets as told_packets_of, with_code};
+ghost use Rattle.gi_desk.specs.Messages.{line_of as line_of_row, lines_of as lines_of_rows, portfolios_in as portfolios_in_rows, to_user, told_of, told_packets as told_packets_of, with_code};
 ghost use Rattle.gi_desk.specs.Queries.{stands_in as stands_in_rows, told_if as told_if_met};
 
 use crate::packet::{Packet, Recipient};
 use gi_cycles::Matched;
 use gi_messages::{Line, Lines, Message, Nomres};
-use gi_pairs::{Code, Pair, Row, Side};
+use gi_pairs::{Code, Row, Side};
 use std::alloc::{AllocError, Global};
-
-/// A pair's portfolio at the side.
-fn own_code(side: Side, pair: Pair) -> Code
-    ensures { result ≡ own_of side pair }
-{
-    match side {
-        Side::I => pair.initiating,
-        Side::M => pair.matching,
-    }
-}
-
-/// Its counterparty at the other side.
-fn other_code(side: Side, pair: Pair) -> Code
-    ensures { result ≡ other_of side pair }
-{
-    match side {
-        Side::I => pair.matching,
-        Side::M => pair.initiating,
-    }
-}
 
 fn line_of(side: Side, row: &Row) -> Result<Line, AllocError>
     ensures { IfOk result (λ line. line ≡ line_of_row side row.now) }
 {
     Ok(Line {
-        counterparty: other_code(side, row.pair),
+        counterparty: row.pair.at(side.other()),
         direction: row.direction,
         hours: row.hours.copy()?,
     })
@@ -46,7 +26,7 @@ fn lines_of(alloc: Global, side: Side, portfolio: Code, rows: &[Row]) -> Result<
 {
     let mut lines = Vec::new(alloc);
     for row in rows {
-        if own_code(side, row.pair) == portfolio {
+        if row.pair.at(side) == portfolio {
             lines.push(line_of(side, row)?)?;
         }
     }
@@ -78,7 +58,7 @@ fn told(
 fn stands_in(side: Side, portfolio: Code, rows: &[Row]) -> bool
     ensures { result ≡ stands_in_rows side portfolio rows.now }
 {
-    rows.iter().any(|row| own_code(side, row.pair) == portfolio)
+    rows.iter().any(|row| row.pair.at(side) == portfolio)
 }
 
 pub(crate) fn told_if(
@@ -142,7 +122,7 @@ fn portfolios_in(alloc: Global, side: Side, rows: &[Row]) -> Result<Vec<Code>, A
 {
     let mut codes = Vec::new(alloc);
     for row in rows.iter().rev() {
-        insert(&mut codes, own_code(side, row.pair))?;
+        insert(&mut codes, row.pair.at(side))?;
     }
     Ok(codes)
 }

@@ -1,7 +1,7 @@
 ghost use Rattle.gi_desk.specs.Deciding.{IsUnlessShort, by_order, may_want};
 
 use gi_cycles::CycleState;
-use gi_desk::{Decision, Refusal, met_again, same_hours};
+use gi_desk::{Decision, Refusal, met_again};
 use gi_messages::Delord;
 
 /// What comes of an order in a state of its cycle: `NotClosed` while nominations are collected;
@@ -14,11 +14,11 @@ pub fn take_order(state: &CycleState, order: &Delord) -> Decision
     let peer = &order.processed;
     match state {
         CycleState::Collecting(_) => Decision::Refused(Refusal::NotClosed),
-        CycleState::Frozen(cycle) if same_hours(cycle.own(), peer) => match peer.copy() {
+        CycleState::Frozen(cycle) if cycle.own().covers_same_hours(peer) => match peer.copy() {
             Ok(peer) => Decision::Meet(peer),
             Err(_) => Decision::Refused(Refusal::OutOfMemory),
         },
-        CycleState::Matched(cycle) if same_hours(cycle.own(), peer) => {
+        CycleState::Matched(cycle) if cycle.own().covers_same_hours(peer) => {
             met_again(cycle.peer(), peer)
         }
         _ => Decision::Refused(Refusal::ShapeDiffers),

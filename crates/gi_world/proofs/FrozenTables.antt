@@ -1,6 +1,6 @@
 -- The frozen tables of a cycle: both sides' cover the same hours, and those of facts that can be written are tables.
 use Rattle.std.proofs.Common.{◌≡◌, ℕ, List, true, refl}
-use Rattle.gi_pairs.specs.Table.{TableContents, IsTable}
+use Rattle.gi_pairs.specs.Table.{IsTable}
 use Rattle.gi_pairs.specs.declared.cycle_id.CycleId.{CycleId}
 use Rattle.gi_pairs.specs.declared.side.Side.{Side}
 use Rattle.gi_processing.specs.Processing.{processed}

@@ -1,15 +1,12 @@
 -- What a side tells its portfolios are its rows of a table that it has confirmed.
-use Rattle.std.proofs.Common.{arith, ◌≡◌, ◌≤◌, ◌+◌, ◌-◌, ◌⊎◌, inl, inr, ℕ, List, [], ◌∷◌, ◌++◌, length, filter, map, All, Contains, Bool, true, false, cond, ◌&&◌, nat_le, slice_index, Option, Some, Ok, refl, sym, ap, ◌∙◌, subst}
-use Rattle.std.specs.Ordering.{is_lt}
-use Rattle.std.specs.Str.{bytes_eq}
+use Rattle.std.proofs.Common.{arith, ◌≡◌, ◌≤◌, ◌+◌, ◌-◌, ◌⊎◌, inl, inr, ℕ, List, [], ◌∷◌, ◌++◌, length, filter, All, Contains, true, false, ◌&&◌, nat_le, slice_index, Option, Some, Ok, refl, sym, ap, ◌∙◌, subst}
 use Rattle.std.proofs.lemmas.Bool.Decides.{nat_tests}
-use Rattle.std.proofs.lemmas.List.{length-map}
-use Rattle.std.proofs.lemmas.List.Elements.{All-filter, All-get_or, All-head, All-map, All-tail, All-weaker}
+use Rattle.std.proofs.lemmas.List.Elements.{All-head, All-map, All-tail}
 use Rattle.std.proofs.lemmas.Option.{get_or_from_slice_get, slice_get_within}
 use Rattle.std.proofs.lemmas.Slice.Eq.{bytes_eq-Decides}
 use Rattle.gi_pairs.specs.Code.{IsCode}
-use Rattle.gi_pairs.specs.Key.{code_cmp}
-use Rattle.gi_pairs.specs.Row.{IsRow}
+use Rattle.gi_pairs.specs.Pair.{code_at, pair_of}
+use Rattle.gi_pairs.specs.Side.{other}
 use Rattle.gi_pairs.specs.Table.{IsTable, TableContents, covered, reading}
 use Rattle.gi_pairs.specs.declared.cycle_id.CycleId.{CycleId}
 use Rattle.gi_pairs.specs.declared.pair.Pair.{Pair}
@@ -21,20 +18,16 @@ use Rattle.gi_pairs.proofs.Members.{find_member, from_append, from_map}
 use Rattle.gi_pairs.proofs.Reading.{reading-found}
 use Rattle.gi_lesser.specs.Lesser.{lesser_of}
 use Rattle.gi_messages.specs.Decoding.{decoded}
-use Rattle.gi_messages.specs.Grammar.{FitsAcknow, FitsLine, FitsNomint, FitsNomres}
-use Rattle.gi_messages.specs.declared.line.Line.{Line}
 use Rattle.gi_messages.specs.declared.message.Message.{Message}
-use Rattle.gi_messages.specs.declared.message.Nomint.{Nomint as NomintOf}
 use Rattle.gi_messages.specs.declared.message.Message.TheVariants as messages
 use Rattle.gi_cycles.specs.States.{MatchedCycle, matched_of}
 use Rattle.gi_cycles.specs.declared.cycle_state.CycleState.TheVariants.{Matched}
 use Rattle.gi_desk.specs.History.{frozen_cycle, frozen_table, is_closed, met_by, peer_of, state_of}
 use Rattle.gi_desk.specs.LetOut.{IsFact, let_out, let_out_on_closing, sent}
 use Rattle.gi_desk.specs.Machine.{DeskState}
-use Rattle.gi_desk.specs.Messages.{acknow_of, is_row_of, line_of, on_met, order_of, other_of, own_of, portfolios_in, response_of, to_peer, to_user, told_of, told_packets, with_code}
+use Rattle.gi_desk.specs.Messages.{acknow_of, is_row_of, line_of, on_met, order_of, portfolios_in, response_of, to_peer, to_user, told_of, told_packets}
 use Rattle.gi_desk.specs.Writable.{FitsDesk, FitsMatched, FitsState}
 use Rattle.gi_desk.specs.declared.packet.Packet.{Packet}
-use Rattle.gi_facts.specs.Writable.{FitsFact}
 use Rattle.gi_facts.specs.declared.fact.Fact.{Fact}
 use Rattle.gi_facts.specs.declared.fact.Fact.TheVariants.{Contracted, Noticed, Nominated, Closed, Met}
 use Rattle.gi_desk.proofs.Legality.{legal-front}
@@ -42,7 +35,7 @@ use Rattle.gi_desk.proofs.ReadableLaws.{acknow-fits, fact-fits, portfolios-coded
 use Rattle.gi_desk.proofs.StateLaws.{state-closed}
 use Rattle.gi_desk.proofs.LettingOut.{closing_lets_out, fact_closes, fact_meets, let_out-is, meeting_lets_out}
 use Rattle.gi_world.specs.Agreement.{IsLegal, IsTold, saved_facts}
-use Rattle.gi_world.specs.Telling.{IsRead, pair_of}
+use Rattle.gi_world.specs.Telling.{IsRead}
 use Rattle.gi_world.specs.World.{is_telling, tells}
 use Rattle.gi_world.proofs.DeliveredPackets.{closed_fits, frozen_fits, none_there, one_there, order_reads, ordered_by, response_reads, saved_fact, some_fact, unanswered_by}
 use Rattle.gi_world.proofs.SentPackets.{all_kept}
@@ -62,7 +55,7 @@ told_reads side point cycle portfolio code fits own =
 
 -- ---- its lines have the confirmed quantities
 
-pair_is : (side : Side) (portfolio : List ℕ) (pair : Pair) → own_of side pair ≡ portfolio → pair_of side portfolio (other_of side pair) ≡ pair
+pair_is : (side : Side) (portfolio : List ℕ) (pair : Pair) → code_at side pair ≡ portfolio → pair_of side portfolio (code_at (other side) pair) ≡ pair
 pair_is I portfolio pair own = λ t. record { initiating = sym own t; matching = pair.matching }
 pair_is M portfolio pair own = λ t. record { initiating = pair.initiating; matching = sym own t }
 
@@ -75,7 +68,7 @@ row_is side point cycle portfolio row table there own place quantity at =
     let whole = subst (λ (r : Row). length r.hours ≡ covered t.first t.last) there.2 (table.whole there.0 row there.1) in
     let covers : (nat_le t.first hour && nat_le hour t.last) ≡ true = grind (arith, nat_tests, within, whole) in
     let same : hour - t.first ≡ place = omega arith in
-    let pair = pair_is side portfolio row.pair ((bytes_eq-Decides (own_of side row.pair) portfolio).0 own) in
+    let pair = pair_is side portfolio row.pair ((bytes_eq-Decides (code_at side row.pair) portfolio).0 own) in
     sym (
     ap (λ (p : Pair). reading t p row.direction hour) pair
     ∙ reading-found t row.pair row.direction hour row (find_member t.rows row table.sorted (in_from_contains row t.rows there)) covers

@@ -1,13 +1,14 @@
 -- Both operators' desks with what each let out, and what a step makes of them.
-use Rattle.std.specs.Prelude.{◌≡◌, ◌<◌, ℕ, zero, suc, List, [], ◌++◌, filter, slice_get, take, length, Bool, true, false, not, ◌&&◌, nat_lt, IsTrue, ◌⊎◌, is_ok, is_some, if◌then◌else◌, Option, Some, None, option_map, Result, Ok, Err}
+use Rattle.std.specs.Prelude.{◌≡◌, ◌<◌, ℕ, zero, suc, List, [], ◌++◌, filter, slice_get, length, Bool, true, false, not, ◌&&◌, nat_lt, IsTrue, ◌⊎◌, is_ok, is_some, if◌then◌else◌, Option, Some, None, option_map, Result, Ok, Err}
 use Rattle.std.specs.Str.{bytes_eq}
+pub use Rattle.gi_pairs.specs.Side.{other}
 use Rattle.gi_pairs.specs.declared.side.Side.{Side}
 use Rattle.gi_pairs.specs.declared.side.Side.TheVariants.{I, M}
 use Rattle.gi_messages.specs.Decoding.{decoded}
 use Rattle.gi_messages.specs.declared.message.Message.{Message}
 use Rattle.gi_messages.specs.declared.message.Message.TheVariants.{Nomres}
 use Rattle.gi_messages.specs.declared.message_fault.MessageFault.{MessageFault}
-use Rattle.gi_desk.specs.Machine.{DeskState, after as desk_after, is_for_peer, may_want as desk_may_want, reply}
+use Rattle.gi_desk.specs.Machine.{DeskState, after as desk_after, is_for_peer, may_want as desk_may_want, reply, started_again}
 use Rattle.gi_desk.specs.declared.call.Call.{Call}
 use Rattle.gi_desk.specs.declared.call.Call.TheVariants as calls
 use Rattle.gi_desk.specs.declared.packet.Packet.{Packet}
@@ -38,11 +39,6 @@ new_station point = record { desk = new_desk point; sent = []; told = [] }
 
 abbrev pub new_world : List ℕ → WorldState
 new_world point = record { initiating = new_station point; matching = new_station point }
-
--- the other side
-abbrev pub other : Side → Side
-other I = M
-other M = I
 
 -- a side's station, and the world with another one there
 abbrev pub station_of : Side → WorldState → StationState
@@ -82,7 +78,7 @@ after_call side station call = let r = reply side station.desk call in record {
 
 unfoldable pub after_restart : StationState → ℕ → StationState
 after_restart station keep = record {
-  desk = record { point = station.desk.point; facts = take keep station.desk.facts; saved = keep; halted = false };
+  desk = started_again station.desk keep;
   sent = station.sent;
   told = station.told;
 }

@@ -140,10 +140,7 @@ impl Stations {
     fn sent_to(&self, side: Side) -> &[Packet]
         ensures { result.now ≡ (station_of (other side) self.now).sent }
     {
-        match side {
-            Side::I => self.matching.sent(),
-            Side::M => self.initiating.sent(),
-        }
+        self.sent(side.other())
     }
 
     fn delivery(&self, side: Side, packet: u64) -> Option<&Packet>

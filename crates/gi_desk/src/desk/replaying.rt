@@ -18,7 +18,7 @@ impl<R: Role> Desk<R> {
     fn empty(alloc: Global, calendar: Calendar, point: Code) -> Desk<R>
         ensures { result ≡ record { point = point; facts = []; saved = 0; halted = false } }
     {
-        let _ = point.as_str();
+        point.known();
         Desk {
             alloc,
             calendar,
