@@ -1,20 +1,17 @@
 -- What calls come to, by the parts of their definitions.
 use Rattle.std.proofs.Common.{◌≡◌, inl, inr, ℕ, List, Bool, true, false, not, cond, Option, Some, None, Result, Ok, Err, IsTrue, Bor, IfOk, IfErr, refl, sym, ap, ◌∙◌}
 use Rattle.std.proofs.lemmas.Bool.{and_from}
-use Rattle.std.proofs.lemmas.Option.{same_Some}
 use Rattle.std.specs.Option.{option_copied, unwrap_or}
 use Rattle.std.specs.Str.{bytes_eq}
 use Rattle.gi_pairs.specs.Table.{TableContents}
 use Rattle.gi_pairs.specs.declared.cycle_id.CycleId.{CycleId}
 use Rattle.gi_pairs.specs.declared.side.Side.{Side}
-use Rattle.gi_pairs.specs.declared.side.Side.TheVariants.{I, M}
 use Rattle.gi_messages.specs.declared.message.Message.{Message}
-use Rattle.gi_messages.specs.declared.message.Message.TheVariants.{Nomint, Acknow, Nomres, Delord, Delres}
 use Rattle.gi_cycles.specs.declared.cycle_state.CycleState.{CycleState}
 use Rattle.gi_cycles.specs.declared.cycle_state.CycleState.TheVariants.{Collecting}
-use Rattle.gi_desk.specs.Deciding.{IsUnlessShort, address_of, by_order, by_response, decision}
+use Rattle.gi_desk.specs.Deciding.{IsUnlessShort, address_of, by_order, decision}
 use Rattle.gi_desk.specs.History.{frozen_cycle, is_closed, met_by, peer_of, state_of}
-use Rattle.gi_desk.specs.Judging.{by_decision, cycle_of, delivered, resent}
+use Rattle.gi_desk.specs.Judging.{by_decision, delivered, if_addressed, resent}
 use Rattle.gi_desk.specs.Kept.{closed_state, learns_with_memory}
 use Rattle.gi_desk.specs.Machine.{DeskState, comes_to, is_record, may_want, outcome, unless_full, wants_memory}
 use Rattle.gi_desk.specs.declared.call.Call.{Call}
@@ -62,28 +59,9 @@ taken false o e = absurd cc
 -- a message of the point, of the kind that is for the side
 pub delivered-addressed : (side : Side) (point kept own : List ℕ) (history : List Fact) (id : CycleId) (message : Message) → Some (point, id) ≡ address_of side message → false ≡ not (bytes_eq point kept) → kept ≡ own
     → by_decision history id (decision side (state_of side history id) message) ≡ delivered side own history (Ok message)
-delivered-addressed M point kept own history id (Delord message) addressed same is_own =
-    let address = same_Some (point, id) (message.point, cycle_of message.day message.cycle) addressed in
-    let of_point : point ≡ message.point = ap (λ (a : List ℕ × CycleId). a.0) address in
-    let of_cycle : id ≡ cycle_of message.day message.cycle = ap (λ (a : List ℕ × CycleId). a.1) address in
-    let same_here : false ≡ not (bytes_eq message.point own) = same ∙ (λ i. not (bytes_eq (of_point i) (is_own i))) in
-    ap (λ (i : CycleId). by_decision history i (by_order message.processed (state_of M history i))) of_cycle
-    ∙ sym (taken (bytes_eq message.point own) _ same_here)
-delivered-addressed I point kept own history id (Delres message) addressed same is_own =
-    let address = same_Some (point, id) (message.point, cycle_of message.day message.cycle) addressed in
-    let of_point : point ≡ message.point = ap (λ (a : List ℕ × CycleId). a.0) address in
-    let of_cycle : id ≡ cycle_of message.day message.cycle = ap (λ (a : List ℕ × CycleId). a.1) address in
-    let same_here : false ≡ not (bytes_eq message.point own) = same ∙ (λ i. not (bytes_eq (of_point i) (is_own i))) in
-    ap (λ (i : CycleId). by_decision history i (by_response message.processed message.confirmed (state_of I history i))) of_cycle
-    ∙ sym (taken (bytes_eq message.point own) _ same_here)
-delivered-addressed I point kept own history id (Delord message) addressed same is_own = absurd cc
-delivered-addressed M point kept own history id (Delres message) addressed same is_own = absurd cc
-delivered-addressed M point kept own history id (Nomint message) addressed same is_own = absurd cc
-delivered-addressed M point kept own history id (Acknow message) addressed same is_own = absurd cc
-delivered-addressed M point kept own history id (Nomres message) addressed same is_own = absurd cc
-delivered-addressed I point kept own history id (Nomint message) addressed same is_own = absurd cc
-delivered-addressed I point kept own history id (Acknow message) addressed same is_own = absurd cc
-delivered-addressed I point kept own history id (Nomres message) addressed same is_own = absurd cc
+delivered-addressed side point kept own history id message addressed same is_own =
+    let same_here : false ≡ not (bytes_eq point own) = same ∙ ap (λ (p : List ℕ). not (bytes_eq point p)) is_own in
+    sym (taken (bytes_eq point own) _ same_here) ∙ ap (if_addressed side own history message) addressed
 
 -- what was decoded, where what comes of it is known
 pub delivered-from : {E : Type 0} (r : Result Outcome E) (read other : Outcome) → IfOk r (λ outcome. outcome ≡ read) → read ≡ other → IfOk r (λ outcome. outcome ≡ other)

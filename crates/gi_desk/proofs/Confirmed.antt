@@ -1,37 +1,30 @@
 -- What the saved facts say of a cycle that met its peer's table.
-use Rattle.std.proofs.Common.{arith, ◌≡◌, ◌<◌, ◌≤◌, ◌+◌, ℕ, zero, suc, List, [], ◌∷◌, ◌++◌, length, take, Bool, true, false, cond, not, nat_eq, nat_lt, Option, Some, None, option_and_then, refl, sym, ap, ◌∙◌, subst}
-use Rattle.std.specs.Prelude.{option_map, slice_get}
-use Rattle.std.specs.List.{cons_option}
+use Rattle.std.proofs.Common.{arith, ◌≡◌, ◌<◌, ◌≤◌, ◌+◌, ℕ, zero, suc, List, [], ◌∷◌, ◌++◌, length, take, Bool, true, false, cond, not, nat_lt, Option, Some, None, refl, sym, ap, ◌∙◌, subst}
+use Rattle.std.specs.Prelude.{option_map}
 use Rattle.std.proofs.lemmas.Bool.{and_parts}
-use Rattle.std.proofs.lemmas.Bool.Decides.{Decides-eqb, nat_tests}
+use Rattle.std.proofs.lemmas.Bool.Decides.{nat_tests}
 use Rattle.std.proofs.lemmas.List.{append_assoc}
 use Rattle.std.proofs.lemmas.List.Sums.{take_while-cons}
-use Rattle.gi_day.specs.SameDay.{same_day}
-use Rattle.gi_day.proofs.DayLaws.{same_day-Decides}
 use Rattle.gi_pairs.specs.Table.{TableContents}
 use Rattle.gi_pairs.specs.declared.cycle_id.CycleId.{CycleId}
 use Rattle.gi_pairs.specs.declared.side.Side.{Side}
 use Rattle.gi_lesser.specs.Lesser.{lesser_of}
-use Rattle.gi_cycles.specs.States.{FrozenCycle, matched_of}
+use Rattle.gi_cycles.specs.States.{FrozenCycle, MatchedCycle, matched_of}
 use Rattle.gi_cycles.specs.declared.cycle_state.CycleState.{CycleState}
-use Rattle.gi_cycles.specs.declared.cycle_state.CycleState.TheVariants.{Collecting, Frozen, Matched}
-use Rattle.gi_desk.specs.Deciding.{by_order}
-use Rattle.gi_desk.specs.History.{facts_before, frozen_cycle, frozen_table, is_closed, is_meeting, met_by, number_of, peer_in, peer_of, state_of}
-use Rattle.gi_desk.specs.Judging.{by_decision}
+use Rattle.gi_cycles.specs.declared.cycle_state.CycleState.TheVariants.{Collecting, Matched}
+use Rattle.gi_desk.specs.History.{facts_before, frozen_cycle, is_closed, is_meeting, met_by, number_of, peer_in, peer_of, state_of}
 use Rattle.gi_desk.specs.Kept.{closed_state}
-use Rattle.gi_desk.specs.Machine.{DeskState, bad_fact, bad_from, is_record, most_facts, would_record}
-use Rattle.gi_desk.specs.Queries.{confirmed, stage_of, table_in}
-use Rattle.gi_facts.specs.Same.{same_cycle}
+use Rattle.gi_desk.specs.Machine.{DeskState, bad_fact, bad_from, most_facts, would_record}
+use Rattle.gi_desk.specs.Queries.{confirmed, met_saved, stage_of}
 use Rattle.gi_facts.specs.declared.fact.Fact.{Fact}
 use Rattle.gi_facts.specs.declared.fact.Fact.TheVariants.{Contracted, Noticed, Nominated, Closed, Met}
 use Rattle.gi_desk.specs.declared.stage_name.StageName.TheVariants as stages
+use Rattle.gi_facts.proofs.SameLemmas.{same_cycle-is}
+use Rattle.gi_desk.proofs.CycleLaws.{recorded-meeting}
 use Rattle.gi_desk.proofs.Legality.{legal-first}
-use Rattle.gi_desk.proofs.StateLaws.{is_closed-more}
+use Rattle.gi_desk.proofs.StateLaws.{is_closed-more, number_of-from}
 
 -- ---- the meeting among the first facts
-
-first_peer : Option TableContents → List TableContents → Option TableContents
-first_peer found later = slice_get (cons_option found later) 0
 
 -- a fact that is no meeting of the cycle has no table of it, and a meeting has
 no_peer : (id : CycleId) (fact : Fact) → is_meeting id fact ≡ false → peer_in id fact ≡ None
@@ -57,10 +50,6 @@ number_later : (is : Fact → Bool) (fact : Fact) (facts : List Fact) → is fac
 unfolding number_of facts_before
 number_later is fact facts e = rw (take_while-cons (λ f. not (is f)) fact facts, e) (omega arith)
 
-number_above : (is : Fact → Bool) (facts : List Fact) → 1 ≤ number_of is facts
-unfolding number_of
-number_above is facts = omega arith
-
 peer_here : (id : CycleId) (fact : Fact) (facts more : List Fact) → is_meeting id fact ≡ true → peer_of id (fact ∷ facts) ≡ peer_of id (fact ∷ more)
 unfolding peer_of
 peer_here id fact facts more e = let peer = a_peer id fact e in rw peer.1 refl
@@ -84,7 +73,7 @@ within_by id false fact facts n e above rest =
 pub peer_of-within : (id : CycleId) (facts : List Fact) (n : ℕ) → number_of (is_meeting id) facts ≤ n → peer_of id (take n facts) ≡ peer_of id facts
 peer_of-within id [] zero above = refl
 peer_of-within id [] (suc n) above = refl
-peer_of-within id (fact ∷ facts) zero above = absurd (omega (arith, number_above (is_meeting id) (fact ∷ facts), above))
+peer_of-within id (fact ∷ facts) zero above = absurd (omega (arith, number_of-from (is_meeting id) (fact ∷ facts), above))
 peer_of-within id (fact ∷ facts) (suc n) above = within_by id (is_meeting id fact) fact facts n refl above (peer_of-within id facts n)
 
 -- where it is later, they tell none
@@ -101,48 +90,7 @@ peer_of-beyond id [] (suc n) below = peer_none id
 peer_of-beyond id (fact ∷ facts) zero below = peer_none id
 peer_of-beyond id (fact ∷ facts) (suc n) below = beyond_by id (is_meeting id fact) fact facts n refl below (peer_of-beyond id facts n)
 
--- one of the facts is the meeting exactly where its number is that of a fact
-some_by : (id : CycleId) (b : Bool) (fact : Fact) (facts : List Fact) → is_meeting id fact ≡ b → number_of (is_meeting id) (fact ∷ facts) ≤ length facts + 1
-    → (number_of (is_meeting id) facts ≤ length facts → (peer : TableContents) × (peer_of id facts ≡ Some peer))
-    → (peer : TableContents) × (peer_of id (fact ∷ facts) ≡ Some peer)
-unfolding peer_of
-some_by id true fact facts e above rest = let peer = a_peer id fact e in (peer.0, rw peer.1 refl)
-some_by id false fact facts e above rest =
-    let later = number_later (is_meeting id) fact facts e in
-    let found = rest (omega (arith, later, above)) in
-    (found.0, peer_later id fact facts e ∙ found.1)
-
-pub peer_of-some : (id : CycleId) (facts : List Fact) → number_of (is_meeting id) facts ≤ length facts → (peer : TableContents) × (peer_of id facts ≡ Some peer)
-peer_of-some id [] above = absurd (omega (arith, number_above (is_meeting id) [], above))
-peer_of-some id (fact ∷ facts) above = some_by id (is_meeting id fact) fact facts refl (omega (arith, above)) (peer_of-some id facts)
-
--- the first n facts tell a table exactly where the meeting is among them
-pub peer_of-told : (id : CycleId) (facts : List Fact) (n : ℕ) → number_of (is_meeting id) facts ≤ n → n ≤ length facts
-    → (peer : TableContents) × (peer_of id (take n facts) ≡ Some peer) × (peer_of id facts ≡ Some peer)
-peer_of-told id facts n above within =
-    let found = peer_of-some id facts (omega (arith, above, within)) in
-    (found.0, peer_of-within id facts n above ∙ found.1, found.1)
-
 -- ---- a cycle that met is closed
-
-same_is : (other id : CycleId) → same_cycle other id ≡ true → other ≡ id
-same_is other id same =
-    let both = and_parts (same_day other.day id.day) (nat_eq other.cycle id.cycle) same in
-    let day = (same_day-Decides other.day id.day).0 both.0 in
-    let cycle = (Decides-eqb other.cycle id.cycle).0 both.1 in
-    λ t. record { day = day t; cycle = cycle t }
-
-closed_by : (history : List Fact) (id : CycleId) (peer : TableContents) (b : Bool) (state : CycleState)
-    → is_record (by_decision history id (by_order peer (cond b state (Collecting id)))) ≡ true → b ≡ true
-closed_by history id peer true state e = refl
-closed_by history id peer false state e = absurd cc
-
--- a table is met only of a closed cycle
-pub recorded-meeting : (side : Side) (point : List ℕ) (before : List Fact) (id : CycleId) (peer : TableContents) → would_record side point before (Met id peer) ≡ true
-    → is_closed id before ≡ true
-unfolding state_of
-recorded-meeting side point before id peer e =
-    closed_by before id peer (is_closed id before) (met_by (frozen_cycle side before id) (peer_of id before)) (and_parts _ _ e).0
 
 meeting_closes : (side : Side) (point : List ℕ) (before : List Fact) (fact : Fact) (id : CycleId) → is_meeting id fact ≡ true → would_record side point before fact ≡ true
     → is_closed id before ≡ true
@@ -150,7 +98,7 @@ meeting_closes side point before (Contracted contract) id is e = absurd cc
 meeting_closes side point before (Noticed notice) id is e = absurd cc
 meeting_closes side point before (Nominated document) id is e = absurd cc
 meeting_closes side point before (Closed other) id is e = absurd cc
-meeting_closes side point before (Met other peer) id is e = subst (λ (cycle : CycleId). is_closed cycle before ≡ true) (same_is other id is) (recorded-meeting side point before other peer e)
+meeting_closes side point before (Met other peer) id is e = subst (λ (cycle : CycleId). is_closed cycle before ≡ true) (same_cycle-is other id is) (recorded-meeting side point before other peer e).closed
 
 met_by_test : (side : Side) (point : List ℕ) (before : List Fact) (fact : Fact) (later : List Fact) (id : CycleId) (peer : TableContents) (b : Bool) → is_meeting id fact ≡ b
     → would_record side point before fact ≡ true → peer_of id (fact ∷ later) ≡ Some peer
@@ -189,26 +137,12 @@ collects side facts id e = collects_by (is_closed id facts) (met_by (frozen_cycl
 
 -- ---- what is confirmed
 
-pub none_confirmed : (side : Side) (s : DeskState) (id : CycleId) → true ≡ nat_lt s.saved (number_of (is_meeting id) s.facts) → confirmed side s id ≡ None
-unfolding confirmed
-none_confirmed side s id later = ap (option_map (lesser_of (frozen_table side s.facts id))) (peer_of-beyond id s.facts s.saved (grind (arith, nat_tests)))
+confirmed_by : (cycle : FrozenCycle) (o : Option TableContents) → option_map (λ (met : MatchedCycle). met.confirmed) (option_map (matched_of cycle) o) ≡ option_map (lesser_of cycle.own) o
+confirmed_by cycle None = refl
+confirmed_by cycle (Some peer) = refl
 
-none_by : (b : Bool) (cycle : FrozenCycle) → option_and_then table_in (cond b (Some (cond b (Frozen cycle) (Collecting cycle.id))) None) ≡ None
-none_by true cycle = refl
-none_by false cycle = refl
-
-table_by : (side : Side) (point : List ℕ) (facts : List Fact) (id : CycleId) (o : Option TableContents) → bad_fact side point facts ≡ None → peer_of id facts ≡ o
-    → option_and_then table_in (closed_state side facts id) ≡ option_map (lesser_of (frozen_table side facts id)) o
-unfolding state_of
-table_by side point facts id (Some peer) legal met = ap (option_and_then table_in) (met_matched side point facts id peer legal met)
-table_by side point facts id None legal met =
-    ap (λ (o : Option TableContents). option_and_then table_in (cond (is_closed id facts) (Some (cond (is_closed id facts) (met_by (frozen_cycle side facts id) o) (Collecting id))) None)) met
-    ∙ none_by (is_closed id facts) (frozen_cycle side facts id)
-
--- where the meeting is saved, the state of the cycle tells it
-pub found_confirmed : (side : Side) (s : DeskState) (id : CycleId) (o : Option CycleState) → bad_fact side s.point s.facts ≡ None
-    → false ≡ nat_lt s.saved (number_of (is_meeting id) s.facts) → o ≡ closed_state side s.facts id → option_and_then table_in o ≡ confirmed side s id
-unfolding confirmed
-found_confirmed side s id o legal earlier e =
-    ap (option_and_then table_in) e ∙ table_by side s.point s.facts id (peer_of id s.facts) legal refl
-    ∙ ap (option_map (lesser_of (frozen_table side s.facts id))) (sym (peer_of-within id s.facts s.saved (grind (arith, nat_tests))))
+-- of a cycle that a saved fact met
+pub confirmed-met : (side : Side) (s : DeskState) (id : CycleId) (o : Option MatchedCycle) → o ≡ met_saved side s id → option_map (λ (met : MatchedCycle). met.confirmed) o ≡ confirmed side s id
+unfolding confirmed met_saved
+confirmed-met side s id o e =
+    ap (option_map (λ (met : MatchedCycle). met.confirmed)) e ∙ confirmed_by (frozen_cycle side s.facts id) (peer_of id (take s.saved s.facts))

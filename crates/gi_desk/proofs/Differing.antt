@@ -1,5 +1,7 @@
 -- The place at which rows differ, found step by step.
-use Rattle.std.proofs.Common.{◌≡◌, ℕ, zero, suc, ◌+◌, ◌<◌, List, [], ◌∷◌, length, get_or, drop, true, false, Bool, not, Option, Some, None, refl, sym, ap, ◌∙◌, arith}
+use Rattle.std.proofs.Common.{◌≡◌, ℕ, zero, suc, ◌+◌, ◌<◌, List, [], ◌∷◌, length, get_or, drop, true, false, Bool, not, Option, Some, None, refl, sym, ap, ◌∙◌, arith, rules}
+use Rattle.std.specs.Cmp.{IsEquivalence}
+use Rattle.std.specs.Cmp.Rules.{comparing}
 use Rattle.std.proofs.lemmas.List.{drop_more}
 use Rattle.gi_pairs.specs.Row.{row_eq}
 use Rattle.gi_pairs.specs.declared.row.Row.{Row}
@@ -10,10 +12,6 @@ abbrev pub later : ℕ → Option ℕ → Option ℕ
 later n None = None
 later n (Some place) = Some (place + n)
 
-pub later_none : (o : Option ℕ) → o ≡ later 0 o
-later_none None = refl
-later_none (Some place) = ap Some (omega arith)
-
 later_one : (n : ℕ) (o : Option ℕ) → later n (one_later o) ≡ later (n + 1) o
 later_one n None = refl
 later_one n (Some place) = ap Some (omega arith)
@@ -23,13 +21,6 @@ same_step n x y xs ys same = rw same (later_one n (difference xs ys))
 
 differs : (n : ℕ) (x y : Row) (xs ys : List Row) → row_eq x y ≡ false → later n (difference (x ∷ xs) (y ∷ ys)) ≡ Some (n + 1)
 differs n x y xs ys other = rw other (ap Some (omega arith))
-
--- rows that are the same at a place
-pub past_same : (xs ys : List Row) (n : ℕ) (d e : Row) → n < length xs → n < length ys → row_eq (get_or xs n d) (get_or ys n e) ≡ true
-    → later n (difference (drop n xs) (drop n ys)) ≡ later (n + 1) (difference (drop (n + 1) xs) (drop (n + 1) ys))
-past_same xs ys n d e below below_too same =
-    (λ i. later n (difference (drop_more xs n d below i) (drop_more ys n e below_too i)))
-    ∙ same_step n (get_or xs n d) (get_or ys n e) (drop (n + 1) xs) (drop (n + 1) ys) same
 
 -- rows that differ at a place
 pub at_other : (xs ys : List Row) (n : ℕ) (d e : Row) → n < length xs → n < length ys → row_eq (get_or xs n d) (get_or ys n e) ≡ false
@@ -71,3 +62,15 @@ pub read_other : (xs ys : List Row) (n : ℕ) (x y : Row) (r : Bool) → n < len
     → r ≡ not (row_eq x y) → r ≡ true → later n (difference (drop n xs) (drop n ys)) ≡ Some (n + 1)
 read_other xs ys n x y r below below_too here there told holds =
     at_other xs ys n x y below below_too ((λ i. row_eq (sym here i) (sym there i)) ∙ not_true (row_eq x y) r told holds)
+
+-- ---- the same rows
+
+rows_compare : IsEquivalence row_eq
+rows_compare = search (comparing, rules)
+
+pub row-self : (row : Row) → row_eq row row ≡ true
+row-self row = rows_compare.refl row
+
+pub difference-self : (rows : List Row) → difference rows rows ≡ None
+difference-self [] = refl
+difference-self (row ∷ rows) = rw (row-self row) (ap one_later (difference-self rows))

@@ -1,46 +1,41 @@
 -- What is let out, and to whom.
-use Rattle.std.proofs.Common.{arith, nat_lt, ltb-false, ◌≡◌, ◌<◌, ◌≤◌, ◌+◌, ◌-◌, ℕ, suc, List, [], ◌∷◌, ◌++◌, length, take, drop, get_or, filter, filter_map, map, Bool, true, false, not, cond, ◌||◌, Option, Some, None, refl, sym, ap, ◌∙◌, subst}
+use Rattle.std.proofs.Common.{arith, nat_lt, ltb-false, ◌≡◌, ◌<◌, ◌≤◌, ◌+◌, ◌-◌, ℕ, suc, List, [], ◌∷◌, ◌++◌, length, take, drop, get_or, filter, map, Bool, true, false, not, cond, ◌||◌, Option, Some, None, refl, sym, ap, ◌∙◌, subst}
 use Rattle.std.specs.Prelude.{is_some, slice_get}
-use Rattle.std.specs.List.{cons_option, insert, list_any, position_or_len}
+use Rattle.std.specs.List.{insert, list_any, position_or_len}
 use Rattle.std.specs.Option.{unwrap_or}
 use Rattle.std.specs.Ordering.{is_le}
 use Rattle.std.specs.Str.{bytes_eq}
 use Rattle.std.specs.declared.cmp.Ordering.{Ordering}
 use Rattle.std.specs.declared.cmp.Ordering.TheVariants.{Less, Equal, Greater}
 use Rattle.std.proofs.Math.ListN.{drop_of_length-le}
-use Rattle.std.proofs.lemmas.Bool.{and_parts}
 use Rattle.std.proofs.lemmas.List.{append-nil, drop_more, get_or-take, length-take, take-append-drop}
-use Rattle.std.proofs.lemmas.List.Elements.{filter-append, filter_map-append}
+use Rattle.std.proofs.lemmas.List.Elements.{filter-append}
 use Rattle.std.proofs.lemmas.List.Folds.{list_any-append}
 use Rattle.std.proofs.lemmas.List.Sums.{passes_at_first, prefix_len-le-length}
 use Rattle.std.proofs.lemmas.Map.Text.{is_eq-slice_cmp}
 use Rattle.std.proofs.lemmas.Option.{slice_get_read}
 use Rattle.gi_pairs.specs.Key.{code_cmp}
-use Rattle.gi_pairs.specs.Table.{TableContents, table_eq}
+use Rattle.gi_pairs.specs.Table.{TableContents}
 use Rattle.gi_pairs.specs.declared.cycle_id.CycleId.{CycleId}
 use Rattle.gi_pairs.specs.declared.side.Side.{Side}
 use Rattle.gi_messages.specs.declared.message.Message.{Message}
 use Rattle.gi_messages.specs.declared.message.Message.TheVariants as messages
 use Rattle.gi_messages.specs.declared.message.Nomint.{Nomint}
 use Rattle.gi_cycles.specs.States.{FrozenCycle, MatchedCycle, matched_of}
-use Rattle.gi_cycles.specs.declared.cycle_state.CycleState.{CycleState}
-use Rattle.gi_cycles.specs.declared.cycle_state.CycleState.TheVariants.{Collecting, Frozen, Matched}
-use Rattle.gi_desk.specs.Deciding.{by_order, same_hours}
-use Rattle.gi_desk.specs.History.{frozen_cycle, frozen_table, is_closed, is_closing, is_meeting, met_by, number_of, peer_in, peer_of, state_of}
-use Rattle.gi_desk.specs.Judging.{by_decision}
+use Rattle.gi_cycles.specs.declared.cycle_state.CycleState.TheVariants.{Matched}
+use Rattle.gi_desk.specs.History.{frozen_cycle, frozen_table, is_closed, is_closing, is_meeting, met_by, number_of, peer_of, state_of}
 use Rattle.gi_desk.specs.LetOut.{IsFact, if_fact, let_out, let_out_on_closing, packets_of, sent}
-use Rattle.gi_desk.specs.Machine.{DeskState, bad_fact, is_for_peer, is_record, saved_out, would_record}
+use Rattle.gi_desk.specs.Machine.{DeskState, bad_fact, is_for_peer, saved_out}
 use Rattle.gi_desk.specs.Messages.{acknow_of, on_closed, on_met, portfolios_in, to_user, told_of, told_packets, with_code}
 use Rattle.gi_facts.specs.Same.{same_cycle}
-use Rattle.gi_desk.specs.declared.decision.Decision.TheVariants.{Again, Refused}
 use Rattle.gi_facts.specs.declared.fact.Fact.{Fact}
 use Rattle.gi_facts.specs.declared.fact.Fact.TheVariants.{Contracted, Noticed, Nominated, Closed, Met}
 use Rattle.gi_facts.proofs.SameLemmas.{same_cycle-self}
 use Rattle.gi_desk.specs.declared.packet.Packet.{Packet}
-use Rattle.gi_desk.specs.declared.refusal.Refusal.TheVariants.{Conflict, ShapeDiffers}
+use Rattle.gi_desk.proofs.CycleLaws.{peer_of-last, recorded-meeting}
 use Rattle.gi_desk.proofs.HistoryLaws.{one_more}
 use Rattle.gi_desk.proofs.Legality.{legal-at}
-use Rattle.gi_desk.proofs.StateLaws.{frozen_table-more, is_closed-more, peer_of-more}
+use Rattle.gi_desk.proofs.StateLaws.{frozen_table-more, is_closed-more, peer_of-more, state-closed}
 
 -- ---- the place of a code among others
 
@@ -186,10 +181,6 @@ met_closing : (side : Side) (point : List ℕ) (cycle : FrozenCycle) (peer : Opt
 met_closing side point cycle None = refl
 met_closing side point cycle (Some peer) = refl
 
-state_closed : (side : Side) (facts : List Fact) (id : CycleId) → is_closed id facts ≡ true → state_of side facts id ≡ met_by (frozen_cycle side facts id) (peer_of id facts)
-unfolding state_of
-state_closed side facts id closed = rw closed refl
-
 pub closing_lets_out : (side : Side) (point : List ℕ) (facts : List Fact) (n : ℕ) (id : CycleId) → IsFact facts n (Closed id)
     → let_out_on_closing side point (state_of side facts id) ≡ let_out side point facts n
 closing_lets_out side point facts n id is =
@@ -198,7 +189,7 @@ closing_lets_out side point facts n id is =
     let_out-is side point facts n (Closed id) is
     ∙ ap (λ (cycle : FrozenCycle). sent (on_closed side point cycle)) (frozen_whole side facts n id closed)
     ∙ met_closing side point (frozen_cycle side facts id) (peer_of id facts)
-    ∙ ap (let_out_on_closing side point) (sym (state_closed side facts id (closed_whole facts n id closed)))
+    ∙ ap (let_out_on_closing side point) (sym (state-closed side facts id (closed_whole facts n id closed)))
     )
 
 -- all of it is for the peer
@@ -214,51 +205,15 @@ closing_for_peer side point facts n id is =
 
 -- ---- a meeting
 
--- a cycle that would meet a table is closed, and met none before
-record_again : (b c : Bool) (history : List Fact) (id : CycleId) → is_record (by_decision history id (cond b (cond c Again (Refused Conflict)) (Refused ShapeDiffers))) ≡ true → ⊥
-record_again true true history id e = cc
-record_again true false history id e = cc
-record_again false c history id e = cc
-
-frozen_by : (history : List Fact) (id : CycleId) (peer : TableContents) (state : CycleState) → is_record (by_decision history id (by_order peer state)) ≡ true
-    → (cycle : FrozenCycle) × (state ≡ Frozen cycle)
-frozen_by history id peer (Collecting other) e = absurd cc
-frozen_by history id peer (Frozen cycle) e = (cycle, refl)
-frozen_by history id peer (Matched cycle) e = absurd (record_again (same_hours cycle.own peer) (table_eq cycle.peer peer) history id e)
-
-unmet_by : (b : Bool) (found : Option TableContents) (own cycle : FrozenCycle) (id : CycleId) → cond b (met_by own found) (Collecting id) ≡ Frozen cycle → (b ≡ true) × (found ≡ None)
-unmet_by true None own cycle id e = (refl, refl)
-unmet_by true (Some peer) own cycle id e = absurd cc
-unmet_by false found own cycle id e = absurd cc
-
-unmet : (side : Side) (point : List ℕ) (before : List Fact) (id : CycleId) (peer : TableContents) → would_record side point before (Met id peer) ≡ true
-    → (is_closed id before ≡ true) × (peer_of id before ≡ None)
-unfolding state_of
-unmet side point before id peer e =
-    let frozen = frozen_by before id peer (state_of side before id) (and_parts _ _ e).0 in
-    unmet_by (is_closed id before) (peer_of id before) (frozen_cycle side before id) frozen.0 id frozen.1
-
--- the table of the fact is the first that the cycle met
-first_of : (found : List TableContents) (peer : TableContents) → slice_get found 0 ≡ None → slice_get (found ++ peer ∷ []) 0 ≡ Some peer
-first_of [] peer e = refl
-first_of (x ∷ found) peer e = absurd cc
-
-peer_added : (before : List Fact) (id : CycleId) (peer : TableContents) → peer_of id before ≡ None → peer_of id (before ++ Met id peer ∷ []) ≡ Some peer
-unfolding peer_of
-peer_added before id peer none =
-    ap (λ (found : List TableContents). slice_get found 0)
-    (filter_map-append (peer_in id) before (Met id peer ∷ []) ∙ ap (λ b. filter_map (peer_in id) before ++ cons_option (cond b (Some peer) None) []) (same_cycle-self id))
-    ∙ first_of (filter_map (peer_in id) before) peer none
-
 met_front : (side : Side) (point : List ℕ) (facts : List Fact) (n : ℕ) (id : CycleId) (peer : TableContents) → bad_fact side point facts ≡ None → IsFact facts n (Met id peer)
     → (is_closed id (take n facts) ≡ true) × (peer_of id (take n facts) ≡ Some peer)
 met_front side point facts n id peer legal is =
     let from = is.0 in
     let to = is.1 in
-    let before = unmet side point (take (n - 1) facts) id peer (legal-at side point facts (n - 1) (Met id peer) legal (omega (arith, from, to)) is.2) in
+    let before = recorded-meeting side point (take (n - 1) facts) id peer (legal-at side point facts (n - 1) (Met id peer) legal (omega (arith, from, to)) is.2) in
     let same = sym (front facts n (Met id peer) is) in (
-      subst (λ (some : List Fact). is_closed id some ≡ true) same (is_closed-more id (take (n - 1) facts) (Met id peer ∷ []) before.0),
-      subst (λ (some : List Fact). peer_of id some ≡ Some peer) same (peer_added (take (n - 1) facts) id peer before.1),
+      subst (λ (some : List Fact). is_closed id some ≡ true) same (is_closed-more id (take (n - 1) facts) (Met id peer ∷ []) before.closed),
+      subst (λ (some : List Fact). peer_of id some ≡ Some peer) same (peer_of-last (take (n - 1) facts) id peer before.unmet),
     )
 
 pub fact_meets : (side : Side) (point : List ℕ) (facts : List Fact) (n : ℕ) (id : CycleId) (peer : TableContents) → bad_fact side point facts ≡ None → IsFact facts n (Met id peer)
@@ -278,7 +233,7 @@ pub is_matched : (side : Side) (facts : List Fact) (id : CycleId) → is_closed 
     → (cycle : MatchedCycle) × (state_of side facts id ≡ Matched cycle)
 is_matched side facts id closed met =
     let own = frozen_cycle side facts id in
-    let matched = matched_by own (peer_of id facts) met in (matched_of own matched.0, state_closed side facts id closed ∙ matched.1)
+    let matched = matched_by own (peer_of id facts) met in (matched_of own matched.0, state-closed side facts id closed ∙ matched.1)
 
 matched_is : (a b : MatchedCycle) → Matched a ≡ Matched b → a ≡ b
 matched_is a b e = cc
@@ -290,7 +245,7 @@ met_cycle side point facts n id peer cycle legal is found =
     let met = fact_meets side point facts n id peer legal is in
     let closed = (met_front side point facts n id peer legal is).0 in
     matched_is cycle (matched_of (frozen_cycle side (take n facts) id) peer) (
-    found ∙ state_closed side facts id met.0
+    found ∙ state-closed side facts id met.0
     ∙ ap (met_by (frozen_cycle side facts id)) met.1
     ∙ ap (λ (own : FrozenCycle). Matched (matched_of own peer)) (sym (frozen_whole side facts n id closed))
     )
@@ -356,12 +311,6 @@ pub other_lets_out : (side : Side) (point : List ℕ) (facts : List Fact) (n : �
     → ((id : CycleId) → fact ≡ Closed id → ⊥) → ((id : CycleId) (peer : TableContents) → fact ≡ Met id peer → ⊥) → [] ≡ let_out side point facts n
 other_lets_out side point facts n fact is taken closed met =
     none_out side point (take n facts) fact taken closed met ∙ sym (let_out-is side point facts n fact is)
-
--- ---- the number of a fact
-
-pub number_of-from : (is : Fact → Bool) (facts : List Fact) → 1 ≤ number_of is facts
-unfolding number_of
-number_of-from is facts = omega arith
 
 -- what the closing and the meeting of a cycle let out, one after the other
 pub both_out : (side : Side) (s : DeskState) (id : CycleId) (closing meeting : ℕ) (first second packets : List Packet) → closing ≡ number_of (is_closing id) s.facts

@@ -2,7 +2,7 @@ mod Called
 pub mod Confirmed
 pub mod CycleLaws
 mod Decoded
-mod Differing
+pub mod Differing
 pub mod Fitting
 pub mod HistoryLaws
 mod KeptLaws

@@ -7,7 +7,7 @@ use Rattle.std.proofs.lemmas.Bool.Decides.{nat_tests}
 use Rattle.std.proofs.lemmas.Option.{slice_get_within}
 use Rattle.gi_day.specs.Cycles.{cycle_count}
 use Rattle.gi_pairs.specs.Limits.{most_processed_rows}
-use Rattle.gi_pairs.specs.Table.{TableContents, table_eq}
+use Rattle.gi_pairs.specs.Table.{TableContents, same_hours, table_eq}
 use Rattle.gi_pairs.specs.declared.cycle_id.CycleId.{CycleId}
 use Rattle.gi_pairs.specs.declared.side.Side.{Side}
 use Rattle.gi_pairs.specs.declared.side.Side.TheVariants.{I, M}
@@ -27,9 +27,9 @@ use Rattle.gi_processing.specs.declared.notice_fault.NoticeFault.{NoticeFault}
 use Rattle.gi_processing.specs.declared.notice_fault.NoticeFault.TheVariants as notices
 use Rattle.gi_cycles.specs.declared.cycle_state.CycleState.{CycleState}
 use Rattle.gi_cycles.specs.declared.cycle_state.CycleState.TheVariants.{Collecting, Frozen, Matched}
-use Rattle.gi_desk.specs.Deciding.{by_order, by_response, difference, met_again, same_hours, unless_differs}
+use Rattle.gi_desk.specs.Deciding.{by_order, by_response, cycle_of, difference, met_again, unless_differs}
 use Rattle.gi_desk.specs.History.{capacity_of, is_closed, last_closed, number_of, state_of}
-use Rattle.gi_desk.specs.Judging.{by_decision, by_verdict, closed, contracted, cycle_of, delivered, if_same, noticed, of_point, submitted, unless_fault, unless_later, verdict_on}
+use Rattle.gi_desk.specs.Judging.{by_decision, by_verdict, closed, contracted, delivered, if_same, noticed, of_point, submitted, unless_fault, unless_later, verdict_on}
 use Rattle.gi_desk.specs.Kept.{CanFollow}
 use Rattle.gi_desk.specs.Machine.{DeskState, comes_to, is_record, most_facts, outcome, unless_full, would_record}
 use Rattle.gi_facts.specs.Same.{same_fact}
@@ -42,6 +42,7 @@ use Rattle.gi_facts.specs.declared.fact.Fact.TheVariants as facts
 use Rattle.gi_desk.specs.declared.outcome.Outcome.{Outcome}
 use Rattle.gi_desk.specs.declared.outcome.Outcome.TheVariants.{Records, RepeatsNomination, RepeatsMeeting, Saves, Resends, Stops, Refuses}
 use Rattle.gi_desk.specs.declared.refusal.Refusal.TheVariants as refusals
+use Rattle.gi_desk.proofs.StateLaws.{number_of-from}
 
 -- what a call that comes to an outcome by itself can be sure of
 abbrev pub IsSure : Side → DeskState → Outcome → Type 0
@@ -76,11 +77,6 @@ pub of_test : (own : Fact) (b : Bool) (o p : Outcome) → IsOf own o → IsOf ow
 of_test own true o p first second = first
 of_test own false o p first second = second
 
--- a number counts from 1
-numbered : (is : Fact → Bool) (history : List Fact) → 1 ≤ number_of is history
-unfolding number_of
-numbered is history = omega arith
-
 -- ---- notices and closings
 
 pub of_fault : (own : Fact) (o : Option NoticeFault) → IsOf own (unless_fault o (Records own))
@@ -109,7 +105,7 @@ sure_verdict side s document verdicts.Recordable e fits =
     let from = fits.from in
     let to = fits.to in
     and_from _ _ (and_from _ _ (ap (λ (v : Verdict). is_record (by_verdict s.facts document v)) e) (grind (arith, nat_tests))) (grind (arith, nat_tests))
-sure_verdict side s document verdicts.Repeat e fits = numbered _ s.facts
+sure_verdict side s document verdicts.Repeat e fits = number_of-from _ s.facts
 sure_verdict side s document (verdicts.Refused fault) e fits = tt
 
 -- what is decoded can be written
@@ -162,7 +158,7 @@ meets_response peer confirmed (Matched cycle) =
 
 pub of_decision : (history : List Fact) (id : CycleId) (peer : TableContents) (d : Decision) → OnlyMeets peer d → IsOf (facts.Met id peer) (by_decision history id d)
 of_decision history id peer (decisions.Meet table) is = ap (facts.Met id) is
-of_decision history id peer decisions.Again is = numbered _ history
+of_decision history id peer decisions.Again is = number_of-from _ history
 of_decision history id peer (decisions.Refused refusal) is = tt
 
 -- where a response meets, an order of the same table does

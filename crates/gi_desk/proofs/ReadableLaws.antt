@@ -1,5 +1,5 @@
 -- What a desk lets out can be written and read.
-use Rattle.std.proofs.Common.{arith, ◌≡◌, ◌<◌, ◌≤◌, ◌-◌, ℕ, List, [], ◌∷◌, length, take, filter, map, Bool, true, false, cond, All, Option, Some, None, refl, sym, ap, ◌∙◌, subst}
+use Rattle.std.proofs.Common.{arith, ◌≡◌, ◌<◌, ◌≤◌, ◌-◌, ℕ, List, [], ◌∷◌, length, take, filter, map, Bool, true, false, cond, All, Option, Some, None, Ok, refl, sym, ap, ◌∙◌, subst}
 use Rattle.std.specs.Prelude.{is_some, slice_get}
 use Rattle.std.specs.Ordering.{is_lt}
 use Rattle.std.specs.Str.{bytes_eq}
@@ -8,12 +8,14 @@ use Rattle.std.proofs.lemmas.List.Elements.{All-append, All-cons, All-filter, Al
 use Rattle.std.proofs.lemmas.Option.{get_or_from_slice_get, slice_get_within}
 use Rattle.gi_pairs.specs.Code.{IsCode}
 use Rattle.gi_pairs.specs.Key.{code_cmp}
+use Rattle.gi_pairs.specs.Pair.{code_at}
 use Rattle.gi_pairs.specs.Row.{IsRow}
 use Rattle.gi_pairs.specs.Table.{TableContents, covered}
 use Rattle.gi_pairs.specs.declared.cycle_id.CycleId.{CycleId}
 use Rattle.gi_pairs.specs.declared.row.Row.{Row}
 use Rattle.gi_pairs.specs.declared.side.Side.{Side}
 use Rattle.gi_pairs.specs.declared.side.Side.TheVariants.{I, M}
+use Rattle.gi_messages.specs.Decoding.{decoded}
 use Rattle.gi_messages.specs.Grammar.{Fits, FitsAcknow, FitsDelord, FitsDelres, FitsLine, FitsNomint, FitsNomres, HasFewLines}
 use Rattle.gi_messages.specs.Writing.{text_of}
 use Rattle.gi_messages.specs.declared.line.Line.{Line}
@@ -21,38 +23,42 @@ use Rattle.gi_messages.specs.declared.message.Message.{Message}
 use Rattle.gi_messages.specs.declared.message.Message.TheVariants.{Acknow, Nomres, Delord, Delres}
 use Rattle.gi_messages.specs.declared.message.Nomint.{Nomint as NomintOf}
 use Rattle.gi_messages.proofs.ShortTexts.{texts_are_short}
-use Rattle.gi_messages.proofs.WritingLemmas.{writable_from_fits}
+use Rattle.gi_messages.proofs.WritingLemmas.{round_trip, writable_from_fits}
 use Rattle.gi_cycles.specs.States.{FrozenCycle, MatchedCycle}
 use Rattle.gi_cycles.specs.declared.cycle_state.CycleState.{CycleState}
 use Rattle.gi_cycles.specs.declared.cycle_state.CycleState.TheVariants.{Collecting, Frozen, Matched}
 use Rattle.gi_desk.specs.History.{state_of}
 use Rattle.gi_desk.specs.LetOut.{IsFact, frozen_of, if_fact, let_out, let_out_on_closing, sent}
 use Rattle.gi_desk.specs.Machine.{bad_fact}
-use Rattle.gi_desk.specs.Messages.{acknow_of, is_row_of, line_of, on_closed, on_met, order_of, own_of, portfolios_in, response_of, to_peer, to_user, told_of, told_packets, with_code}
+use Rattle.gi_desk.specs.Messages.{acknow_of, is_row_of, line_of, on_closed, on_met, order_of, portfolios_in, response_of, to_peer, to_user, told_of, told_packets, with_code}
 use Rattle.gi_desk.specs.Writable.{FitsDesk, FitsFrozen, FitsMatched, FitsState, IsReadable}
 use Rattle.gi_facts.specs.Writable.{FitsFact}
 use Rattle.gi_facts.specs.declared.fact.Fact.{Fact}
 use Rattle.gi_facts.specs.declared.fact.Fact.TheVariants.{Contracted, Noticed, Nominated, Closed, Met}
 use Rattle.gi_desk.specs.declared.packet.Packet.{Packet}
-use Rattle.gi_desk.specs.declared.recipient.Recipient.{Recipient}
-use Rattle.gi_desk.specs.declared.recipient.Recipient.TheVariants.{Peer, User}
+use Rattle.gi_desk.specs.declared.packet.Recipient.{Recipient}
+use Rattle.gi_desk.specs.declared.packet.Recipient.TheVariants.{Peer, User}
 use Rattle.gi_desk.proofs.Fitting.{state-fits}
 use Rattle.gi_desk.proofs.LettingOut.{closing_lets_out, fact_closes, fact_meets, is_matched, let_out-is, meeting_lets_out}
 
 -- ---- texts
+
+-- what is written is read back
+pub read_back : (m : Message) → Fits m → HasFewLines m → decoded (text_of m) ≡ Ok m
+read_back m fits few = let writable = writable_from_fits m fits in round_trip m writable (texts_are_short m writable few)
 
 readable : (m : Message) → Fits m → HasFewLines m → (to : Recipient) → IsReadable (record { to = to; body = text_of m })
 readable m fits few to = let writable = writable_from_fits m fits in (m, writable, refl, texts_are_short m writable few)
 
 -- ---- messages
 
-acknow-fits : (document : NomintOf) → FitsNomint document → FitsAcknow (acknow_of document)
+pub acknow-fits : (document : NomintOf) → FitsNomint document → FitsAcknow (acknow_of document)
 acknow-fits document fits = record { point = fits.point; portfolio = fits.portfolio; day = fits.day; from = fits.from; to = fits.to }
 
-order-fits : (point : List ℕ) (cycle : FrozenCycle) → IsCode point → FitsFrozen cycle → FitsDelord (order_of point cycle)
+pub order-fits : (point : List ℕ) (cycle : FrozenCycle) → IsCode point → FitsFrozen cycle → FitsDelord (order_of point cycle)
 order-fits point cycle code fits = record { point = code; day = fits.id.day; cycle = fits.id.cycle; processed = fits.own.table; few = fits.own.few }
 
-response-fits : (point : List ℕ) (cycle : MatchedCycle) → IsCode point → FitsMatched cycle → FitsDelres (response_of point cycle)
+pub response-fits : (point : List ℕ) (cycle : MatchedCycle) → IsCode point → FitsMatched cycle → FitsDelres (response_of point cycle)
 response-fits point cycle code fits = record {
   point = code;
   day = fits.id.day;
@@ -68,11 +74,11 @@ line-fits : (side : Side) (row : Row) → IsRow row → FitsLine (line_of side r
 line-fits I row is = record { counterparty = is.key.matching; quantities = is.quantities }
 line-fits M row is = record { counterparty = is.key.initiating; quantities = is.quantities }
 
-own_code : (side : Side) (row : Row) → IsRow row → IsCode (own_of side row.pair)
+own_code : (side : Side) (row : Row) → IsRow row → IsCode (code_at side row.pair)
 own_code I row is = is.key.initiating
 own_code M row is = is.key.matching
 
-told-fits : (side : Side) (point : List ℕ) (cycle : MatchedCycle) (portfolio : List ℕ) → IsCode point → FitsMatched cycle → IsCode portfolio → FitsNomres (told_of side point cycle portfolio)
+pub told-fits : (side : Side) (point : List ℕ) (cycle : MatchedCycle) (portfolio : List ℕ) → IsCode point → FitsMatched cycle → IsCode portfolio → FitsNomres (told_of side point cycle portfolio)
 told-fits side point cycle portfolio code fits own =
     let table = cycle.confirmed in
     let is = fits.confirmed in
@@ -99,7 +105,7 @@ some_of : {X : Type 0} (p : X → Bool) (xs : List X) → length (filter p xs) �
 some_of p [] = omega arith
 some_of p (x ∷ xs) = kept_by (p x) x (filter p xs) xs (some_of p xs)
 
-told-few : (side : Side) (point : List ℕ) (cycle : MatchedCycle) (portfolio : List ℕ) → FitsMatched cycle → HasFewLines (Nomres (told_of side point cycle portfolio))
+pub told-few : (side : Side) (point : List ℕ) (cycle : MatchedCycle) (portfolio : List ℕ) → FitsMatched cycle → HasFewLines (Nomres (told_of side point cycle portfolio))
 told-few side point cycle portfolio fits =
     let table = cycle.confirmed in
     let rows = filter (is_row_of side portfolio) table.rows in
@@ -136,10 +142,10 @@ coded code (x ∷ xs) here all =
     let rest = All-tail IsCode x xs all in
     coded_by (bytes_eq code x) (is_lt (code_cmp code x)) code x xs (with_code code xs) here first rest (coded code xs here rest)
 
-portfolios_coded : (side : Side) (rows : List Row) → All IsRow rows → All IsCode (portfolios_in side rows)
-portfolios_coded side [] all = All-nil IsCode
-portfolios_coded side (row ∷ rows) all =
-    coded (own_of side row.pair) (portfolios_in side rows) (own_code side row (All-head IsRow row rows all)) (portfolios_coded side rows (All-tail IsRow row rows all))
+pub portfolios-coded : (side : Side) (rows : List Row) → All IsRow rows → All IsCode (portfolios_in side rows)
+portfolios-coded side [] all = All-nil IsCode
+portfolios-coded side (row ∷ rows) all =
+    coded (code_at side row.pair) (portfolios_in side rows) (own_code side row (All-head IsRow row rows all)) (portfolios-coded side rows (All-tail IsRow row rows all))
 
 told-readable : (side : Side) (point : List ℕ) (cycle : MatchedCycle) → IsCode point → FitsMatched cycle → All IsReadable (told_packets side point cycle)
 unfolding told_packets
@@ -150,7 +156,7 @@ told-readable side point cycle code fits =
     (All-weaker IsCode (λ (portfolio : List ℕ). IsReadable (packet portfolio))
     (λ portfolio own.
     readable (Nomres (told_of side point cycle portfolio)) (told-fits side point cycle portfolio code fits own) (told-few side point cycle portfolio fits) (User portfolio))
-    portfolios (portfolios_coded side cycle.confirmed.rows fits.confirmed.all))
+    portfolios (portfolios-coded side cycle.confirmed.rows fits.confirmed.all))
 
 -- ---- what each kind of fact lets out
 
@@ -178,8 +184,8 @@ meeting-readable side point facts n id peer legal desk is =
     (All-append IsReadable (sent (on_met side point matched.0)) (told_packets side point matched.0)
     (met-readable side point matched.0 desk.point fits) (told-readable side point matched.0 desk.point fits))
 
-fact_fits : (side : Side) (point : List ℕ) (facts : List Fact) (n : ℕ) (fact : Fact) → FitsDesk side point facts → IsFact facts n fact → FitsFact fact
-fact_fits side point facts n fact desk is =
+pub fact-fits : (side : Side) (point : List ℕ) (facts : List Fact) (n : ℕ) (fact : Fact) → FitsDesk side point facts → IsFact facts n fact → FitsFact fact
+fact-fits side point facts n fact desk is =
     let from = is.0 in
     let to = is.1 in
     subst FitsFact (sym is.2) (All-get_or FitsFact facts (n - 1) fact (omega (arith, from, to)) desk.facts)
@@ -191,7 +197,7 @@ fact-readable side point facts n (Contracted contract) legal desk is =
 fact-readable side point facts n (Noticed notice) legal desk is =
     subst (λ (packets : List Packet). All IsReadable packets) (sym (let_out-is side point facts n (Noticed notice) is)) (All-nil IsReadable)
 fact-readable side point facts n (Nominated document) legal desk is =
-    let fits : FitsNomint document = fact_fits side point facts n (Nominated document) desk is in
+    let fits : FitsNomint document = fact-fits side point facts n (Nominated document) desk is in
     let packet = to_user document.portfolio (Acknow (acknow_of document)) in
     subst (λ (packets : List Packet). All IsReadable packets) (sym (let_out-is side point facts n (Nominated document) is))
     (All-cons IsReadable packet [] (readable (Acknow (acknow_of document)) (acknow-fits document fits) tt (User document.portfolio)) (All-nil IsReadable))

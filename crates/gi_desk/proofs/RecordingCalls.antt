@@ -1,5 +1,5 @@
 -- Each fact that may come next is recorded by a call, which the fact names.
-use Rattle.std.proofs.Common.{arith, ◌≡◌, ◌≤◌, ℕ, List, [], ◌∷◌, length, All, Bool, true, cond, ◌&&◌, nat_eq, Some, None, Ok, eq-eqb, refl, sym, ap, ◌∙◌, subst}
+use Rattle.std.proofs.Common.{arith, ◌≡◌, ◌≤◌, ℕ, List, [], ◌∷◌, length, All, Bool, true, cond, ◌&&◌, nat_eq, Some, None, eq-eqb, refl, sym, ap, ◌∙◌, subst}
 use Rattle.std.specs.Str.{bytes_eq}
 use Rattle.std.proofs.lemmas.Bool.{and_from, and_parts}
 use Rattle.std.proofs.lemmas.Bool.Decides.{Decides-eqb}
@@ -8,29 +8,21 @@ use Rattle.std.proofs.lemmas.Slice.Eq.{bytes_eq-Decides}
 use Rattle.gi_day.specs.Cycles.{hour_count}
 use Rattle.gi_day.proofs.DayFacts.{day_facts}
 use Rattle.gi_pairs.specs.Code.{IsCode}
-use Rattle.gi_pairs.specs.Direction.{place_of}
 use Rattle.gi_pairs.specs.Limits.{last_hour}
-use Rattle.gi_pairs.specs.Row.{pair_eq, row_eq}
 use Rattle.gi_pairs.specs.Table.{TableContents}
 use Rattle.gi_pairs.specs.declared.cycle_id.CycleId.{CycleId}
-use Rattle.gi_pairs.specs.declared.pair.Pair.{Pair}
-use Rattle.gi_pairs.specs.declared.row.Row.{Row}
 use Rattle.gi_pairs.specs.declared.side.Side.{Side}
 use Rattle.gi_pairs.specs.declared.side.Side.TheVariants.{I, M}
 use Rattle.gi_pairs.proofs.Reading.{find_all}
 use Rattle.gi_lesser.specs.Lesser.{HasShapeOf, lesser_of}
 use Rattle.gi_lesser.proofs.LesserLaws.{lesser_of-IsLesser}
-use Rattle.gi_messages.specs.Decoding.{decoded}
 use Rattle.gi_messages.specs.Grammar.{Fits, HasFewLines}
 use Rattle.gi_messages.specs.Writing.{text_of}
 use Rattle.gi_messages.specs.declared.line.Line.{Line}
 use Rattle.gi_messages.specs.declared.message.Delord.{Delord}
 use Rattle.gi_messages.specs.declared.message.Delres.{Delres}
-use Rattle.gi_messages.specs.declared.message.Message.{Message}
 use Rattle.gi_messages.specs.declared.message.Message.TheVariants as messages
 use Rattle.gi_messages.specs.declared.message.Nomint.{Nomint}
-use Rattle.gi_messages.proofs.ShortTexts.{texts_are_short}
-use Rattle.gi_messages.proofs.WritingLemmas.{round_trip, writable_from_fits}
 use Rattle.gi_nominations.specs.Lines.{has_hours}
 use Rattle.gi_nominations.specs.declared.verdict.Verdict.{Verdict}
 use Rattle.gi_nominations.specs.declared.verdict.Verdict.TheVariants as verdicts
@@ -39,7 +31,7 @@ use Rattle.gi_cycles.specs.declared.cycle_state.CycleState.TheVariants.{Frozen}
 use Rattle.gi_processing.specs.Recording.{is_refused, notice_refusal}
 use Rattle.gi_processing.specs.declared.contract.Contract.{Contract}
 use Rattle.gi_processing.specs.declared.notice.Notice.{Notice}
-use Rattle.gi_desk.specs.Deciding.{by_order, by_response, compared, difference, one_later}
+use Rattle.gi_desk.specs.Deciding.{by_order, by_response, compared}
 use Rattle.gi_desk.specs.History.{capacity_of, frozen_cycle, frozen_table, state_of}
 use Rattle.gi_desk.specs.Judging.{by_decision, by_verdict, closed, contracted, delivered, noticed, submitted, verdict_on}
 use Rattle.gi_desk.specs.Kept.{is_state_of, states_of}
@@ -55,14 +47,11 @@ use Rattle.gi_desk.specs.declared.outcome.Outcome.{Outcome}
 use Rattle.gi_desk.specs.declared.outcome.Outcome.TheVariants.{Records, RepeatsNomination, RepeatsMeeting, Saves, Resends, Stops, Refuses}
 use Rattle.gi_desk.specs.declared.refusal.Refusal.TheVariants as refusals
 use Rattle.gi_desk.proofs.CycleLaws.{IsMeeting, recorded-meeting}
+use Rattle.gi_desk.proofs.Differing.{difference-self}
 use Rattle.gi_desk.proofs.Legality.{recorded-nomination}
 use Rattle.gi_desk.proofs.Outcomes.{IsOf, IsSure, meets_order, of_closing, of_decision, of_fault, of_test, sure_comes}
-use Rattle.gi_desk.proofs.StageLaws.{found}
-
--- ---- a message that is written is read back
-
-read_back : (m : Message) → Fits m → HasFewLines m → decoded (text_of m) ≡ Ok m
-read_back m fits few = let writable = writable_from_fits m fits in round_trip m writable (texts_are_short m writable few)
+use Rattle.gi_desk.proofs.ReadableLaws.{read_back}
+use Rattle.gi_desk.proofs.StageLaws.{found, state-meeting}
 
 -- ---- what an outcome records
 
@@ -152,30 +141,12 @@ order_called s id peer desk cycle fits e =
       ap (delivered M s.point s.facts) back ∙ at_point s.point (by_decision s.facts id (by_order peer (state_of M s.facts id))) ∙ meeting_records M s id peer e,
     )
 
--- rows do not differ from themselves
-pair_self : (pair : Pair) → pair_eq pair pair ≡ true
-pair_self pair = and_from (bytes_eq pair.initiating pair.initiating) (bytes_eq pair.matching pair.matching) (bytes_self pair.initiating) (bytes_self pair.matching)
-
-row_self : (row : Row) → row_eq row row ≡ true
-row_self row =
-    let place = place_of row.direction in
-    and_from (pair_eq row.pair row.pair) (nat_eq place place && bytes_eq row.hours row.hours) (pair_self row.pair)
-    (and_from (nat_eq place place) (bytes_eq row.hours row.hours) (eq-eqb place place refl) (bytes_self row.hours))
-
-none_differs : (rows : List Row) → difference rows rows ≡ None
-none_differs [] = refl
-none_differs (row ∷ rows) = rw (row_self row) (ap one_later (none_differs rows))
-
--- the state of a cycle that may meet a table, and its frozen table
-meeting_state : (side : Side) (history : List Fact) (id : CycleId) (peer : TableContents) → IsMeeting side history id peer → state_of side history id ≡ Frozen (frozen_cycle side history id)
-unfolding state_of
-meeting_state side history id peer is = rw (is.closed, is.unmet) refl
-
+-- the frozen table of a cycle that may meet a table
 frozen_fits : (side : Side) (point : List ℕ) (history : List Fact) (id : CycleId) (peer : TableContents) → FitsDesk side point history → IsMeeting side history id peer
     → FitsProcessed (frozen_table side history id)
 frozen_fits side point history id peer desk is =
     let frozen = Frozen (frozen_cycle side history id) in
-    let closed = ap (λ (b : Bool). cond b (Some (state_of side history id)) None) is.closed ∙ ap Some (meeting_state side history id peer is) in
+    let closed = ap (λ (b : Bool). cond b (Some (state_of side history id)) None) is.closed ∙ ap Some (state-meeting side history id peer is) in
     let fits : FitsFrozen (frozen_cycle side history id) = find_all FitsState (is_state_of id) (states_of side history) frozen desk.states (found side history id ∙ closed) in
     fits.own
 
@@ -202,7 +173,7 @@ response_fits point id own peer code cycle own_fits fits shape =
 meets_lesser : (own peer : TableContents) → HasShapeOf own peer → compared own peer (lesser_of own peer) (decisions.Meet peer) ≡ decisions.Meet peer
 meets_lesser own peer shape =
     let hours = and_from (nat_eq own.first peer.first) (nat_eq own.last peer.last) (eq-eqb own.first peer.first shape.first) (eq-eqb own.last peer.last shape.last) in
-    rw (hours, none_differs (lesser_of own peer).rows) refl
+    rw (hours, difference-self (lesser_of own peer).rows) refl
 
 response_called : (s : DeskState) (id : CycleId) (peer : TableContents) → FitsDesk I s.point s.facts → FitsCycle id → FitsProcessed peer
     → would_record I s.point s.facts (Met id peer) ≡ true → IsRecorded I s (Met id peer)
@@ -212,7 +183,7 @@ response_called s id peer desk cycle fits e =
     let message = messages.Delres (response s.point id own peer) in
     let back = read_back message (response_fits s.point id own peer desk.point cycle (frozen_fits I s.point s.facts id peer desk is) fits is.same_hours) tt in
     let decision = by_response peer (lesser_of own peer) (state_of I s.facts id) in
-    let meets : decision ≡ decisions.Meet peer = ap (by_response peer (lesser_of own peer)) (meeting_state I s.facts id peer is) ∙ meets_lesser own peer is.same_hours in (
+    let meets : decision ≡ decisions.Meet peer = ap (by_response peer (lesser_of own peer)) (state-meeting I s.facts id peer is) ∙ meets_lesser own peer is.same_hours in (
       calls.Deliver (text_of message),
       ap (delivered I s.point s.facts) back ∙ at_point s.point (by_decision s.facts id decision) ∙ ap (by_decision s.facts id) meets,
     )

@@ -8,7 +8,7 @@ use Rattle.gi_pairs.specs.Table.{TableContents}
 use Rattle.gi_pairs.specs.declared.cycle_id.CycleId.{CycleId}
 use Rattle.gi_pairs.specs.declared.side.Side.{Side}
 use Rattle.gi_processing.specs.Processing.{processed}
-use Rattle.gi_desk.specs.History.{capacity_of, documents_of, facts_before, frozen_table, is_closed, is_closing, number_of, peer_in, peer_of, state_of}
+use Rattle.gi_desk.specs.History.{capacity_of, documents_of, facts_before, frozen_cycle, frozen_table, is_closed, is_closing, met_by, number_of, peer_in, peer_of, state_of}
 use Rattle.gi_desk.specs.LetOut.{let_out}
 use Rattle.gi_facts.specs.declared.fact.Fact.{Fact}
 
@@ -70,6 +70,11 @@ pub peer_of-more : (id : CycleId) (facts more : List Fact) (peer : TableContents
 unfolding peer_of
 peer_of-more id facts more peer met = first-more (peer_in id) facts more peer met
 
+-- how far a closed cycle is
+pub state-closed : (side : Side) (facts : List Fact) (id : CycleId) → is_closed id facts ≡ true → state_of side facts id ≡ met_by (frozen_cycle side facts id) (peer_of id facts)
+unfolding state_of
+state-closed side facts id closed = rw closed refl
+
 -- a matched cycle stays as it is
 pub state_of-more : (side : Side) (facts more : List Fact) (id : CycleId) (peer : TableContents) → is_closed id facts ≡ true → peer_of id facts ≡ Some peer
     → state_of side (facts ++ more) id ≡ state_of side facts id
@@ -77,7 +82,11 @@ unfolding state_of
 state_of-more side facts more id peer closed met =
     rw (closed, is_closed-more id facts more closed, met, peer_of-more id facts more peer met, frozen_table-more side facts more id closed) refl
 
--- the number of a fact is at most one more than there are facts
+-- the number of a fact is from 1 to one more than there are facts
+pub number_of-from : (is : Fact → Bool) (facts : List Fact) → 1 ≤ number_of is facts
+unfolding number_of
+number_of-from is facts = omega arith
+
 pub number_of-within : (is : Fact → Bool) (facts : List Fact) → number_of is facts ≤ length facts + 1
 unfolding number_of facts_before
 number_of-within is facts = let within = prefix_len-le-length (λ fact. not (is fact)) facts in grind (length-take, arith, within)

@@ -16,7 +16,7 @@ use Rattle.gi_desk.specs.LetOut.{let_out, packets_of}
 use Rattle.gi_desk.specs.Machine.{DeskState, after, answer_of, bad_fact, is_for_peer, next_of, out_of, outcome, reply, saved_out}
 use Rattle.gi_desk.specs.Messages.{acknow_of, to_user}
 use Rattle.gi_desk.specs.Queries.{confirmed}
-use Rattle.gi_desk.specs.declared.answer.Answer.TheVariants as answers
+use Rattle.gi_desk.specs.declared.reply.Answer.TheVariants as answers
 use Rattle.gi_desk.specs.declared.call.Call.{Call}
 use Rattle.gi_facts.specs.declared.fact.Fact.{Fact}
 use Rattle.gi_facts.specs.declared.fact.Fact.TheVariants as facts
@@ -27,7 +27,7 @@ use Rattle.gi_desk.specs.declared.refusal.Refusal.{Refusal}
 use Rattle.gi_desk.proofs.Confirmed.{met_closed}
 use Rattle.gi_desk.proofs.Legality.{legal-front, legal-more}
 use Rattle.gi_desk.proofs.Outcomes.{can_follow}
-use Rattle.gi_desk.proofs.StateLaws.{frozen_table-more, is_closed-more, peer_of-more}
+use Rattle.gi_desk.proofs.StateLaws.{frozen_table-more, is_closed-more, number_of-from, peer_of-more}
 
 -- ---- the facts, and what is saved
 
@@ -89,11 +89,6 @@ saved_test side s n packet false e above there = absurd (in_none packet there)
 saved_one : (side : Side) (s : DeskState) (n : ℕ) (packet : Packet) → 1 ≤ n → Contains (saved_out side s n) packet → IsOfSaved side s s.saved packet
 saved_one side s n packet above there = saved_test side s n packet (nat_le n s.saved) refl above there
 
--- a number counts from 1
-numbered : (is : Fact → Bool) (history : List Fact) → 1 ≤ number_of is history
-unfolding number_of
-numbered is history = omega arith
-
 -- what a test lets through stands in the list
 filtered : {X : Type 0} (test : X → Bool) (xs : List X) (x : X) → Contains (filter test xs) x → Contains xs x
 filtered test xs x there = All-contains (Contains xs) (filter test xs) x (All-filter test (Contains xs) xs (All-contains_itself xs)) there
@@ -106,8 +101,8 @@ said_by side s (Saves n) packet follows there = let next = follows.0 in (n, omeg
 said_by side s (Resends id) packet follows there =
     let closing = number_of (is_closing id) s.facts in
     let meeting = number_of (is_meeting id) s.facts in
-    ⊎_elim (λ of_closing. saved_one side s closing packet (numbered (is_closing id) s.facts) of_closing)
-    (λ of_meeting. saved_one side s meeting packet (numbered (is_meeting id) s.facts) of_meeting)
+    ⊎_elim (λ of_closing. saved_one side s closing packet (number_of-from (is_closing id) s.facts) of_closing)
+    (λ of_meeting. saved_one side s meeting packet (number_of-from (is_meeting id) s.facts) of_meeting)
     (Contains-append_cases (saved_out side s closing) (saved_out side s meeting) packet there)
 said_by side s Stops packet follows there = absurd (in_none packet there)
 said_by side s (Refuses refusal) packet follows there = absurd (in_none packet there)

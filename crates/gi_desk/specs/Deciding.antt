@@ -1,8 +1,9 @@
 -- What a desk makes of its peer's message, by the state of the cycle.
-use Rattle.std.specs.Prelude.{◌≡◌, ◌≤◌, ◌⊎◌, ℕ, ◌+◌, List, [], ◌∷◌, length, Bool, false, ◌&&◌, nat_eq, if◌then◌else◌, Option, Some, None, IsTrue}
+use Rattle.std.specs.Prelude.{◌≡◌, ◌≤◌, ◌⊎◌, ℕ, ◌+◌, List, [], ◌∷◌, length, Bool, false, ◌&&◌, if◌then◌else◌, Option, Some, None, IsTrue}
+use Rattle.jiff_core.specs.declared.civil.date.Date.{Date}
 use Rattle.gi_pairs.specs.Limits.{most_processed_rows}
 use Rattle.gi_pairs.specs.Row.{row_eq}
-use Rattle.gi_pairs.specs.Table.{TableContents, table_eq}
+use Rattle.gi_pairs.specs.Table.{TableContents, same_hours, table_eq}
 use Rattle.gi_pairs.specs.declared.cycle_id.CycleId.{CycleId}
 use Rattle.gi_pairs.specs.declared.row.Row.{Row}
 use Rattle.gi_pairs.specs.declared.side.Side.{Side}
@@ -15,10 +16,6 @@ use Rattle.gi_cycles.specs.declared.cycle_state.CycleState.TheVariants.{Collecti
 use Rattle.gi_desk.specs.declared.decision.Decision.{Decision}
 use Rattle.gi_desk.specs.declared.decision.Decision.TheVariants.{Meet, Again, Refused}
 use Rattle.gi_desk.specs.declared.refusal.Refusal.TheVariants.{OutOfMemory, WrongKind, NotClosed, ShapeDiffers, NotTheLesser, Conflict}
-
--- both tables are for the same hours
-abbrev pub same_hours : TableContents → TableContents → Bool
-same_hours a b = nat_eq a.first b.first && nat_eq a.last b.last
 
 -- the least place, from 1, at which rows differ; a row that one list lacks differs
 abbrev pub one_later : Option ℕ → Option ℕ
@@ -59,31 +56,22 @@ by_response peer confirmed (Matched cycle) = compared cycle.own peer confirmed (
 abbrev pub decision : Side → CycleState → Message → Decision
 decision M state (Delord message) = by_order message.processed state
 decision I state (Delres message) = by_response message.processed message.confirmed state
-decision I state (Delord message) = Refused WrongKind
-decision M state (Delres message) = Refused WrongKind
-decision side state (Nomint message) = Refused WrongKind
-decision side state (Acknow message) = Refused WrongKind
-decision side state (Nomres message) = Refused WrongKind
+decision side state message = Refused WrongKind
 
 -- a message of the kind that is for the side
 abbrev pub IsForRole : Side → Message → Type 0
 IsForRole M (Delord message) = Unit {0}
 IsForRole I (Delres message) = Unit {0}
-IsForRole I (Delord message) = ⊥
-IsForRole M (Delres message) = ⊥
-IsForRole side (Nomint message) = ⊥
-IsForRole side (Acknow message) = ⊥
-IsForRole side (Nomres message) = ⊥
+IsForRole side message = ⊥
 
 -- the interconnection point and the cycle of such a message
+abbrev pub cycle_of : (day : Date) → ℕ → CycleId
+cycle_of day cycle = record { day = day; cycle = cycle }
+
 abbrev pub address_of : Side → Message → Option (List ℕ × CycleId)
-address_of M (Delord message) = Some (message.point, record { day = message.day; cycle = message.cycle })
-address_of I (Delres message) = Some (message.point, record { day = message.day; cycle = message.cycle })
-address_of I (Delord message) = None
-address_of M (Delres message) = None
-address_of side (Nomint message) = None
-address_of side (Acknow message) = None
-address_of side (Nomres message) = None
+address_of M (Delord message) = Some (message.point, cycle_of message.day message.cycle)
+address_of I (Delres message) = Some (message.point, cycle_of message.day message.cycle)
+address_of side message = None
 
 -- the processed table of an order or a response has as few rows as a message may carry
 abbrev pub HasFewRows : Message → Type 0

@@ -22,24 +22,15 @@ use Rattle.gi_facts.specs.declared.fact.Fact.TheVariants.{Contracted, Noticed, N
 -- the contract, the notice and the nomination that a fact records
 abbrev pub contract_in : Fact → Option Contract
 contract_in (Contracted contract) = Some contract
-contract_in (Noticed notice) = None
-contract_in (Nominated document) = None
-contract_in (Closed id) = None
-contract_in (Met id peer) = None
+contract_in fact = None
 
 abbrev pub notice_in : Fact → Option Notice
-notice_in (Contracted contract) = None
 notice_in (Noticed notice) = Some notice
-notice_in (Nominated document) = None
-notice_in (Closed id) = None
-notice_in (Met id peer) = None
+notice_in fact = None
 
 abbrev pub document_in : Fact → Option Nomint
-document_in (Contracted contract) = None
-document_in (Noticed notice) = None
 document_in (Nominated document) = Some document
-document_in (Closed id) = None
-document_in (Met id peer) = None
+document_in fact = None
 
 -- the contracts and the notices recorded, and the nominations taken, each in their order
 unfoldable pub capacity_of : List Fact → Capacity
@@ -51,25 +42,16 @@ documents_of facts = filter_map document_in facts
 -- the fact is the closing of the cycle, the meeting of the cycle, and the taking of a nomination of that portfolio, gas
 -- day and version
 abbrev pub is_closing : CycleId → Fact → Bool
-is_closing id (Contracted contract) = false
-is_closing id (Noticed notice) = false
-is_closing id (Nominated document) = false
 is_closing id (Closed other) = same_cycle other id
-is_closing id (Met other peer) = false
+is_closing id fact = false
 
 abbrev pub is_meeting : CycleId → Fact → Bool
-is_meeting id (Contracted contract) = false
-is_meeting id (Noticed notice) = false
-is_meeting id (Nominated document) = false
-is_meeting id (Closed other) = false
 is_meeting id (Met other peer) = same_cycle other id
+is_meeting id fact = false
 
 abbrev pub is_taking : Nomint → Fact → Bool
-is_taking document (Contracted contract) = false
-is_taking document (Noticed notice) = false
 is_taking document (Nominated other) = is_of document.portfolio document.day other && nat_eq other.version document.version
-is_taking document (Closed other) = false
-is_taking document (Met other peer) = false
+is_taking document fact = false
 
 -- the facts before the first that is so, all where none is
 unfoldable pub facts_before : (Fact → Bool) → List Fact → List Fact
@@ -81,11 +63,8 @@ number_of is facts = length (facts_before is facts) + 1
 
 -- the cycles closed, in the order of their closings
 abbrev pub closing_in : Fact → Option CycleId
-closing_in (Contracted contract) = None
-closing_in (Noticed notice) = None
-closing_in (Nominated document) = None
 closing_in (Closed id) = Some id
-closing_in (Met id peer) = None
+closing_in fact = None
 
 unfoldable pub closings : List Fact → List CycleId
 closings facts = filter_map closing_in facts
@@ -103,11 +82,8 @@ frozen_table side facts id = let before = facts_before (is_closing id) facts in 
 
 -- the peer's table that the cycle met
 abbrev pub peer_in : CycleId → Fact → Option TableContents
-peer_in id (Contracted contract) = None
-peer_in id (Noticed notice) = None
-peer_in id (Nominated document) = None
-peer_in id (Closed other) = None
 peer_in id (Met other peer) = if same_cycle other id then Some peer else None
+peer_in id fact = None
 
 unfoldable pub peer_of : CycleId → List Fact → Option TableContents
 peer_of id facts = slice_get (filter_map (peer_in id) facts) 0

@@ -1,13 +1,11 @@
 -- What each call comes to, by the facts of a desk.
 use Rattle.std.specs.Prelude.{ℕ, ◌+◌, List, slice_get, not, nat_eq, nat_le, nat_lt, if◌then◌else◌, Option, Some, None, Result, Ok, Err}
 use Rattle.std.specs.Str.{bytes_eq}
-use Rattle.jiff_core.specs.declared.civil.date.Date.{Date}
 use Rattle.gi_day.specs.Cycles.{cycle_count}
 use Rattle.gi_pairs.specs.declared.cycle_id.CycleId.{CycleId}
 use Rattle.gi_pairs.specs.declared.side.Side.{Side}
-use Rattle.gi_pairs.specs.declared.side.Side.TheVariants.{I, M}
 use Rattle.gi_messages.specs.declared.message.Message.{Message}
-use Rattle.gi_messages.specs.declared.message.Message.TheVariants.{Nomint, Acknow, Nomres, Delord, Delres}
+use Rattle.gi_messages.specs.declared.message.Message.TheVariants.{Nomint}
 use Rattle.gi_messages.specs.declared.message.Nomint.{Nomint as NomintOf}
 use Rattle.gi_messages.specs.declared.message_fault.MessageFault.{MessageFault}
 use Rattle.gi_nominations.specs.Judging.{verdict}
@@ -20,7 +18,7 @@ use Rattle.gi_processing.specs.declared.contract.Contract.{Contract}
 use Rattle.gi_processing.specs.declared.notice.Notice.{Notice}
 use Rattle.gi_processing.specs.declared.notice_fault.NoticeFault.{NoticeFault}
 use Rattle.gi_processing.specs.declared.notice_fault.NoticeFault.TheVariants as notices
-use Rattle.gi_desk.specs.Deciding.{by_order, by_response}
+use Rattle.gi_desk.specs.Deciding.{address_of, decision}
 use Rattle.gi_desk.specs.History.{capacity_of, documents_of, is_closed, is_closing, is_meeting, is_taking, last_closed, number_of, state_of}
 use Rattle.gi_facts.specs.Same.{same_fact}
 use Rattle.gi_desk.specs.declared.decision.Decision.{Decision}
@@ -68,10 +66,7 @@ nominated point history document = by_verdict history document (verdict_on point
 abbrev pub submitted : List ℕ → List Fact → Result Message MessageFault → Outcome
 submitted point history (Err fault) = Refuses (MessageRefused fault)
 submitted point history (Ok (Nomint document)) = nominated point history document
-submitted point history (Ok (Acknow message)) = Refuses WrongKind
-submitted point history (Ok (Nomres message)) = Refuses WrongKind
-submitted point history (Ok (Delord message)) = Refuses WrongKind
-submitted point history (Ok (Delres message)) = Refuses WrongKind
+submitted point history (Ok message) = Refuses WrongKind
 
 -- a closing: the gas day has the cycle, and neither it nor a later one is closed
 abbrev pub unless_later : ℕ → Option ℕ → Outcome → Outcome
@@ -84,7 +79,7 @@ closed history id =
     else (if is_closed id history then Refuses AlreadyClosed
     else unless_later id.cycle (last_closed id.day history) (Records (facts.Closed id)))
 
--- the peer's message
+-- the peer's message, of a kind that is for the side and for the desk's own point
 abbrev pub by_decision : List Fact → CycleId → Decision → Outcome
 by_decision history id (decisions.Meet peer) = Records (facts.Met id peer)
 by_decision history id decisions.Again = RepeatsMeeting (number_of (is_meeting id) history)
@@ -93,20 +88,14 @@ by_decision history id (decisions.Refused refusal) = Refuses refusal
 abbrev pub of_point : List ℕ → List ℕ → Outcome → Outcome
 of_point point own outcome = if bytes_eq point own then outcome else Refuses WrongPoint
 
-abbrev pub cycle_of : (day : Date) → ℕ → CycleId
-cycle_of day cycle = record { day = day; cycle = cycle }
+abbrev pub if_addressed : Side → List ℕ → List Fact → Message → Option (List ℕ × CycleId) → Outcome
+if_addressed side point history message None = Refuses WrongKind
+if_addressed side point history message (Some address) =
+    of_point address.0 point (by_decision history address.1 (decision side (state_of side history address.1) message))
 
 abbrev pub delivered : Side → List ℕ → List Fact → Result Message MessageFault → Outcome
 delivered side point history (Err fault) = Refuses (MessageRefused fault)
-delivered M point history (Ok (Delord message)) =
-    let id = cycle_of message.day message.cycle in of_point message.point point (by_decision history id (by_order message.processed (state_of M history id)))
-delivered I point history (Ok (Delres message)) =
-    let id = cycle_of message.day message.cycle in of_point message.point point (by_decision history id (by_response message.processed message.confirmed (state_of I history id)))
-delivered I point history (Ok (Delord message)) = Refuses WrongKind
-delivered M point history (Ok (Delres message)) = Refuses WrongKind
-delivered side point history (Ok (Nomint message)) = Refuses WrongKind
-delivered side point history (Ok (Acknow message)) = Refuses WrongKind
-delivered side point history (Ok (Nomres message)) = Refuses WrongKind
+delivered side point history (Ok message) = if_addressed side point history message (address_of side message)
 
 -- a cycle's packets again: its closing is saved
 abbrev pub resent : List Fact → ℕ → CycleId → Outcome

@@ -6,11 +6,11 @@ use Rattle.gi_pairs.specs.declared.side.Side.{Side}
 use Rattle.gi_desk.specs.History.{frozen_table, is_closed, peer_of, state_of}
 use Rattle.gi_desk.specs.Kept.{changes_cycle}
 use Rattle.gi_desk.specs.LetOut.{let_out, packets_of}
-use Rattle.gi_desk.specs.Machine.{DeskState, after as state_after, bad_fact, comes_to, is_for_peer, reply, would_record}
+use Rattle.gi_desk.specs.Machine.{DeskState, after as state_after, bad_fact, comes_to, is_for_peer, reply, started_again, would_record}
 use Rattle.gi_desk.specs.Queries.{confirmed}
 use Rattle.gi_desk.specs.Writable.{FitsDesk, IsReadable}
 use Rattle.gi_facts.specs.Writable.{FitsFact}
-use Rattle.gi_desk.specs.declared.answer.Answer.TheVariants as answers
+use Rattle.gi_desk.specs.declared.reply.Answer.TheVariants as answers
 use Rattle.gi_desk.specs.declared.call.Call.{Call}
 use Rattle.gi_facts.specs.declared.fact.Fact.{Fact}
 use Rattle.gi_facts.specs.declared.fact.Fact.TheVariants.{Closed, Met}
@@ -96,7 +96,7 @@ ConfirmsForGood =
 abbrev pub ConfirmsThroughRestarts : Type 0
 ConfirmsThroughRestarts =
     (side : Side) (s : DeskState) (n : ℕ) (id : CycleId) (table : TableContents) → bad_fact side s.point s.facts ≡ None → s.saved ≤ n
-    → confirmed side s id ≡ Some table → confirmed side (record { point = s.point; facts = take n s.facts; saved = n; halted = false }) id ≡ Some table
+    → confirmed side s id ≡ Some table → confirmed side (started_again s n) id ≡ Some table
 
 -- What a call records may come next; and where all of a desk can be written, and a fact too, some call records the fact
 -- that may come next.

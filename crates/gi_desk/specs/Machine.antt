@@ -1,6 +1,6 @@
 -- The desk as a machine: its state is a list of facts, how many of them are saved, and whether it is halted. Every
 -- answer, every packet and the next state are functions of the state and the call.
-use Rattle.std.specs.Prelude.{◌≡◌, ◌<◌, ℕ, ◌+◌, List, [], ◌∷◌, ◌++◌, length, filter, Bool, true, false, not, ◌&&◌, nat_le, nat_lt, IsTrue, ◌⊎◌, if◌then◌else◌, Option, Some, None, Result, Ok, Err}
+use Rattle.std.specs.Prelude.{◌≡◌, ◌<◌, ℕ, ◌+◌, List, [], ◌∷◌, ◌++◌, length, take, filter, Bool, true, false, not, ◌&&◌, nat_le, nat_lt, IsTrue, ◌⊎◌, if◌then◌else◌, Option, Some, None, Result, Ok, Err}
 use Rattle.gi_pairs.specs.Limits.{most_processed_rows}
 use Rattle.gi_pairs.specs.declared.side.Side.{Side}
 use Rattle.gi_messages.specs.Decoding.{decoded}
@@ -9,8 +9,8 @@ use Rattle.gi_desk.specs.Deciding.{by_order}
 use Rattle.gi_desk.specs.History.{is_closing, is_meeting, number_of, state_of}
 use Rattle.gi_desk.specs.Judging.{by_decision, closed, contracted, delivered, marked, nominated, noticed, resent, submitted}
 use Rattle.gi_desk.specs.LetOut.{let_out}
-use Rattle.gi_desk.specs.declared.answer.Answer.{Answer}
-use Rattle.gi_desk.specs.declared.answer.Answer.TheVariants as answers
+use Rattle.gi_desk.specs.declared.reply.Answer.{Answer}
+use Rattle.gi_desk.specs.declared.reply.Answer.TheVariants as answers
 use Rattle.gi_desk.specs.declared.call.Call.{Call}
 use Rattle.gi_desk.specs.declared.call.Call.TheVariants.{Contract, Notice, Submit, Close, Deliver, Resend, MarkSaved, Halt}
 use Rattle.gi_facts.specs.declared.fact.Fact.{Fact}
@@ -18,8 +18,8 @@ use Rattle.gi_facts.specs.declared.fact.Fact.TheVariants as facts
 use Rattle.gi_desk.specs.declared.outcome.Outcome.{Outcome}
 use Rattle.gi_desk.specs.declared.outcome.Outcome.TheVariants.{Records, RepeatsNomination, RepeatsMeeting, Saves, Resends, Stops, Refuses}
 use Rattle.gi_desk.specs.declared.packet.Packet.{Packet}
-use Rattle.gi_desk.specs.declared.recipient.Recipient.{Recipient}
-use Rattle.gi_desk.specs.declared.recipient.Recipient.TheVariants.{Peer, User}
+use Rattle.gi_desk.specs.declared.packet.Recipient.{Recipient}
+use Rattle.gi_desk.specs.declared.packet.Recipient.TheVariants.{Peer, User}
 use Rattle.gi_desk.specs.declared.refusal.Refusal.TheVariants as refusals
 use Rattle.gi_desk.specs.declared.replay_fault.ReplayFault.{ReplayFault}
 use Rattle.gi_desk.specs.declared.replay_fault.ReplayFault.TheVariants.{BadFact, OutOfMemory}
@@ -35,6 +35,10 @@ pub record DeskState : Type 0 where
   pub saved : ℕ
   pub halted : Bool
 
+-- a desk that starts again from its first facts, which are then saved
+abbrev pub started_again : DeskState → ℕ → DeskState
+started_again s keep = record { point = s.point; facts = take keep s.facts; saved = keep; halted = false }
+
 -- what a call comes to by itself
 abbrev pub comes_to : Side → DeskState → Call → Outcome
 comes_to side s (Contract contract) = contracted s.facts contract
@@ -49,12 +53,7 @@ comes_to side s Halt = Stops
 -- a full desk records no fact
 abbrev pub unless_full : List Fact → Outcome → Outcome
 unless_full history (Records fact) = if nat_le most_facts (length history) then Refuses refusals.Full else Records fact
-unless_full history (RepeatsNomination n) = RepeatsNomination n
-unless_full history (RepeatsMeeting n) = RepeatsMeeting n
-unless_full history (Saves n) = Saves n
-unless_full history (Resends id) = Resends id
-unless_full history Stops = Stops
-unless_full history (Refuses refusal) = Refuses refusal
+unless_full history other = other
 
 -- the first refusal whose condition holds, else what is accepted
 unfoldable pub outcome : Side → DeskState → Call → Outcome
@@ -151,12 +150,7 @@ IsForeseen side s call r = (r ≡ reply side s call) ⊎ ((r ≡ out_of_memory) 
 -- whether a desk with these facts would record the fact for some call
 abbrev pub is_record : Outcome → Bool
 is_record (Records fact) = true
-is_record (RepeatsNomination n) = false
-is_record (RepeatsMeeting n) = false
-is_record (Saves n) = false
-is_record (Resends id) = false
-is_record Stops = false
-is_record (Refuses refusal) = false
+is_record other = false
 
 abbrev pub would_record : Side → List ℕ → List Fact → Fact → Bool
 would_record side point history (facts.Contracted contract) = is_record (contracted history contract)

@@ -3,7 +3,8 @@ use Rattle.std.specs.Prelude.{ℕ, List, [], ◌∷◌, map, filter, Bool, Optio
 use Rattle.std.specs.Ordering.{is_lt}
 use Rattle.std.specs.Str.{bytes_eq}
 use Rattle.gi_pairs.specs.Key.{code_cmp}
-use Rattle.gi_pairs.specs.declared.pair.Pair.{Pair}
+use Rattle.gi_pairs.specs.Pair.{code_at}
+use Rattle.gi_pairs.specs.Side.{other}
 use Rattle.gi_pairs.specs.declared.row.Row.{Row}
 use Rattle.gi_pairs.specs.declared.side.Side.{Side}
 use Rattle.gi_pairs.specs.declared.side.Side.TheVariants.{I, M}
@@ -18,7 +19,7 @@ use Rattle.gi_messages.specs.declared.message.Nomint.{Nomint}
 use Rattle.gi_messages.specs.declared.message.Nomres.{Nomres}
 use Rattle.gi_cycles.specs.States.{FrozenCycle, MatchedCycle}
 use Rattle.gi_desk.specs.declared.packet.Packet.{Packet}
-use Rattle.gi_desk.specs.declared.recipient.Recipient.TheVariants.{Peer, User}
+use Rattle.gi_desk.specs.declared.packet.Recipient.TheVariants.{Peer, User}
 
 abbrev pub to_peer : Message → Packet
 to_peer message = record { to = Peer; body = text_of message }
@@ -38,15 +39,6 @@ order_of point cycle = record { point = point; day = cycle.id.day; cycle = cycle
 abbrev pub response_of : List ℕ → MatchedCycle → Delres
 response_of point cycle = record { point = point; day = cycle.id.day; cycle = cycle.id.cycle; processed = cycle.own; confirmed = cycle.confirmed }
 
--- a pair's portfolio at the side, and its counterparty at the other one
-abbrev pub own_of : Side → Pair → List ℕ
-own_of I pair = pair.initiating
-own_of M pair = pair.matching
-
-abbrev pub other_of : Side → Pair → List ℕ
-other_of I pair = pair.matching
-other_of M pair = pair.initiating
-
 -- the side's portfolios that stand in rows, each once, by code
 abbrev pub with_code : List ℕ → List (List ℕ) → List (List ℕ)
 with_code code [] = code ∷ []
@@ -54,14 +46,14 @@ with_code code (x ∷ xs) = if bytes_eq code x then x ∷ xs else (if is_lt (cod
 
 abbrev pub portfolios_in : Side → List Row → List (List ℕ)
 portfolios_in side [] = []
-portfolios_in side (row ∷ rows) = with_code (own_of side row.pair) (portfolios_in side rows)
+portfolios_in side (row ∷ rows) = with_code (code_at side row.pair) (portfolios_in side rows)
 
 -- the rows of a portfolio as lines, in table order: by counterparty, then `IM` before `MI`
 abbrev pub is_row_of : Side → List ℕ → Row → Bool
-is_row_of side portfolio row = bytes_eq (own_of side row.pair) portfolio
+is_row_of side portfolio row = bytes_eq (code_at side row.pair) portfolio
 
 abbrev pub line_of : Side → Row → Line
-line_of side row = record { counterparty = other_of side row.pair; direction = row.direction; hours = row.hours }
+line_of side row = record { counterparty = code_at (other side) row.pair; direction = row.direction; hours = row.hours }
 
 abbrev pub lines_of : Side → List ℕ → List Row → List Line
 lines_of side portfolio rows = map (line_of side) (filter (is_row_of side portfolio) rows)

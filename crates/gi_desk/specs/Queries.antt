@@ -42,17 +42,10 @@ stage_of (states.Collecting id) = Collecting
 stage_of (states.Frozen cycle) = Frozen
 stage_of (states.Matched cycle) = Matched
 
--- the confirmed table of a cycle that is matched
-abbrev pub table_in : CycleState → Option TableContents
-table_in (states.Collecting id) = None
-table_in (states.Frozen cycle) = None
-table_in (states.Matched cycle) = Some cycle.confirmed
-
 -- the cycle, where it is matched
 abbrev pub matched_in : CycleState → Option MatchedCycle
-matched_in (states.Collecting id) = None
-matched_in (states.Frozen cycle) = None
 matched_in (states.Matched cycle) = Some cycle
+matched_in state = None
 
 -- A cycle where a saved fact met the peer's table: matched by the frozen table and that one.
 unfoldable pub met_saved : Side → DeskState → CycleId → Option MatchedCycle

@@ -1,6 +1,6 @@
 ghost use Rattle.std.specs.Prelude.{◌≡◌, IfOk};
 
-use crate::body::Body;
+use crate::packet::Body;
 use gi_facts::Fact;
 use gi_pairs::CycleId;
 use gi_processing::{Contract, Notice};

@@ -1,13 +1,11 @@
 //! What a role's decision is made of.
 
-ghost use Rattle.std.specs.Prelude.{◌≡◌, ◌≤◌, ◌↔◌, IsTrue, length};
+ghost use Rattle.std.specs.Prelude.{◌≡◌, ◌≤◌, length};
 ghost use Rattle.gi_pairs.specs.Limits.{most_rows};
-ghost use Rattle.gi_lesser.specs.Lesser.{HasShapeOf};
-ghost use Rattle.gi_desk.specs.Deciding.{difference as difference_of, met_again as met_again_of, same_hours as same_hours_of};
+ghost use Rattle.gi_desk.specs.Deciding.{difference as difference_of, met_again as met_again_of};
 
 use crate::decision::Decision;
 use crate::refusal::Refusal;
-use gi_facts::same_table;
 use gi_pairs::{Row, Table};
 
 /// The least place, from 1, at which two lists of rows differ; a row that one of them lacks
@@ -32,17 +30,9 @@ pub fn difference(rows: &[Row], others: &[Row]) -> Option<u32>
 pub fn met_again(met: &Table, peer: &Table) -> Decision
     ensures { result ≡ met_again_of met.now peer.now }
 {
-    if same_table(met, peer) {
+    if met == peer {
         Decision::Again
     } else {
         Decision::Refused(Refusal::Conflict)
     }
-}
-
-/// Whether both tables are for the same hours.
-pub fn same_hours(own: &Table, peer: &Table) -> bool
-    ensures value { result ≡ same_hours_of own.now peer.now }
-    ensures shape { IsTrue result ↔ HasShapeOf own.now peer.now }
-{
-    own.first() == peer.first() && own.last() == peer.last()
 }

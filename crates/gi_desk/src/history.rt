@@ -19,7 +19,6 @@ use gi_pairs::{Code, CycleId};
 use gi_processing::{Contract, ContractFault, Contracts, Notice, NoticeFault};
 use std::alloc::{AllocError, Global};
 
-/// Whether the fact is the closing of the cycle.
 fn closes(fact: &Fact, id: CycleId) -> bool
     ensures { result ≡ is_closing id fact.now }
 {
@@ -29,7 +28,6 @@ fn closes(fact: &Fact, id: CycleId) -> bool
     }
 }
 
-/// Whether the fact is the meeting of the cycle.
 fn meets(fact: &Fact, id: CycleId) -> bool
     ensures { result ≡ is_meeting id fact.now }
 {
@@ -39,7 +37,6 @@ fn meets(fact: &Fact, id: CycleId) -> bool
     }
 }
 
-/// Whether the fact is the taking of a nomination of the same portfolio, gas day and version.
 fn takes(fact: &Fact, document: &Nomint) -> bool
     ensures { result ≡ is_taking document.now fact.now }
 {
@@ -53,7 +50,6 @@ fn takes(fact: &Fact, document: &Nomint) -> bool
     }
 }
 
-/// Whether the cycle is closed.
 #[tactic(auto, unfolding(crate::specs::History::is_closed))]
 pub(crate) fn is_closed(facts: &[Fact], id: CycleId) -> bool
     ensures { result ≡ is_closed_in id facts.now }
@@ -89,7 +85,6 @@ pub(crate) fn number_of_taking(facts: &[Fact], document: &Nomint) -> usize
     place.unwrap_or(facts.len()) + 1
 }
 
-/// The number of the cycle, where the fact closes one of the gas day.
 #[tactic(auto, unfolding(crate::specs::History::last_closed, crate::specs::History::closings))]
 fn closed_on(fact: &Fact, day: GasDay) -> Option<u8>
     ensures { result ≡ last_closed_of day (fact.now ∷ []) }
@@ -100,7 +95,6 @@ fn closed_on(fact: &Fact, day: GasDay) -> Option<u8>
     }
 }
 
-/// The number of the gas day's cycle that was closed last.
 #[tactic(auto, unfolding(crate::specs::History::last_closed, crate::specs::History::closings))]
 pub(crate) fn last_closed(facts: &[Fact], day: GasDay) -> Option<u8>
     ensures { result ≡ last_closed_of day facts.now }
@@ -112,8 +106,7 @@ pub(crate) fn last_closed(facts: &[Fact], day: GasDay) -> Option<u8>
     last
 }
 
-/// Sets a contract that is not refused.
-fn set(contracts: &mut Contracts, contract: Contract) -> Result<(), AllocError>
+fn record_contract(contracts: &mut Contracts, contract: Contract) -> Result<(), AllocError>
     requires { is_refused contract contracts.now.contracts ≡ false }
     ensures { OnOk result (contracts.new ≡ with_contract contracts.old contract) }
 {
@@ -124,8 +117,11 @@ fn set(contracts: &mut Contracts, contract: Contract) -> Result<(), AllocError>
     }
 }
 
-/// Records a notice that has no fault.
-fn cut(contracts: &mut Contracts, calendar: &Calendar, notice: Notice) -> Result<(), AllocError>
+fn record_notice(
+    contracts: &mut Contracts,
+    calendar: &Calendar,
+    notice: Notice,
+) -> Result<(), AllocError>
     requires { notice_refusal notice ≡ None }
     ensures { OnOk result (contracts.new ≡ with_notice contracts.old notice) }
 {
@@ -139,7 +135,6 @@ fn cut(contracts: &mut Contracts, calendar: &Calendar, notice: Notice) -> Result
     }
 }
 
-/// Records the contract or the notice that the fact records, if any.
 fn record(contracts: &mut Contracts, calendar: &Calendar, fact: &Fact) -> Result<(), AllocError>
     requires contract { (contract : Contract) → fact.now ≡ Contracted contract → is_refused contract contracts.now.contracts ≡ false }
     requires notice { (notice : Notice) → fact.now ≡ Noticed notice → notice_refusal notice ≡ None }
@@ -147,8 +142,8 @@ fn record(contracts: &mut Contracts, calendar: &Calendar, fact: &Fact) -> Result
     ensures notices { OnOk result (contracts.new.notices ≡ contracts.old.notices ++ (capacity_of (fact.now ∷ [])).notices) }
 {
     match fact {
-        Fact::Contracted(contract) => set(contracts, *contract),
-        Fact::Noticed(notice) => cut(contracts, calendar, *notice),
+        Fact::Contracted(contract) => record_contract(contracts, *contract),
+        Fact::Noticed(notice) => record_notice(contracts, calendar, *notice),
         _ => Ok(()),
     }
 }
@@ -169,7 +164,6 @@ pub(crate) fn contracts_at(
     Ok(contracts)
 }
 
-/// Takes the nomination that the fact takes, if any.
 fn take(book: &mut Book, fact: &Fact) -> Result<(), AllocError>
     requires { (document : Nomint) → fact.now ≡ Nominated document → IsNewer book.now.documents document }
     ensures point { OnOk result (book.new.point ≡ book.old.point) }

@@ -11,7 +11,6 @@ ghost use Rattle.gi_desk.specs.declared.decision.Decision.TheVariants.{Refused};
 ghost use Rattle.gi_desk.specs.declared.refusal.Refusal.TheVariants.{OutOfMemory};
 ghost use Rattle.gi_desk.specs.Machine.{is_record as is_record_of, most_facts, unless_full as unless_full_of};
 
-use crate::deciding::same_hours;
 use crate::decision::Decision;
 use crate::history::{
     is_closed, last_closed, number_of_closing, number_of_meeting, number_of_taking,
@@ -30,7 +29,6 @@ use std::alloc::{AllocError, Global};
 /// How many facts a desk has at most.
 pub const MOST_FACTS: usize = 1_000_000;
 
-/// A contract, beside those of the facts.
 pub(crate) fn contracted(contracts: Contracts, contract: &Contract) -> Result<Outcome, AllocError>
     ensures { IfOk result (λ outcome. (facts : List Fact) → contracts ≡ capacity_of facts → outcome ≡ contracted_of facts contract.now) }
 {
@@ -42,7 +40,6 @@ pub(crate) fn contracted(contracts: Contracts, contract: &Contract) -> Result<Ou
     }
 }
 
-/// A notice.
 pub(crate) fn noticed(calendar: &Calendar, notice: &Notice) -> Outcome
     ensures { result ≡ noticed_of notice.now }
 {
@@ -55,7 +52,6 @@ pub(crate) fn noticed(calendar: &Calendar, notice: &Notice) -> Outcome
     }
 }
 
-/// The verdict on a nomination, by the book and the contracts of the facts.
 pub(crate) fn verdict(
     calendar: &Calendar,
     facts: &[Fact],
@@ -75,7 +71,6 @@ pub(crate) fn verdict(
     book.judge(&setting, document)
 }
 
-/// A nomination, by the book and the contracts of the facts.
 pub(crate) fn nominated(
     calendar: &Calendar,
     facts: &[Fact],
@@ -92,7 +87,6 @@ pub(crate) fn nominated(
     by_verdict(facts, document, verdict)
 }
 
-/// A nomination, by the verdict on it.
 fn by_verdict(facts: &[Fact], document: Nomint, verdict: Verdict) -> Outcome
     requires { length facts.now ≤ most_facts }
     ensures { result ≡ by_verdict_of facts.now document verdict }
@@ -106,7 +100,6 @@ fn by_verdict(facts: &[Fact], document: Nomint, verdict: Verdict) -> Outcome
     }
 }
 
-/// The closing of a cycle.
 pub(crate) fn closed(calendar: &Calendar, facts: &[Fact], id: &CycleId) -> Outcome
     ensures { result ≡ closed_of facts.now id.now }
 {
@@ -125,8 +118,6 @@ pub(crate) fn closed(calendar: &Calendar, facts: &[Fact], id: &CycleId) -> Outco
     Outcome::Records(Fact::Closed(*id))
 }
 
-/// The interconnection point and the cycle of the peer's message, where it is of the kind that is
-/// for the side.
 pub(crate) fn addressed(side: Side, message: &Message) -> Option<(Code, CycleId)>
     ensures value { result ≡ address_of side message.now }
     ensures kind { IfSome result (λ _. IsForRole side message.now) }
@@ -150,14 +141,12 @@ pub(crate) fn addressed(side: Side, message: &Message) -> Option<(Code, CycleId)
     }
 }
 
-/// Whether a decision is want of memory.
 pub(crate) fn is_short(decision: &Decision) -> bool
     ensures { IsTrue result ↔ (decision.now ≡ Refused OutOfMemory) }
 {
     matches!(decision, Decision::Refused(Refusal::OutOfMemory))
 }
 
-/// The peer's message, by what its role makes of it.
 pub(crate) fn decided(facts: &[Fact], id: CycleId, decision: Decision) -> Outcome
     requires few { length facts.now ≤ most_facts }
     ensures { result ≡ by_decision facts.now id decision }
@@ -171,20 +160,18 @@ pub(crate) fn decided(facts: &[Fact], id: CycleId, decision: Decision) -> Outcom
     }
 }
 
-/// Whether a cycle that is so far can meet the peer's table.
 pub(crate) fn can_meet(state: &CycleState, peer: &Table) -> bool
     ensures { (facts : List Fact) (id : CycleId) → result ≡ (is_record_of (by_decision facts id (by_order peer.now state.now)) && nat_le (length peer.now.rows) most_processed_rows) }
 {
     match state {
         CycleState::Collecting(_) => false,
         CycleState::Frozen(cycle) => {
-            same_hours(cycle.own(), peer) && peer.rows().len() <= MOST_PROCESSED_ROWS
+            cycle.own().covers_same_hours(peer) && peer.rows().len() <= MOST_PROCESSED_ROWS
         }
         CycleState::Matched(_) => false,
     }
 }
 
-/// A cycle's packets again.
 pub(crate) fn resent(facts: &[Fact], saved: u32, id: &CycleId) -> Outcome
     ensures { result ≡ resent_of facts.now saved id.now }
 {
@@ -195,7 +182,6 @@ pub(crate) fn resent(facts: &[Fact], saved: u32, id: &CycleId) -> Outcome
     Outcome::Resends(*id)
 }
 
-/// The mark of a fact as number `n`, which is this one.
 fn if_same(n: u32, fact: &Fact, next: &Fact) -> Outcome
     ensures { result ≡ if_same_fact n fact.now (Some next.now) }
 {
@@ -205,7 +191,6 @@ fn if_same(n: u32, fact: &Fact, next: &Fact) -> Outcome
     Outcome::Saves { n }
 }
 
-/// The mark of a fact.
 pub(crate) fn marked(facts: &[Fact], saved: u32, n: u32, fact: &Fact) -> Outcome
     requires { saved ≤ most_facts }
     ensures { result ≡ marked_of facts.now saved n fact.now }
@@ -221,14 +206,12 @@ pub(crate) fn marked(facts: &[Fact], saved: u32, n: u32, fact: &Fact) -> Outcome
     if_same(n, fact, &facts[place])
 }
 
-/// Whether a fact is recorded.
 pub(crate) fn is_record(outcome: &Outcome) -> bool
     ensures { result ≡ is_record_of outcome.now }
 {
     matches!(outcome, Outcome::Records(_))
 }
 
-/// Where no fact more can be recorded, none is.
 pub(crate) fn unless_full(facts: &[Fact], outcome: Outcome) -> Outcome
     ensures { result ≡ unless_full_of facts.now outcome }
 {

@@ -44,21 +44,17 @@
 //! what comes of a cycle. The laws of any number of calls are the functions of `laws.rt`.
 #![tactic(auto)]
 
-mod answer;
-mod body;
 mod call;
 mod deciding;
 mod decision;
 mod desk;
+mod fact_packets;
 mod history;
 mod judging;
 mod laws;
-mod letting_out;
 mod outcome;
 mod packet;
-mod packets;
 mod ranges;
-mod recipient;
 mod refusal;
 mod replay_fault;
 mod reply;
@@ -67,10 +63,8 @@ mod stage_name;
 mod stages;
 mod telling;
 
-pub use answer::Answer;
-pub use body::Body;
 pub use call::Call;
-pub use deciding::{difference, met_again, same_hours};
+pub use deciding::{difference, met_again};
 pub use decision::Decision;
 pub use desk::Desk;
 pub use gi_facts::{Fact, FactFault, decode_fact, encode_fact};
@@ -82,11 +76,9 @@ pub use laws::{
     writes_messages,
 };
 pub use outcome::Outcome;
-pub use packet::Packet;
-pub use packets::Packets;
-pub use recipient::Recipient;
+pub use packet::{Body, Packet, Packets, Recipient};
 pub use refusal::Refusal;
 pub use replay_fault::ReplayFault;
-pub use reply::Reply;
+pub use reply::{Answer, Reply};
 pub use role::Role;
 pub use stage_name::StageName;

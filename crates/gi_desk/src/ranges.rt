@@ -13,42 +13,40 @@ use gi_messages::Line;
 use gi_processing::Contract;
 
 /// Every contract has a code, a gas day and quantities in range.
-pub(crate) fn contract_in_range(contract: &Contract)
+fn contract_known(contract: &Contract)
     ensures { FitsContract contract.now }
 {
-    let _ = contract.portfolio.as_str();
-    contract.day.in_range();
-    let _ = contract.firm.value();
-    let _ = contract.interruptible.value();
+    contract.portfolio.known();
+    contract.day.known();
+    contract.firm.known();
+    contract.interruptible.known();
 }
 
 /// Every line has a code and quantities in range.
-pub(crate) fn lines_in_range(lines: &[Line])
+fn lines_known(lines: &[Line])
     ensures { All FitsLine lines.now }
 {
     for line in lines {
-        let _ = line.counterparty.as_str();
-        let _ = line.hours.as_slice();
+        line.counterparty.known();
+        line.hours.known();
     }
 }
 
 /// Every fact that a desk would record can be written.
-pub(crate) fn fact_in_range(fact: &Fact)
+pub(crate) fn fact_known(fact: &Fact)
     requires { (side : Side) × (point : List ℕ) × (before : List Fact) × FitsDesk side point before × (would_record side point before fact.now ≡ true) }
     ensures { FitsFact fact.now }
 {
     match fact {
-        Fact::Contracted(contract) => contract_in_range(contract),
-        Fact::Noticed(notice) => notice.day.in_range(),
+        Fact::Contracted(contract) => contract_known(contract),
+        Fact::Noticed(notice) => notice.day.known(),
         Fact::Nominated(document) => {
-            let _ = document.point.as_str();
-            let _ = document.portfolio.as_str();
-            document.day.in_range();
-            lines_in_range(document.lines.as_slice());
+            document.point.known();
+            document.portfolio.known();
+            document.day.known();
+            lines_known(document.lines.as_slice());
         }
-        Fact::Closed(id) => id.day.in_range(),
-        Fact::Met { peer, .. } => {
-            let _ = peer.rows();
-        }
+        Fact::Closed(id) => id.day.known(),
+        Fact::Met { peer, .. } => peer.known(),
     }
 }

@@ -19,7 +19,6 @@ use gi_pairs::{CycleId, Table};
 use std::alloc::{AllocError, Global};
 use std::mem;
 
-/// Which cycle it is.
 fn cycle_of(state: &CycleState) -> CycleId
     ensures { result ≡ id_of state.now }
 {
@@ -30,7 +29,6 @@ fn cycle_of(state: &CycleState) -> CycleId
     }
 }
 
-/// How far it is.
 pub(crate) fn stage(state: &CycleState) -> StageName
     ensures { result ≡ stage_of state.now }
 {
@@ -41,21 +39,19 @@ pub(crate) fn stage(state: &CycleState) -> StageName
     }
 }
 
-/// How far the cycle is, if it is closed.
 pub(crate) fn find(states: &[CycleState], id: CycleId) -> Option<&CycleState>
     ensures { (side : Side) (facts : List Fact) → states.now ≡ states_of side facts → option_copied result ≡ closed_state side facts id }
 {
     states.iter().find(|state| cycle_of(state) == id)
 }
 
-/// Makes the frozen cycle meet the peer's table, which is for the same hours and has at most 4,096
-/// rows. Where memory runs out it stays frozen.
 fn meet_in(alloc: Global, state: &mut CycleState, peer: Table) -> Result<(), AllocError>
     requires frozen { (cycle : FrozenCycle) × (state.now ≡ Frozen cycle) × HasShapeOf cycle.own peer }
     requires few { length peer.rows ≤ most_processed_rows }
     ensures met { (cycle : FrozenCycle) → state.old ≡ Frozen cycle → OnOk result (state.new ≡ Matched (matched_of cycle peer)) }
     ensures kept { OnErr result (state.new ≡ state.old) }
 {
+    // What meets is moved, so for that time another state stands in its place.
     let id = cycle_of(state);
     let collecting = CycleState::Collecting(Collecting::new(id));
     let CycleState::Frozen(cycle) = mem::replace(state, collecting) else {
@@ -73,7 +69,6 @@ fn meet_in(alloc: Global, state: &mut CycleState, peer: Table) -> Result<(), All
     }
 }
 
-/// The place of the cycle among the closed ones, if it is closed.
 fn place_of(states: &[CycleState], id: &CycleId) -> Option<usize>
     ensures { result ≡ position (is_state_of id.now) states.now }
 {

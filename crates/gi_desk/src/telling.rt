@@ -2,62 +2,37 @@
 
 ghost use Rattle.std.specs.Prelude.{◌≡◌, IfOk, OnOk, Some, map};
 ghost use Rattle.gi_messages.specs.declared.message.Message.TheVariants as messages;
-ghost use Rattle.gi_desk.specs.Messages.{line_of as line_of_row, lines_of as lines_of_rows, other_of, own_of, portfolios_in as portfolios_in_rows, to_user, told_of, told_packets as told_packets_of, with_code};
+ghost use Rattle.gi_desk.specs.Messages.{line_of as line_of_row, lines_of as lines_of_rows, portfolios_in as portfolios_in_rows, to_user, told_of, told_packets as told_packets_of, with_code};
 ghost use Rattle.gi_desk.specs.Queries.{stands_in as stands_in_rows, told_if as told_if_met};
 
-use crate::body::Body;
-use crate::packet::Packet;
-use crate::recipient::Recipient;
+use crate::packet::{Packet, Recipient};
 use gi_cycles::Matched;
-use gi_messages::{Line, Lines, Message, Nomres, encode};
-use gi_pairs::{Code, Pair, Row, Side};
+use gi_messages::{Line, Lines, Message, Nomres};
+use gi_pairs::{Code, Row, Side};
 use std::alloc::{AllocError, Global};
 
-/// A pair's portfolio at the side.
-fn own_code(side: Side, pair: Pair) -> Code
-    ensures { result ≡ own_of side pair }
-{
-    match side {
-        Side::I => pair.initiating,
-        Side::M => pair.matching,
-    }
-}
-
-/// Its counterparty at the other side.
-fn other_code(side: Side, pair: Pair) -> Code
-    ensures { result ≡ other_of side pair }
-{
-    match side {
-        Side::I => pair.matching,
-        Side::M => pair.initiating,
-    }
-}
-
-/// The row as a line for the side's portfolio.
 fn line_of(side: Side, row: &Row) -> Result<Line, AllocError>
     ensures { IfOk result (λ line. line ≡ line_of_row side row.now) }
 {
     Ok(Line {
-        counterparty: other_code(side, row.pair),
+        counterparty: row.pair.at(side.other()),
         direction: row.direction,
         hours: row.hours.copy()?,
     })
 }
 
-/// The rows of a portfolio as lines, in their order.
 fn lines_of(alloc: Global, side: Side, portfolio: Code, rows: &[Row]) -> Result<Lines, AllocError>
     ensures { IfOk result (λ lines. lines ≡ lines_of_rows side portfolio rows.now) }
 {
     let mut lines = Vec::new(alloc);
     for row in rows {
-        if own_code(side, row.pair) == portfolio {
+        if row.pair.at(side) == portfolio {
             lines.push(line_of(side, row)?)?;
         }
     }
     Ok(Lines::from(lines))
 }
 
-/// What a portfolio is told: its confirmed rows.
 fn told(
     alloc: Global,
     side: Side,
@@ -80,14 +55,12 @@ fn told(
     })
 }
 
-/// Whether the side's portfolio stands in one of the rows.
 fn stands_in(side: Side, portfolio: Code, rows: &[Row]) -> bool
     ensures { result ≡ stands_in_rows side portfolio rows.now }
 {
-    rows.iter().any(|row| own_code(side, row.pair) == portfolio)
+    rows.iter().any(|row| row.pair.at(side) == portfolio)
 }
 
-/// What a portfolio is told, where it stands in a confirmed row.
 pub(crate) fn told_if(
     alloc: Global,
     side: Side,
@@ -103,7 +76,6 @@ pub(crate) fn told_if(
     Ok(Some(told(alloc, side, point, cycle, portfolio)?))
 }
 
-/// The packet that tells a portfolio.
 fn packet_for(
     alloc: Global,
     side: Side,
@@ -114,13 +86,9 @@ fn packet_for(
     ensures { IfOk result (λ packet. packet ≡ to_user portfolio (messages.Nomres (told_of side point cycle.now portfolio))) }
 {
     let message = Message::Nomres(told(alloc, side, point, cycle, portfolio)?);
-    Ok(Packet {
-        to: Recipient::User(portfolio),
-        body: Body::from(encode(alloc, &message)?),
-    })
+    Packet::of(alloc, Recipient::User(portfolio), &message)
 }
 
-/// The packets that tell these portfolios, in their order.
 pub(crate) fn packets_for(
     alloc: Global,
     side: Side,
@@ -149,13 +117,12 @@ fn insert(codes: &mut Vec<Code>, code: Code) -> Result<(), AllocError>
     Ok(())
 }
 
-/// The side's portfolios that stand in the rows, each once, by code.
 fn portfolios_in(alloc: Global, side: Side, rows: &[Row]) -> Result<Vec<Code>, AllocError>
     ensures { IfOk result (λ codes. codes.items ≡ portfolios_in_rows side rows.now) }
 {
     let mut codes = Vec::new(alloc);
     for row in rows.iter().rev() {
-        insert(&mut codes, own_code(side, row.pair))?;
+        insert(&mut codes, row.pair.at(side))?;
     }
     Ok(codes)
 }

@@ -24,11 +24,11 @@ impl Role for Initiating {
     }
 
     fn on_closed(
-        alloc: Global,
+        _alloc: Global,
         point: Code,
         cycle: &Frozen,
     ) -> Result<Option<Message>, AllocError> {
-        Ok(Some(Message::Delord(order_for(alloc, point, cycle)?)))
+        Ok(Some(Message::Delord(order_for(point, cycle)?)))
     }
 
     fn on_met(

@@ -1,11 +1,12 @@
 ghost use Rattle.std.specs.Prelude.{◌≡◌, ◌≤◌, IfErr, IfOk, IsTrue, length};
 ghost use Rattle.std.specs.Option.{option_copied};
 ghost use Rattle.gi_pairs.specs.Limits.{most_processed_rows};
-ghost use Rattle.gi_desk.specs.Deciding.{IsUnlessShort, by_response, compared, may_want, same_hours as same_hours_of};
+ghost use Rattle.gi_pairs.specs.Table.{same_hours};
+ghost use Rattle.gi_desk.specs.Deciding.{IsUnlessShort, by_response, compared, may_want};
 ghost use Rattle.gi_initiator.specs.Taking.{taking};
 
 use gi_cycles::CycleState;
-use gi_desk::{Decision, Refusal, difference, met_again, same_hours};
+use gi_desk::{Decision, Refusal, difference, met_again};
 use gi_lesser::lesser;
 use gi_messages::Delres;
 use gi_pairs::Table;
@@ -22,9 +23,9 @@ fn taken(
     requires own { length own.now.rows ≤ most_processed_rows }
     requires processed { length response.now.processed.rows ≤ most_processed_rows }
     ensures decided { IfOk result (λ decision. decision ≡ compared own.now response.now.processed response.now.confirmed (taking (option_copied met.entry) response.now.processed)) }
-    ensures short { IfErr result (λ _. IsTrue (same_hours_of own.now response.now.processed)) }
+    ensures short { IfErr result (λ _. IsTrue (same_hours own.now response.now.processed)) }
 {
-    if !same_hours(own, &response.processed) {
+    if !own.covers_same_hours(&response.processed) {
         return Ok(Decision::Refused(Refusal::ShapeDiffers));
     }
     let lesser = lesser(alloc, own, &response.processed)?;

@@ -16,9 +16,9 @@ impl Role for Matching {
 
     const SIDE: Side = Side::M;
 
-    fn decide(alloc: Global, state: &CycleState, message: &Message) -> Decision {
+    fn decide(_alloc: Global, state: &CycleState, message: &Message) -> Decision {
         match message {
-            Message::Delord(order) => take_order(alloc, state, order),
+            Message::Delord(order) => take_order(state, order),
             _ => Decision::Refused(Refusal::WrongKind),
         }
     }
@@ -31,7 +31,7 @@ impl Role for Matching {
         Ok(None)
     }
 
-    fn on_met(alloc: Global, point: Code, cycle: &Matched) -> Result<Option<Message>, AllocError> {
-        Ok(Some(Message::Delres(response_for(alloc, point, cycle)?)))
+    fn on_met(_alloc: Global, point: Code, cycle: &Matched) -> Result<Option<Message>, AllocError> {
+        Ok(Some(Message::Delres(response_for(point, cycle)?)))
     }
 }

@@ -1,25 +1,24 @@
 ghost use Rattle.gi_desk.specs.Deciding.{IsUnlessShort, by_order, may_want};
 
 use gi_cycles::CycleState;
-use gi_desk::{Decision, Refusal, met_again, same_hours};
+use gi_desk::{Decision, Refusal, met_again};
 use gi_messages::Delord;
-use std::alloc::Global;
 
 /// What comes of an order in a state of its cycle: `NotClosed` while nominations are collected;
 /// `ShapeDiffers` where its table is for other hours than the frozen one. A frozen cycle meets the
 /// table; a matched one has met it already, or answers `Conflict`. `OutOfMemory` comes only where
 /// the cycle is closed and the hours are the same.
-pub fn take_order(_alloc: Global, state: &CycleState, order: &Delord) -> Decision
+pub fn take_order(state: &CycleState, order: &Delord) -> Decision
     ensures { IsUnlessShort (may_want order.now.processed state.now) (by_order order.now.processed state.now) result }
 {
     let peer = &order.processed;
     match state {
         CycleState::Collecting(_) => Decision::Refused(Refusal::NotClosed),
-        CycleState::Frozen(cycle) if same_hours(cycle.own(), peer) => match peer.copy() {
+        CycleState::Frozen(cycle) if cycle.own().covers_same_hours(peer) => match peer.copy() {
             Ok(peer) => Decision::Meet(peer),
             Err(_) => Decision::Refused(Refusal::OutOfMemory),
         },
-        CycleState::Matched(cycle) if same_hours(cycle.own(), peer) => {
+        CycleState::Matched(cycle) if cycle.own().covers_same_hours(peer) => {
             met_again(cycle.peer(), peer)
         }
         _ => Decision::Refused(Refusal::ShapeDiffers),

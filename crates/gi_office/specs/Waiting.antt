@@ -2,8 +2,8 @@
 use Rattle.std.specs.Prelude.{ℕ, Option, None, Some, if◌then◌else◌}
 use Rattle.gi_desk.specs.Machine.{DeskState}
 use Rattle.gi_desk.specs.Queries.{acknowledged}
-use Rattle.gi_desk.specs.declared.answer.Answer.{Answer}
-use Rattle.gi_desk.specs.declared.answer.Answer.TheVariants as answers
+use Rattle.gi_desk.specs.declared.reply.Answer.{Answer}
+use Rattle.gi_desk.specs.declared.reply.Answer.TheVariants as answers
 use Rattle.gi_office.specs.declared.waited.Waited.{Waited}
 use Rattle.gi_office.specs.declared.waited.Waited.TheVariants.{Saved, Stopped}
 

@@ -43,7 +43,7 @@ pub(crate) fn closings<R: Role>(alloc: Global, desk: &Desk<R>) -> Result<Vec<Cyc
 pub fn closed_cycles<R: Role>(alloc: Global, desk: &Desk<R>) -> Result<Vec<CycleId>, AllocError>
     ensures { IfOk result (λ ids. AreClosedCycles desk.now.facts ids.items) }
 {
-    desk.in_range();
+    desk.known();
     closes_once();
     let mut ids = closings(alloc, desk)?;
     ids.sort_unstable();

@@ -6,8 +6,8 @@ use Rattle.gi_carrier.specs.declared.moves.Move.{Move}
 use Rattle.gi_carrier.specs.declared.moves.Move.TheVariants.{Pass}
 use Rattle.gi_desk.specs.Machine.{is_for_peer}
 use Rattle.gi_desk.specs.Queries.{unsaved}
-use Rattle.gi_desk.specs.declared.answer.Answer.{Answer}
-use Rattle.gi_desk.specs.declared.answer.Answer.TheVariants as answers
+use Rattle.gi_desk.specs.declared.reply.Answer.{Answer}
+use Rattle.gi_desk.specs.declared.reply.Answer.TheVariants as answers
 use Rattle.gi_desk.specs.declared.call.Call.{Call}
 use Rattle.gi_desk.specs.declared.call.Call.TheVariants.{MarkSaved}
 use Rattle.gi_desk.specs.declared.packet.Packet.{Packet}

@@ -1,7 +1,7 @@
 -- No delivery tells of a packet that disagrees with what the other side saved.
 use Rattle.std.proofs.Common.{◌≡◌, ℕ, List, length, Bool, true, false, cond, nat_le, Option, Some, None, Result, refl, sym, ap, ◌∙◌, subst}
 use Rattle.std.proofs.lemmas.Slice.Eq.{bytes_eq-Decides}
-use Rattle.gi_pairs.specs.Table.{TableContents}
+use Rattle.gi_pairs.specs.Table.{TableContents, same_hours}
 use Rattle.gi_pairs.specs.declared.cycle_id.CycleId.{CycleId}
 use Rattle.gi_pairs.specs.declared.side.Side.{Side}
 use Rattle.gi_pairs.specs.declared.side.Side.TheVariants.{I, M}
@@ -11,7 +11,7 @@ use Rattle.gi_messages.specs.declared.message.Message.{Message}
 use Rattle.gi_messages.specs.declared.message_fault.MessageFault.{MessageFault}
 use Rattle.gi_cycles.specs.States.{FrozenCycle}
 use Rattle.gi_cycles.specs.declared.cycle_state.CycleState.TheVariants.{Collecting}
-use Rattle.gi_desk.specs.Deciding.{by_order, by_response, compared, difference, met_again, same_hours, unless_differs}
+use Rattle.gi_desk.specs.Deciding.{by_order, by_response, compared, difference, met_again, unless_differs}
 use Rattle.gi_desk.specs.History.{frozen_cycle, frozen_table, is_closed, met_by, peer_of, state_of}
 use Rattle.gi_desk.specs.Judging.{by_decision, delivered, of_point}
 use Rattle.gi_desk.specs.Machine.{DeskState, answer_of, comes_to, most_facts, outcome as desk_outcome, reply, unless_full}
@@ -30,7 +30,8 @@ use Rattle.gi_world.specs.declared.step.Step.{Step}
 use Rattle.gi_world.specs.declared.step.Step.TheVariants.{Local, Deliver, Restart}
 use Rattle.gi_world.proofs.FrozenTables.{frozen-is-table, same-hours}
 use Rattle.gi_world.proofs.Fronts.{front-closed, front-met, saved-front}
-use Rattle.gi_world.proofs.SameTables.{difference-self, hours-same, table-self}
+use Rattle.gi_desk.proofs.Differing.{difference-self}
+use Rattle.gi_world.proofs.SameTables.{hours-same, table-self}
 
 -- what an outcome tells of the other side
 abbrev Settles : Side → Outcome → Type 0

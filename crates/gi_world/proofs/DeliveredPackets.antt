@@ -1,20 +1,17 @@
 -- What is delivered to a side reads as the other side's order, or response, of a cycle that this one closed, or met, and
 -- saved.
-use Rattle.std.proofs.Common.{arith, ◌≡◌, ◌<◌, ◌≤◌, ◌-◌, ◌⊎◌, inl, inr, ℕ, zero, suc, List, [], ◌∷◌, length, length-take, take, get_or, get_or-take, filter, slice_get, All, Contains, Bool, true, false, cond, Option, Some, None, Ok, refl, sym, ap, ◌∙◌, subst}
+use Rattle.std.proofs.Common.{arith, ◌≡◌, ◌<◌, ◌≤◌, ◌-◌, ◌⊎◌, inl, inr, ℕ, zero, suc, List, [], ◌∷◌, length, length-take, take, get_or, get_or-take, filter, slice_get, All, Contains, Bool, true, Option, Some, None, Ok, refl, sym, ap, ◌∙◌, subst}
 use Rattle.std.proofs.lemmas.List.Elements.{All-head, All-tail}
 use Rattle.gi_pairs.specs.Code.{IsCode}
 use Rattle.gi_pairs.specs.Table.{TableContents}
 use Rattle.gi_pairs.specs.declared.cycle_id.CycleId.{CycleId}
 use Rattle.gi_pairs.specs.declared.side.Side.{Side}
 use Rattle.gi_pairs.specs.declared.side.Side.TheVariants.{I, M}
-use Rattle.gi_pairs.proofs.Building.{In, contains_from_in, in_from_contains}
+use Rattle.gi_pairs.proofs.Building.{contains_from_in, in_from_contains}
+use Rattle.gi_pairs.proofs.Members.{in_filter}
 use Rattle.gi_messages.specs.Decoding.{decoded}
-use Rattle.gi_messages.specs.Grammar.{Fits, HasFewLines}
 use Rattle.gi_messages.specs.Writing.{text_of}
-use Rattle.gi_messages.specs.declared.message.Message.{Message}
 use Rattle.gi_messages.specs.declared.message.Message.TheVariants as messages
-use Rattle.gi_messages.proofs.ShortTexts.{texts_are_short}
-use Rattle.gi_messages.proofs.WritingLemmas.{round_trip, writable_from_fits}
 use Rattle.gi_cycles.specs.States.{FrozenCycle, MatchedCycle, matched_of}
 use Rattle.gi_cycles.specs.declared.cycle_state.CycleState.TheVariants.{Matched}
 use Rattle.gi_desk.specs.History.{frozen_cycle, is_closed, met_by, peer_of, state_of}
@@ -28,23 +25,16 @@ use Rattle.gi_desk.specs.declared.packet.Packet.{Packet}
 use Rattle.gi_desk.proofs.Fitting.{state-fits}
 use Rattle.gi_desk.proofs.Legality.{legal-front}
 use Rattle.gi_desk.proofs.LettingOut.{closing_for_peer, fact_closes, fact_meets, meeting_for_peer, other_for_peer}
+use Rattle.gi_desk.proofs.ReadableLaws.{order-fits, read_back, response-fits}
+use Rattle.gi_desk.proofs.StateLaws.{state-closed}
 use Rattle.gi_world.specs.Agreement.{FitsWorld, IsLegal, IsOrdered, IsResponded, IsSent, IsSound, saved_facts}
 use Rattle.gi_world.specs.World.{WorldState, delivery, packet_at}
 
 -- ---- lists
 
-in_filter : {X : Type 0} (test : X → Bool) (xs : List X) (x : X) → In x xs → test x ≡ true → In x (filter test xs)
-in_filter test [] x there is = there
-in_filter {X} test (y ∷ ys) x (inl same) is = subst (λ (b : Bool). In x (cond b (y ∷ filter test ys) (filter test ys))) (sym (ap test same ∙ is)) (inl same)
-in_filter {X} test (y ∷ ys) x (inr later) is = behind (test y) (in_filter test ys x later is)
-  where
-    behind : (b : Bool) → In x (filter test ys) → In x (cond b (y ∷ filter test ys) (filter test ys))
-    behind true there = inr there
-    behind false there = there
-
 -- what a test keeps of a list holds what passes
 kept : {X : Type 0} (test : X → Bool) (xs : List X) (x : X) → Contains xs x → test x ≡ true → Contains (filter test xs) x
-kept test xs x there is = contains_from_in x (filter test xs) (in_filter test xs x (in_from_contains x xs there) is)
+kept test xs x there is = contains_from_in x (filter test xs) (in_filter test x xs (in_from_contains x xs there) is)
 
 the_one : (x y : Packet) → Contains (x ∷ []) y → x ≡ y
 the_one x y there = by_place (in_from_contains y (x ∷ []) there)
@@ -82,39 +72,19 @@ saved_fact facts saved n fact is below =
 
 -- ---- what is written is read
 
-pub reads : (message : Message) → Fits message → HasFewLines message → decoded (text_of message) ≡ Ok message
-reads message fits few = let writable = writable_from_fits message fits in round_trip message writable (texts_are_short message writable few)
-
 pub order_reads : (point : List ℕ) (cycle : FrozenCycle) → IsCode point → FitsFrozen cycle
     → decoded (text_of (messages.Delord (order_of point cycle))) ≡ Ok (messages.Delord (order_of point cycle))
-order_reads point cycle code fits =
-    reads (messages.Delord (order_of point cycle))
-    (record { point = code; day = fits.id.day; cycle = fits.id.cycle; processed = fits.own.table; few = fits.own.few }) tt
+order_reads point cycle code fits = read_back (messages.Delord (order_of point cycle)) (order-fits point cycle code fits) tt
 
 pub response_reads : (point : List ℕ) (cycle : MatchedCycle) → IsCode point → FitsMatched cycle
     → decoded (text_of (messages.Delres (response_of point cycle))) ≡ Ok (messages.Delres (response_of point cycle))
-response_reads point cycle code fits =
-    reads (messages.Delres (response_of point cycle))
-    (record {
-      point = code;
-      day = fits.id.day;
-      cycle = fits.id.cycle;
-      processed = fits.own.table;
-      few = fits.own.few;
-      confirmed = fits.confirmed;
-      begins = fits.begins;
-      ends = fits.ends;
-    }) tt
+response_reads point cycle code fits = read_back (messages.Delres (response_of point cycle)) (response-fits point cycle code fits) tt
 
 -- ---- the state of a closed cycle can be written
 
-pub closed_is : (side : Side) (facts : List Fact) (id : CycleId) → is_closed id facts ≡ true → state_of side facts id ≡ met_by (frozen_cycle side facts id) (peer_of id facts)
-unfolding state_of
-closed_is side facts id closed = rw closed refl
-
 pub closed_fits : (side : Side) (point : List ℕ) (facts : List Fact) (id : CycleId) → FitsDesk side point facts → is_closed id facts ≡ true
     → FitsState (met_by (frozen_cycle side facts id) (peer_of id facts))
-closed_fits side point facts id fits closed = subst FitsState (closed_is side facts id closed) (state-fits side facts id fits.states closed)
+closed_fits side point facts id fits closed = subst FitsState (state-closed side facts id closed) (state-fits side facts id fits.states closed)
 
 pub frozen_fits : (cycle : FrozenCycle) (met : Option TableContents) → FitsState (met_by cycle met) → FitsFrozen cycle
 frozen_fits cycle None fits = fits
@@ -135,14 +105,14 @@ closing_orders : (point : List ℕ) (facts : List Fact) (n : ℕ) (id : CycleId)
     → filter is_for_peer (let_out I point facts n) ≡ to_peer (messages.Delord (order_of point (frozen_cycle I facts id))) ∷ []
 closing_orders point facts n id is =
     sym (closing_for_peer I point facts n id is)
-    ∙ ap (let_out_on_closing I point) (closed_is I facts id (fact_closes facts n id is))
+    ∙ ap (let_out_on_closing I point) (state-closed I facts id (fact_closes facts n id is))
     ∙ ordered_by point (frozen_cycle I facts id) (peer_of id facts)
 
 -- at the matching one nothing
 closing_is_silent : (point : List ℕ) (facts : List Fact) (n : ℕ) (id : CycleId) → IsFact facts n (Closed id) → filter is_for_peer (let_out M point facts n) ≡ []
 closing_is_silent point facts n id is =
     sym (closing_for_peer M point facts n id is)
-    ∙ ap (let_out_on_closing M point) (closed_is M facts id (fact_closes facts n id is))
+    ∙ ap (let_out_on_closing M point) (state-closed M facts id (fact_closes facts n id is))
     ∙ unanswered_by point (frozen_cycle M facts id) (peer_of id facts)
 
 -- a meeting lets out what the role writes of it
@@ -151,7 +121,7 @@ meeting_writes : (side : Side) (point : List ℕ) (facts : List Fact) (n : ℕ) 
 meeting_writes side point facts n id peer legal is =
     let met = fact_meets side point facts n id peer legal is in
     let cycle = matched_of (frozen_cycle side facts id) peer in
-    let matched : state_of side facts id ≡ Matched cycle = closed_is side facts id met.0 ∙ ap (met_by (frozen_cycle side facts id)) met.1 in
+    let matched : state_of side facts id ≡ Matched cycle = state-closed side facts id met.0 ∙ ap (met_by (frozen_cycle side facts id)) met.1 in
     sym (meeting_for_peer side point facts n id peer cycle legal is (sym matched))
 
 pub none_there : (packets : List Packet) (packet : Packet) → packets ≡ [] → Contains packets packet → ⊥

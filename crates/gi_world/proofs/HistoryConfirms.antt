@@ -21,6 +21,7 @@ use Rattle.gi_world.specs.Confirming.{ConfirmsByHistory, IsLowerOfFrozen, closin
 use Rattle.gi_world.specs.Histories.{History, held, held_by, history_of}
 use Rattle.gi_world.specs.World.{StationState, WorldState, station_of}
 use Rattle.gi_world.proofs.ConfirmedLaws.{confirms-at-both, confirms-lower}
+use Rattle.gi_world.proofs.Meetings.{some_in}
 
 -- ---- a closed cycle is closed exactly once
 
@@ -108,10 +109,6 @@ desk_confirms side station id = refl
 
 -- ---- both histories
 
-is_table : (o : Option TableContents) → is_some o ≡ true → (table : TableContents) × (o ≡ Some table)
-is_table None e = absurd cc
-is_table (Some table) e = (table, refl)
-
 -- of each side, the history that it holds in a world
 tables_at : (side : Side) (w : WorldState) (id : CycleId) → is_some (table_confirmed side (history_of side (held w)) id) ≡ has_confirmed (history_of side (held w)) id
 tables_at I w id = has_table I (held_by w.initiating) id
@@ -133,7 +130,7 @@ lower_at w sound fits side id table e =
 
 matching_at : (w : WorldState) → IsSound w → (id : CycleId) → has_confirmed (held w).initiating id ≡ true → has_confirmed (held w).matching id ≡ true
 matching_at w sound id e =
-    let (table, is) = is_table (table_confirmed I (held_by w.initiating) id) (has_table I (held_by w.initiating) id ∙ e) in
+    let (table, is) = some_in (table_confirmed I (held_by w.initiating) id) (has_table I (held_by w.initiating) id ∙ e) in
     sym (has_table M (held_by w.matching) id) ∙ ap is_some (sym (desk_confirms M w.matching id))
     ∙ confirms-at-both w sound id table (desk_confirms I w.initiating id ∙ is)
 

@@ -12,7 +12,7 @@ use Rattle.gi_messages.specs.declared.message.Message.{Message}
 use Rattle.gi_messages.specs.declared.message.Message.TheVariants as messages
 use Rattle.gi_messages.specs.declared.message_fault.MessageFault.{MessageFault}
 use Rattle.gi_desk.specs.History.{frozen_table, is_closed, peer_in, peer_of}
-use Rattle.gi_desk.specs.Machine.{DeskState, after as desk_after, next_of, outcome as desk_outcome}
+use Rattle.gi_desk.specs.Machine.{DeskState, after as desk_after, next_of, outcome as desk_outcome, started_again}
 use Rattle.gi_facts.specs.Same.{same_cycle}
 use Rattle.gi_desk.specs.declared.call.Call.{Call}
 use Rattle.gi_desk.specs.declared.call.Call.TheVariants as calls
@@ -25,7 +25,7 @@ use Rattle.gi_desk.specs.declared.packet.Packet.{Packet}
 use Rattle.gi_desk.proofs.StepFacts.{only-appends}
 use Rattle.gi_world.specs.Agreement.{FitsWorld, IsOrdered, IsResponded, IsSound, MeetsAfter, MeetsFrozen, saved_facts}
 use Rattle.gi_world.specs.Histories.{fact_named_by, meeting_in, nomination_in}
-use Rattle.gi_world.specs.World.{StationState, WorldState, after, after_call, after_delivery, after_if, after_restart, delivery, is_delivery, new_world, other, station_of, with_station}
+use Rattle.gi_world.specs.World.{StationState, WorldState, after, after_call, after_delivery, after_if, after_restart, delivery, is_delivery, other, station_of, with_station}
 use Rattle.gi_world.specs.declared.step.Step.{Step}
 use Rattle.gi_world.specs.declared.step.Step.TheVariants.{Local, Deliver, Restart}
 use Rattle.gi_world.specs.declared.world_fault.WorldFault.TheVariants.{KeepsTooFew, KeepsTooMany}
@@ -85,10 +85,7 @@ call_moved side s call within =
       meets = λ id table met. meets_by s (desk_outcome side s call) (fact_named_by call) id table (records-named side s call) met;
     }
 
-abbrev kept : DeskState → ℕ → DeskState
-kept s keep = record { point = s.point; facts = take keep s.facts; saved = keep; halted = false }
-
-restart_moved : (s : DeskState) (keep : ℕ) → s.saved ≤ keep → IsMoved s (kept s keep) None
+restart_moved : (s : DeskState) (keep : ℕ) → s.saved ≤ keep → IsMoved s (started_again s keep) None
 restart_moved s keep above = record {
   front = subst (IsFront (saved_facts s)) (sym (take-take keep keep s.facts (omega arith))) (front-within s.facts s.saved keep above);
   meets = λ id table met. inl (front-met (take keep s.facts) s.facts id table (front-take s.facts keep) met);
@@ -119,7 +116,7 @@ moved_after : (s next peer : DeskState) (new : Option Fact) → MeetsAfter s pee
     → ((id : CycleId) (table : TableContents) → new ≡ Some (Met id table) → is_some (peer_of id (saved_facts peer)) ≡ true) → MeetsAfter next peer
 moved_after s next peer new met moved may = λ id table there. ⊎_elim (λ old. met id table old) (λ fresh. may id table fresh) (moved.meets id table there)
 
-some_in : (o : Option TableContents) → is_some o ≡ true → (table : TableContents) × (o ≡ Some table)
+pub some_in : (o : Option TableContents) → is_some o ≡ true → (table : TableContents) × (o ≡ Some table)
 some_in None e = absurd cc
 some_in (Some table) e = (table, refl)
 
@@ -253,15 +250,3 @@ met-sound orders responses w step sound fits = (step_met orders responses w step
 pub after-sound : DeliversOrders → DeliversResponses → (w : WorldState) (step : Step) → IsSound w → FitsWorld w
     → MeetsAfter (after w step).initiating.desk (after w step).matching.desk
 after-sound orders responses w step sound fits = (step_met orders responses w step sound fits).after
-
--- a desk without facts met nothing
-met_none : (id : CycleId) (table : TableContents) → peer_of id [] ≡ Some table → ⊥
-unfolding peer_of
-met_none id table e = absurd cc
-
-pub new-met : (point : List ℕ) (side : Side) → MeetsFrozen side (station_of side (new_world point)).desk (station_of (other side) (new_world point)).desk
-new-met point I = λ id table met. absurd (met_none id table met)
-new-met point M = λ id table met. absurd (met_none id table met)
-
-pub new-after : (point : List ℕ) → MeetsAfter (new_world point).initiating.desk (new_world point).matching.desk
-new-after point = λ id table met. absurd (met_none id table met)

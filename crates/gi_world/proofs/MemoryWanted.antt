@@ -8,7 +8,7 @@ use Rattle.gi_lesser.specs.Lesser.{lesser_of}
 use Rattle.gi_processing.specs.Recording.{has_hours, is_over, is_refused, notice_refusal}
 use Rattle.gi_processing.specs.declared.notice.Notice.{Notice}
 use Rattle.gi_processing.specs.declared.notice_fault.NoticeFault.TheVariants as notices
-use Rattle.gi_pairs.specs.Table.{TableContents, table_eq}
+use Rattle.gi_pairs.specs.Table.{TableContents, same_hours, table_eq}
 use Rattle.gi_pairs.specs.declared.cycle_id.CycleId.{CycleId}
 use Rattle.gi_pairs.specs.declared.side.Side.{Side}
 use Rattle.gi_pairs.specs.declared.side.Side.TheVariants.{I, M}
@@ -21,11 +21,11 @@ use Rattle.gi_nominations.specs.declared.verdict.Verdict.{Verdict}
 use Rattle.gi_nominations.specs.declared.verdict.Verdict.TheVariants as verdicts
 use Rattle.gi_cycles.specs.declared.cycle_state.CycleState.{CycleState}
 use Rattle.gi_cycles.specs.declared.cycle_state.CycleState.TheVariants.{Collecting, Frozen, Matched}
-use Rattle.gi_desk.specs.Deciding.{by_order, by_response, compared, difference, met_again, same_hours, unless_differs}
+use Rattle.gi_desk.specs.Deciding.{by_order, by_response, compared, cycle_of, difference, met_again, unless_differs}
 use Rattle.gi_desk.specs.History.{capacity_of, is_closed, is_closing, last_closed, number_of, state_of}
-use Rattle.gi_desk.specs.Judging.{by_decision, by_verdict, closed, cycle_of, delivered, if_same, noticed, submitted, unless_fault, unless_later, verdict_on}
+use Rattle.gi_desk.specs.Judging.{by_decision, by_verdict, closed, delivered, if_same, noticed, submitted, unless_fault, unless_later, verdict_on}
 use Rattle.gi_desk.specs.Machine.{DeskState, IsForeseen, IsStep, answer_of, comes_to, grows, may_want, most_facts, out_of, outcome, reply, unless_full}
-use Rattle.gi_desk.specs.declared.answer.Answer.TheVariants as answers
+use Rattle.gi_desk.specs.declared.reply.Answer.TheVariants as answers
 use Rattle.gi_desk.specs.declared.call.Call.{Call}
 use Rattle.gi_desk.specs.declared.call.Call.TheVariants as calls
 use Rattle.gi_desk.specs.declared.decision.Decision.{Decision}

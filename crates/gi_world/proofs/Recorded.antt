@@ -5,7 +5,7 @@ use Rattle.std.specs.Str.{bytes_eq}
 use Rattle.gi_day.specs.Cycles.{cycle_count}
 use Rattle.gi_lesser.specs.Lesser.{lesser_of}
 use Rattle.gi_processing.specs.Recording.{is_refused, notice_refusal}
-use Rattle.gi_pairs.specs.Table.{TableContents, table_eq}
+use Rattle.gi_pairs.specs.Table.{TableContents, same_hours, table_eq}
 use Rattle.gi_pairs.specs.declared.cycle_id.CycleId.{CycleId}
 use Rattle.gi_pairs.specs.declared.side.Side.{Side}
 use Rattle.gi_pairs.specs.declared.side.Side.TheVariants.{I, M}
@@ -20,9 +20,9 @@ use Rattle.gi_processing.specs.declared.notice_fault.NoticeFault.{NoticeFault}
 use Rattle.gi_processing.specs.declared.notice_fault.NoticeFault.TheVariants as notices
 use Rattle.gi_cycles.specs.declared.cycle_state.CycleState.{CycleState}
 use Rattle.gi_cycles.specs.declared.cycle_state.CycleState.TheVariants.{Collecting, Frozen, Matched}
-use Rattle.gi_desk.specs.Deciding.{by_order, by_response, compared, difference, met_again, same_hours, unless_differs}
+use Rattle.gi_desk.specs.Deciding.{by_order, by_response, compared, cycle_of, difference, met_again, unless_differs}
 use Rattle.gi_desk.specs.History.{capacity_of, is_closed, is_closing, last_closed, number_of, state_of}
-use Rattle.gi_desk.specs.Judging.{by_decision, by_verdict, closed, cycle_of, delivered, if_same, submitted, unless_fault, unless_later, verdict_on}
+use Rattle.gi_desk.specs.Judging.{by_decision, by_verdict, closed, delivered, if_same, submitted, unless_fault, unless_later, verdict_on}
 use Rattle.gi_desk.specs.Machine.{DeskState, comes_to, most_facts, outcome, unless_full}
 use Rattle.gi_facts.specs.Same.{same_fact}
 use Rattle.gi_desk.specs.declared.call.Call.{Call}

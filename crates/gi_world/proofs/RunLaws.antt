@@ -30,13 +30,6 @@ pub record IsSoFar (start : WorldState) (made : List Step) (got : List (Result W
   pub world : end ≡ run start made
   pub agree : AllAgree made got
 
-pub so_far-none : (start : WorldState) (made : List Step) (got : List (Result WorldReply WorldFault)) → made ≡ [] → got ≡ [] → IsSoFar start made got start
-so_far-none start made got none empty = record {
-  outcomes = empty ∙ ap (answers start) (sym none);
-  world = ap (run start) (sym none);
-  agree = subst (λ (steps : List Step). AllAgree steps got) (sym none) tt;
-}
-
 agree_last : (made : List Step) (got : List (Result WorldReply WorldFault)) (step : Step) (outcome : Result WorldReply WorldFault) → length got ≡ length made → AllAgree made got
     → Agrees step outcome → AllAgree (made ++ step ∷ []) (got ++ outcome ∷ [])
 agree_last [] [] step outcome long all last = (last, tt)

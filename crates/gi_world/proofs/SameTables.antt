@@ -1,20 +1,11 @@
--- A table and itself: they are equal, and at no place do their rows differ.
-use Rattle.std.proofs.Common.{◌≡◌, List, [], ◌∷◌, true, ◌&&◌, nat_eq, None, refl, ap, rules, eq-eqb}
-use Rattle.std.specs.Cmp.{IsEquivalence}
+-- A table and itself are equal.
+use Rattle.std.proofs.Common.{◌≡◌, List, [], ◌∷◌, true, ◌&&◌, nat_eq, refl, eq-eqb}
 use Rattle.std.specs.Cmp.Lexicographic.{pointwise}
-use Rattle.std.specs.Cmp.Rules.{comparing}
 use Rattle.std.proofs.lemmas.Bool.{and_from}
 use Rattle.gi_pairs.specs.Row.{row_eq}
-use Rattle.gi_pairs.specs.Table.{TableContents, table_eq}
+use Rattle.gi_pairs.specs.Table.{HasShapeOf, TableContents, same_hours, table_eq}
 use Rattle.gi_pairs.specs.declared.row.Row.{Row}
-use Rattle.gi_lesser.specs.Lesser.{HasShapeOf}
-use Rattle.gi_desk.specs.Deciding.{difference, one_later, same_hours}
-
-rows_compare : IsEquivalence row_eq
-rows_compare = search (comparing, rules)
-
-row-self : (row : Row) → row_eq row row ≡ true
-row-self row = rows_compare.refl row
+use Rattle.gi_desk.proofs.Differing.{row-self}
 
 rows_self : (rows : List Row) → pointwise row_eq rows rows ≡ true
 rows_self [] = refl
@@ -28,7 +19,3 @@ pub table-self : (t : TableContents) → table_eq t t ≡ true
 table-self t =
     and_from (nat_eq t.first t.first && nat_eq t.last t.last) (pointwise row_eq t.rows t.rows)
     (and_from (nat_eq t.first t.first) (nat_eq t.last t.last) (eq-eqb t.first t.first refl) (eq-eqb t.last t.last refl)) (rows_self t.rows)
-
-pub difference-self : (rows : List Row) → difference rows rows ≡ None
-difference-self [] = refl
-difference-self (row ∷ rows) = rw (row-self row) (ap one_later (difference-self rows))

@@ -1,15 +1,12 @@
 -- What a side tells its portfolios are its rows of a table that it has confirmed.
-use Rattle.std.proofs.Common.{arith, ◌≡◌, ◌≤◌, ◌+◌, ◌-◌, ◌⊎◌, inl, inr, ℕ, List, [], ◌∷◌, ◌++◌, length, filter, map, All, Contains, Bool, true, false, cond, ◌&&◌, nat_le, slice_index, Option, Some, Ok, refl, sym, ap, ◌∙◌, subst}
-use Rattle.std.specs.Ordering.{is_lt}
-use Rattle.std.specs.Str.{bytes_eq}
+use Rattle.std.proofs.Common.{arith, ◌≡◌, ◌≤◌, ◌+◌, ◌-◌, ◌⊎◌, inl, inr, ℕ, List, [], ◌∷◌, ◌++◌, length, filter, All, Contains, true, false, ◌&&◌, nat_le, slice_index, Option, Some, Ok, refl, sym, ap, ◌∙◌, subst}
 use Rattle.std.proofs.lemmas.Bool.Decides.{nat_tests}
-use Rattle.std.proofs.lemmas.List.{length-map}
-use Rattle.std.proofs.lemmas.List.Elements.{All-filter, All-get_or, All-head, All-map, All-tail, All-weaker}
+use Rattle.std.proofs.lemmas.List.Elements.{All-head, All-map, All-tail}
 use Rattle.std.proofs.lemmas.Option.{get_or_from_slice_get, slice_get_within}
 use Rattle.std.proofs.lemmas.Slice.Eq.{bytes_eq-Decides}
 use Rattle.gi_pairs.specs.Code.{IsCode}
-use Rattle.gi_pairs.specs.Key.{code_cmp}
-use Rattle.gi_pairs.specs.Row.{IsRow}
+use Rattle.gi_pairs.specs.Pair.{code_at, pair_of}
+use Rattle.gi_pairs.specs.Side.{other}
 use Rattle.gi_pairs.specs.Table.{IsTable, TableContents, covered, reading}
 use Rattle.gi_pairs.specs.declared.cycle_id.CycleId.{CycleId}
 use Rattle.gi_pairs.specs.declared.pair.Pair.{Pair}
@@ -21,106 +18,44 @@ use Rattle.gi_pairs.proofs.Members.{find_member, from_append, from_map}
 use Rattle.gi_pairs.proofs.Reading.{reading-found}
 use Rattle.gi_lesser.specs.Lesser.{lesser_of}
 use Rattle.gi_messages.specs.Decoding.{decoded}
-use Rattle.gi_messages.specs.Grammar.{FitsAcknow, FitsLine, FitsNomint, FitsNomres}
-use Rattle.gi_messages.specs.declared.line.Line.{Line}
 use Rattle.gi_messages.specs.declared.message.Message.{Message}
-use Rattle.gi_messages.specs.declared.message.Nomint.{Nomint as NomintOf}
 use Rattle.gi_messages.specs.declared.message.Message.TheVariants as messages
 use Rattle.gi_cycles.specs.States.{MatchedCycle, matched_of}
 use Rattle.gi_cycles.specs.declared.cycle_state.CycleState.TheVariants.{Matched}
 use Rattle.gi_desk.specs.History.{frozen_cycle, frozen_table, is_closed, met_by, peer_of, state_of}
 use Rattle.gi_desk.specs.LetOut.{IsFact, let_out, let_out_on_closing, sent}
 use Rattle.gi_desk.specs.Machine.{DeskState}
-use Rattle.gi_desk.specs.Messages.{acknow_of, is_row_of, line_of, on_met, order_of, other_of, own_of, portfolios_in, response_of, to_peer, to_user, told_of, told_packets, with_code}
+use Rattle.gi_desk.specs.Messages.{acknow_of, is_row_of, line_of, on_met, order_of, portfolios_in, response_of, to_peer, to_user, told_of, told_packets}
 use Rattle.gi_desk.specs.Writable.{FitsDesk, FitsMatched, FitsState}
 use Rattle.gi_desk.specs.declared.packet.Packet.{Packet}
-use Rattle.gi_facts.specs.Writable.{FitsFact}
 use Rattle.gi_facts.specs.declared.fact.Fact.{Fact}
 use Rattle.gi_facts.specs.declared.fact.Fact.TheVariants.{Contracted, Noticed, Nominated, Closed, Met}
 use Rattle.gi_desk.proofs.Legality.{legal-front}
+use Rattle.gi_desk.proofs.ReadableLaws.{acknow-fits, fact-fits, portfolios-coded, read_back, told-few, told-fits}
+use Rattle.gi_desk.proofs.StateLaws.{state-closed}
 use Rattle.gi_desk.proofs.LettingOut.{closing_lets_out, fact_closes, fact_meets, let_out-is, meeting_lets_out}
 use Rattle.gi_world.specs.Agreement.{IsLegal, IsTold, saved_facts}
-use Rattle.gi_world.specs.Telling.{IsRead, pair_of}
+use Rattle.gi_world.specs.Telling.{IsRead}
 use Rattle.gi_world.specs.World.{is_telling, tells}
-use Rattle.gi_world.proofs.DeliveredPackets.{closed_fits, closed_is, frozen_fits, none_there, one_there, order_reads, ordered_by, reads, response_reads, saved_fact, some_fact, unanswered_by}
+use Rattle.gi_world.proofs.DeliveredPackets.{closed_fits, frozen_fits, none_there, one_there, order_reads, ordered_by, response_reads, saved_fact, some_fact, unanswered_by}
 use Rattle.gi_world.proofs.SentPackets.{all_kept}
 
--- ---- the portfolios in rows are codes
+-- ---- what a portfolio is told can be read
 
-later_in : (code x y : List ℕ) (ys : List (List ℕ)) → (code ≡ x) ⊎ In x ys → (code ≡ x) ⊎ In x (y ∷ ys)
-later_in code x y ys (inl same) = inl same
-later_in code x y ys (inr later) = inr (inr later)
-
-placed_by : (b c : Bool) (code x y : List ℕ) (ys later : List (List ℕ)) → (In x later → (code ≡ x) ⊎ In x ys) → In x (cond b (y ∷ ys) (cond c (code ∷ y ∷ ys) (y ∷ later)))
-    → (code ≡ x) ⊎ In x (y ∷ ys)
-placed_by true c code x y ys later rest there = inr there
-placed_by false true code x y ys later rest there = there
-placed_by false false code x y ys later rest (inl same) = inr (inl same)
-placed_by false false code x y ys later rest (inr there) = later_in code x y ys (rest there)
-
-in_with : (code x : List ℕ) (xs : List (List ℕ)) → In x (with_code code xs) → (code ≡ x) ⊎ In x xs
-in_with code x [] there = there
-in_with code x (y ∷ ys) there = placed_by (bytes_eq code y) (is_lt (code_cmp code y)) code x y ys (with_code code ys) (in_with code x ys) there
-
-own_code : (side : Side) (row : Row) → IsRow row → IsCode (own_of side row.pair)
-own_code I row is = is.key.initiating
-own_code M row is = is.key.matching
-
-first_or : (code portfolio : List ℕ) (portfolios : List (List ℕ)) → IsCode code → (In portfolio portfolios → IsCode portfolio) → (code ≡ portfolio) ⊎ In portfolio portfolios → IsCode portfolio
-first_or code portfolio portfolios is rest (inl same) = subst IsCode same is
-first_or code portfolio portfolios is rest (inr later) = rest later
-
-is_code : (side : Side) (rows : List Row) (portfolio : List ℕ) → All IsRow rows → In portfolio (portfolios_in side rows) → IsCode portfolio
-is_code side [] portfolio all there = absurd there
-is_code side (row ∷ rows) portfolio all there =
-    first_or (own_of side row.pair) portfolio (portfolios_in side rows) (own_code side row (All-head IsRow row rows all))
-    (is_code side rows portfolio (All-tail IsRow row rows all)) (in_with (own_of side row.pair) portfolio (portfolios_in side rows) there)
-
--- ---- what a portfolio is told can be written
-
-line_fits : (side : Side) (row : Row) → IsRow row → FitsLine (line_of side row)
-line_fits I row is = record { counterparty = is.key.matching; quantities = is.quantities }
-line_fits M row is = record { counterparty = is.key.initiating; quantities = is.quantities }
-
-told_fits : (side : Side) (point : List ℕ) (cycle : MatchedCycle) (portfolio : List ℕ) → IsCode point → FitsMatched cycle → IsCode portfolio → FitsNomres (told_of side point cycle portfolio)
-told_fits side point cycle portfolio code fits own =
-    let table = cycle.confirmed in
-    let is = fits.confirmed in
-    let rows = filter (is_row_of side portfolio) table.rows in
-    let known = All-filter (is_row_of side portfolio) IsRow table.rows is.all in
-    let whole = All-filter (is_row_of side portfolio) (λ (row : Row). length row.hours ≡ covered table.first table.last) table.rows is.whole in
-    record {
-      point = code;
-      portfolio = own;
-      day = fits.id.day;
-      cycle = fits.id.cycle;
-      begins = is.begins;
-      ordered = is.ordered;
-      ends = is.ends;
-      lines = All-map FitsLine (line_of side) rows (All-weaker IsRow (λ (row : Row). FitsLine (line_of side row)) (line_fits side) rows known);
-      whole = All-map (λ (line : Line). length line.hours ≡ covered table.first table.last) (line_of side) rows whole;
-    }
-
-some_by : {X : Type 0} (b : Bool) (x : X) (some all : List X) → length some ≤ length all → length (cond b (x ∷ some) some) ≤ length (x ∷ all)
-some_by true x some all within = omega (arith, within)
-some_by false x some all within = omega (arith, within)
-
-some_of : {X : Type 0} (p : X → Bool) (xs : List X) → length (filter p xs) ≤ length xs
-some_of p [] = omega arith
-some_of p (x ∷ xs) = some_by (p x) x (filter p xs) xs (some_of p xs)
+-- what holds of all portfolios holds of one of them
+coded_among : (codes : List (List ℕ)) (code : List ℕ) → All IsCode codes → In code codes → IsCode code
+coded_among [] code all there = absurd there
+coded_among (first ∷ codes) code all (inl same) = subst IsCode same (All-head IsCode first codes all)
+coded_among (first ∷ codes) code all (inr later) = coded_among codes code (All-tail IsCode first codes all) later
 
 told_reads : (side : Side) (point : List ℕ) (cycle : MatchedCycle) (portfolio : List ℕ) → IsCode point → FitsMatched cycle → IsCode portfolio
     → let message = messages.Nomres (told_of side point cycle portfolio) in decoded (to_user portfolio message).body ≡ Ok message
 told_reads side point cycle portfolio code fits own =
-    let rows = filter (is_row_of side portfolio) cycle.confirmed.rows in
-    let many : length (map (line_of side) rows) ≡ length rows = length-map rows (line_of side) in
-    let within = some_of (is_row_of side portfolio) cycle.confirmed.rows in
-    let few = fits.confirmed.few in
-    reads (messages.Nomres (told_of side point cycle portfolio)) (told_fits side point cycle portfolio code fits own) (omega (arith, many, within, few))
+    read_back (messages.Nomres (told_of side point cycle portfolio)) (told-fits side point cycle portfolio code fits own) (told-few side point cycle portfolio fits)
 
 -- ---- its lines have the confirmed quantities
 
-pair_is : (side : Side) (portfolio : List ℕ) (pair : Pair) → own_of side pair ≡ portfolio → pair_of side portfolio (other_of side pair) ≡ pair
+pair_is : (side : Side) (portfolio : List ℕ) (pair : Pair) → code_at side pair ≡ portfolio → pair_of side portfolio (code_at (other side) pair) ≡ pair
 pair_is I portfolio pair own = λ t. record { initiating = sym own t; matching = pair.matching }
 pair_is M portfolio pair own = λ t. record { initiating = pair.initiating; matching = sym own t }
 
@@ -133,7 +68,7 @@ row_is side point cycle portfolio row table there own place quantity at =
     let whole = subst (λ (r : Row). length r.hours ≡ covered t.first t.last) there.2 (table.whole there.0 row there.1) in
     let covers : (nat_le t.first hour && nat_le hour t.last) ≡ true = grind (arith, nat_tests, within, whole) in
     let same : hour - t.first ≡ place = omega arith in
-    let pair = pair_is side portfolio row.pair ((bytes_eq-Decides (own_of side row.pair) portfolio).0 own) in
+    let pair = pair_is side portfolio row.pair ((bytes_eq-Decides (code_at side row.pair) portfolio).0 own) in
     sym (
     ap (λ (p : Pair). reading t p row.direction hour) pair
     ∙ reading-found t row.pair row.direction hour row (find_member t.rows row table.sorted (in_from_contains row t.rows there)) covers
@@ -165,15 +100,6 @@ silent : (packet other : Packet) (message : Message) → other ≡ packet → de
 silent packet other message same reads is telling =
     let never : true ≡ false = sym telling ∙ ap tells (sym same) ∙ ap is_telling reads ∙ is in absurd cc
 
-acknow_fits : (document : NomintOf) → FitsNomint document → FitsAcknow (acknow_of document)
-acknow_fits document fits = record { point = fits.point; portfolio = fits.portfolio; day = fits.day; from = fits.from; to = fits.to }
-
-fact_fits : (facts : List Fact) (n : ℕ) (fact : Fact) → All FitsFact facts → IsFact facts n fact → FitsFact fact
-fact_fits facts n fact all is =
-    let from = is.0 in
-    let to = is.1 in
-    subst FitsFact (sym is.2) (All-get_or FitsFact facts (n - 1) fact (omega (arith, from, to)) all)
-
 -- a closing writes to the peer alone
 closing_tells : (side : Side) (s : DeskState) (n : ℕ) (id : CycleId) (packet : Packet) → FitsDesk side s.point s.facts → IsFact s.facts n (Closed id)
     → Contains (let_out side s.point s.facts n) packet → tells packet ≡ true → ⊥
@@ -183,7 +109,7 @@ closing_tells side s n id packet fits is there telling = by_side side fits there
     closed = fact_closes s.facts n id is
 
     out : (side : Side) → let_out side s.point s.facts n ≡ let_out_on_closing side s.point (met_by (frozen_cycle side s.facts id) (peer_of id s.facts))
-    out side = sym (closing_lets_out side s.point s.facts n id is) ∙ ap (let_out_on_closing side s.point) (closed_is side s.facts id closed)
+    out side = sym (closing_lets_out side s.point s.facts n id is) ∙ ap (let_out_on_closing side s.point) (state-closed side s.facts id closed)
 
     by_side : (side : Side) → FitsDesk side s.point s.facts → Contains (let_out side s.point s.facts n) packet → ⊥
     by_side I fits there =
@@ -215,7 +141,7 @@ meeting_tells side point cycle packet code fits (inl there) telling = absurd (re
 meeting_tells side point cycle packet code fits (inr there) telling =
     let (portfolio, among, same) = told_from side point cycle packet there in
     let message = messages.Nomres (told_of side point cycle portfolio) in
-    (portfolio, subst (λ (p : Packet). decoded p.body ≡ Ok message) same (told_reads side point cycle portfolio code fits (is_code side cycle.confirmed.rows portfolio fits.confirmed.all among)))
+    (portfolio, subst (λ (p : Packet). decoded p.body ≡ Ok message) same (told_reads side point cycle portfolio code fits (coded_among (portfolios_in side cycle.confirmed.rows) portfolio (portfolios-coded side cycle.confirmed.rows fits.confirmed.all) among)))
 
 telling_of_fact : (side : Side) (s : DeskState) (n : ℕ) (fact : Fact) (packet : Packet) → IsLegal side s → FitsDesk side s.point s.facts → n ≤ s.saved → IsFact s.facts n fact
     → Contains (let_out side s.point s.facts n) packet → tells packet ≡ true → IsTelling side s packet
@@ -227,12 +153,12 @@ telling_of_fact side s n (Nominated document) packet legal fits below is there t
     let message = messages.Acknow (acknow_of document) in
     let packet_is = to_user document.portfolio message in
     let same = one_there (let_out side s.point s.facts n) packet_is packet (let_out-is side s.point s.facts n (Nominated document) is) there in
-    absurd (silent packet packet_is message same (reads message (acknow_fits document (fact_fits s.facts n (Nominated document) fits.facts is)) tt) refl telling)
+    absurd (silent packet packet_is message same (read_back message (acknow-fits document (fact-fits side s.point s.facts n (Nominated document) fits is)) tt) refl telling)
 telling_of_fact side s n (Closed id) packet legal fits below is there telling = absurd (closing_tells side s n id packet fits is there telling)
 telling_of_fact side s n (Met id peer) packet legal fits below is there telling =
     let cycle = matched_of (frozen_cycle side s.facts id) peer in
     let all = fact_meets side s.point s.facts n id peer legal.legal is in
-    let state : state_of side s.facts id ≡ Matched cycle = closed_is side s.facts id all.0 ∙ ap (met_by (frozen_cycle side s.facts id)) all.1 in
+    let state : state_of side s.facts id ≡ Matched cycle = state-closed side s.facts id all.0 ∙ ap (met_by (frozen_cycle side s.facts id)) all.1 in
     let matched = subst (λ (met : Option TableContents). FitsState (met_by (frozen_cycle side s.facts id) met)) all.1 (closed_fits side s.point s.facts id fits all.0) in
     let out = meeting_lets_out side s.point s.facts n id peer cycle legal.legal is (sym state) in
     let found = in_from_contains packet (sent (on_met side s.point cycle) ++ told_packets side s.point cycle) (subst (λ (packets : List Packet). Contains packets packet) (sym out) there) in

@@ -12,8 +12,8 @@ use Rattle.gi_desk.specs.LetOut.{let_out}
 use Rattle.gi_desk.specs.Machine.{DeskState, bad_fact, is_for_peer}
 use Rattle.gi_desk.specs.Messages.{order_of, response_of}
 use Rattle.gi_desk.specs.Writable.{FitsDesk}
-use Rattle.gi_desk.specs.declared.answer.Answer.{Answer}
-use Rattle.gi_desk.specs.declared.answer.Answer.TheVariants.{Recorded, Repeat, Saved, Resent, Stopped, Refused}
+use Rattle.gi_desk.specs.declared.reply.Answer.{Answer}
+use Rattle.gi_desk.specs.declared.reply.Answer.TheVariants.{Recorded, Repeat, Saved, Resent, Stopped, Refused}
 use Rattle.gi_facts.specs.declared.fact.Fact.{Fact}
 use Rattle.gi_desk.specs.declared.packet.Packet.{Packet}
 use Rattle.gi_desk.specs.declared.refusal.Refusal.{Refusal}

@@ -5,10 +5,11 @@ use Rattle.gi_pairs.specs.declared.side.Side.{Side}
 use Rattle.gi_pairs.specs.declared.side.Side.TheVariants.{I, M}
 use Rattle.gi_messages.specs.Decoding.{decoded}
 use Rattle.gi_messages.specs.declared.message.Message.{Message}
-use Rattle.gi_messages.specs.declared.message.Message.TheVariants.{Nomint, Acknow, Nomres, Delord, Delres}
+use Rattle.gi_messages.specs.declared.message.Message.TheVariants.{Nomint, Delord, Delres}
 use Rattle.gi_messages.specs.declared.message_fault.MessageFault.{MessageFault}
-use Rattle.gi_desk.specs.declared.answer.Answer.{Answer}
-use Rattle.gi_desk.specs.declared.answer.Answer.TheVariants.{Recorded, Repeat, Saved, Resent, Stopped, Refused}
+use Rattle.gi_desk.specs.Deciding.{cycle_of}
+use Rattle.gi_desk.specs.declared.reply.Answer.{Answer}
+use Rattle.gi_desk.specs.declared.reply.Answer.TheVariants.{Recorded, Saved}
 use Rattle.gi_desk.specs.declared.call.Call.{Call}
 use Rattle.gi_desk.specs.declared.call.Call.TheVariants as calls
 use Rattle.gi_facts.specs.declared.fact.Fact.{Fact}
@@ -50,20 +51,13 @@ with_history M history both = record { initiating = both.initiating; matching = 
 -- the fact that a call names: a nomination is that of its bytes, and a meeting is of the message's cycle, with its
 -- processed table
 abbrev pub nomination_in : Result Message MessageFault → Option Fact
-nomination_in (Err fault) = None
 nomination_in (Ok (Nomint document)) = Some (Nominated document)
-nomination_in (Ok (Acknow message)) = None
-nomination_in (Ok (Nomres message)) = None
-nomination_in (Ok (Delord message)) = None
-nomination_in (Ok (Delres message)) = None
+nomination_in read = None
 
 abbrev pub meeting_in : Result Message MessageFault → Option Fact
-meeting_in (Err fault) = None
-meeting_in (Ok (Nomint message)) = None
-meeting_in (Ok (Acknow message)) = None
-meeting_in (Ok (Nomres message)) = None
-meeting_in (Ok (Delord message)) = Some (Met (record { day = message.day; cycle = message.cycle }) message.processed)
-meeting_in (Ok (Delres message)) = Some (Met (record { day = message.day; cycle = message.cycle }) message.processed)
+meeting_in (Ok (Delord message)) = Some (Met (cycle_of message.day message.cycle) message.processed)
+meeting_in (Ok (Delres message)) = Some (Met (cycle_of message.day message.cycle) message.processed)
+meeting_in read = None
 
 abbrev pub fact_named_by : Call → Option Fact
 fact_named_by (calls.Contract contract) = Some (Contracted contract)
@@ -82,19 +76,11 @@ with_fact facts (Some fact) = facts ++ fact ∷ []
 
 abbrev pub facts_with : List Fact → Call → Answer → List Fact
 facts_with facts call (Recorded n) = with_fact facts (fact_named_by call)
-facts_with facts call (Repeat n) = facts
-facts_with facts call (Saved n) = facts
-facts_with facts call Resent = facts
-facts_with facts call Stopped = facts
-facts_with facts call (Refused refusal) = facts
+facts_with facts call answer = facts
 
 abbrev pub saved_with : ℕ → Answer → ℕ
-saved_with saved (Recorded n) = saved
-saved_with saved (Repeat n) = saved
 saved_with saved (Saved n) = saved + 1
-saved_with saved Resent = saved
-saved_with saved Stopped = saved
-saved_with saved (Refused refusal) = saved
+saved_with saved answer = saved
 
 -- a history with what a call and its answer add
 unfoldable pub with_reply : History → Call → Reply → History

@@ -1,26 +1,21 @@
 -- What each side tells its portfolios: what it has confirmed.
-use Rattle.std.specs.Prelude.{◌≡◌, ◌+◌, ℕ, List, All, slice_get, Some, Ok}
+use Rattle.std.specs.Prelude.{◌≡◌, ◌+◌, ℕ, All, slice_get, Some, Ok}
 use Rattle.gi_pairs.specs.Table.{TableContents, reading}
 use Rattle.gi_pairs.specs.declared.cycle_id.CycleId.{CycleId}
-use Rattle.gi_pairs.specs.declared.pair.Pair.{Pair}
+use Rattle.gi_pairs.specs.Pair.{pair_of}
 use Rattle.gi_pairs.specs.declared.side.Side.{Side}
-use Rattle.gi_pairs.specs.declared.side.Side.TheVariants.{I, M}
 use Rattle.gi_messages.specs.Decoding.{decoded}
 use Rattle.gi_messages.specs.declared.line.Line.{Line}
 use Rattle.gi_messages.specs.declared.message.Message.TheVariants as messages
 use Rattle.gi_messages.specs.declared.message.Nomres.{Nomres}
+use Rattle.gi_desk.specs.Deciding.{cycle_of}
 use Rattle.gi_desk.specs.declared.packet.Packet.{Packet}
 use Rattle.gi_world.specs.Confirming.{IsLowerOfFrozen, table_confirmed}
 use Rattle.gi_world.specs.Histories.{Histories, history_of}
 
--- the pair of a side's portfolio and its counterparty at the other side
-abbrev pub pair_of : Side → List ℕ → List ℕ → Pair
-pair_of I portfolio counterparty = record { initiating = portfolio; matching = counterparty }
-pair_of M portfolio counterparty = record { initiating = counterparty; matching = portfolio }
-
 -- the cycle of a message
 abbrev pub cycle_told : Nomres → CycleId
-cycle_told message = record { day = message.day; cycle = message.cycle }
+cycle_told message = cycle_of message.day message.cycle
 
 -- Each quantity of a line, from the message's first hour on, is the table's for the pair of the message's portfolio and the
 -- line's counterparty, in the line's direction and in that hour.

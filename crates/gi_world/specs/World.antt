@@ -1,13 +1,14 @@
 -- Both operators' desks with what each let out, and what a step makes of them.
-use Rattle.std.specs.Prelude.{◌≡◌, ◌<◌, ℕ, zero, suc, List, [], ◌++◌, filter, slice_get, take, length, Bool, true, false, not, ◌&&◌, nat_lt, IsTrue, ◌⊎◌, is_ok, is_some, if◌then◌else◌, Option, Some, None, option_map, Result, Ok, Err}
+use Rattle.std.specs.Prelude.{◌≡◌, ◌<◌, ℕ, zero, suc, List, [], ◌++◌, filter, slice_get, length, Bool, true, false, not, ◌&&◌, nat_lt, IsTrue, ◌⊎◌, is_ok, is_some, if◌then◌else◌, Option, Some, None, option_map, Result, Ok, Err}
 use Rattle.std.specs.Str.{bytes_eq}
+pub use Rattle.gi_pairs.specs.Side.{other}
 use Rattle.gi_pairs.specs.declared.side.Side.{Side}
 use Rattle.gi_pairs.specs.declared.side.Side.TheVariants.{I, M}
 use Rattle.gi_messages.specs.Decoding.{decoded}
 use Rattle.gi_messages.specs.declared.message.Message.{Message}
-use Rattle.gi_messages.specs.declared.message.Message.TheVariants.{Nomint, Acknow, Nomres, Delord, Delres}
+use Rattle.gi_messages.specs.declared.message.Message.TheVariants.{Nomres}
 use Rattle.gi_messages.specs.declared.message_fault.MessageFault.{MessageFault}
-use Rattle.gi_desk.specs.Machine.{DeskState, after as desk_after, is_for_peer, may_want as desk_may_want, reply}
+use Rattle.gi_desk.specs.Machine.{DeskState, after as desk_after, is_for_peer, may_want as desk_may_want, reply, started_again}
 use Rattle.gi_desk.specs.declared.call.Call.{Call}
 use Rattle.gi_desk.specs.declared.call.Call.TheVariants as calls
 use Rattle.gi_desk.specs.declared.packet.Packet.{Packet}
@@ -39,11 +40,6 @@ new_station point = record { desk = new_desk point; sent = []; told = [] }
 abbrev pub new_world : List ℕ → WorldState
 new_world point = record { initiating = new_station point; matching = new_station point }
 
--- the other side
-abbrev pub other : Side → Side
-other I = M
-other M = I
-
 -- a side's station, and the world with another one there
 abbrev pub station_of : Side → WorldState → StationState
 station_of I w = w.initiating
@@ -55,12 +51,8 @@ with_station M station w = record { initiating = w.initiating; matching = statio
 
 -- whether a packet tells confirmed quantities: its bytes read as a NOMRES
 abbrev pub is_telling : Result Message MessageFault → Bool
-is_telling (Err fault) = false
-is_telling (Ok (Nomint message)) = false
-is_telling (Ok (Acknow message)) = false
 is_telling (Ok (Nomres message)) = true
-is_telling (Ok (Delord message)) = false
-is_telling (Ok (Delres message)) = false
+is_telling read = false
 
 abbrev pub tells : Packet → Bool
 tells packet = is_telling (decoded packet.body)
@@ -86,7 +78,7 @@ after_call side station call = let r = reply side station.desk call in record {
 
 unfoldable pub after_restart : StationState → ℕ → StationState
 after_restart station keep = record {
-  desk = record { point = station.desk.point; facts = take keep station.desk.facts; saved = keep; halted = false };
+  desk = started_again station.desk keep;
   sent = station.sent;
   told = station.told;
 }
@@ -110,14 +102,8 @@ IsNumberOf w side bytes (Some n) = (bytes_delivered w side n ≡ Some bytes) × 
 IsNumberOf w side bytes None = (n : ℕ) → ¬ (bytes_delivered w side n ≡ Some bytes)
 
 abbrev pub is_delivery : Call → Bool
-is_delivery (calls.Contract contract) = false
-is_delivery (calls.Notice notice) = false
-is_delivery (calls.Submit body) = false
-is_delivery (calls.Close id) = false
 is_delivery (calls.Deliver body) = true
-is_delivery (calls.Resend id) = false
-is_delivery (calls.MarkSaved n fact) = false
-is_delivery calls.Halt = false
+is_delivery call = false
 
 -- what comes of a call at a side, of a delivery and of a restart
 abbrev pub called : Side → StationState → Call → Result WorldReply WorldFault

@@ -8,14 +8,12 @@ use gi_desk::{Packet, Recipient};
 use gi_messages::{Message, MessageFault, decode};
 use std::alloc::{AllocError, Global};
 
-/// Whether the packet goes to the other operator.
 fn is_for_peer(packet: &Packet) -> bool
     ensures { result ≡ is_for_peer_of packet.now }
 {
     packet.to == Recipient::Peer
 }
 
-/// Whether it tells a portfolio its confirmed quantities.
 fn tells(alloc: Global, packet: &Packet) -> Result<bool, AllocError>
     ensures { IfOk result (λ tells. tells ≡ tells_of packet.now) }
 {
@@ -26,7 +24,6 @@ fn tells(alloc: Global, packet: &Packet) -> Result<bool, AllocError>
     }
 }
 
-/// Where the first packet of these bytes stands.
 pub(crate) fn place_of(packets: &[Packet], bytes: &[u8]) -> Option<usize>
     ensures { result ≡ position (has_bytes bytes.now) packets.now }
 {
@@ -35,17 +32,6 @@ pub(crate) fn place_of(packets: &[Packet], bytes: &[u8]) -> Option<usize>
         .position(|packet| packet.body.as_slice() == bytes)
 }
 
-/// An equal packet.
-fn copy_of(packet: &Packet) -> Result<Packet, AllocError>
-    ensures { IfOk result (λ copy. copy ≡ packet.now) }
-{
-    Ok(Packet {
-        to: packet.to,
-        body: packet.body.copy()?,
-    })
-}
-
-/// Copies of the packets for the other operator.
 pub(crate) fn for_peer(alloc: Global, packets: &[Packet]) -> Result<Vec<Packet>, AllocError>
     ensures value { IfOk result (λ kept. kept.items ≡ filter is_for_peer_of packets.now) }
     ensures short { OnErr result (0 < length packets.now) }
@@ -53,13 +39,12 @@ pub(crate) fn for_peer(alloc: Global, packets: &[Packet]) -> Result<Vec<Packet>,
     let mut kept = Vec::new(alloc);
     for packet in packets {
         if is_for_peer(packet) {
-            kept.push(copy_of(packet)?)?;
+            kept.push(packet.copy()?)?;
         }
     }
     Ok(kept)
 }
 
-/// Copies of those that tell.
 pub(crate) fn telling(alloc: Global, packets: &[Packet]) -> Result<Vec<Packet>, AllocError>
     ensures value { IfOk result (λ kept. kept.items ≡ filter tells_of packets.now) }
     ensures short { OnErr result (0 < length packets.now) }
@@ -67,7 +52,7 @@ pub(crate) fn telling(alloc: Global, packets: &[Packet]) -> Result<Vec<Packet>, 
     let mut kept = Vec::new(alloc);
     for packet in packets {
         if tells(alloc, packet)? {
-            kept.push(copy_of(packet)?)?;
+            kept.push(packet.copy()?)?;
         }
     }
     Ok(kept)

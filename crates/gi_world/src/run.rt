@@ -100,7 +100,7 @@ pub fn run_world(alloc: Global, point: Code, steps: &[Step]) -> Result<Run, Star
         Ok(()) => steps.len(),
         Err(_) => outcomes.len(),
     };
-    world.confirms_the_lower();
+    world.known();
     Ok(Run {
         world,
         outcomes: Outcomes::from(outcomes),

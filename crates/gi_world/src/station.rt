@@ -33,7 +33,6 @@ impl<R: Role> Model for Station<R> {
 }
 
 impl<R: Role> Station<R> {
-    /// A station without facts, at the interconnection point.
     pub(crate) fn open(alloc: Global, calendar: Calendar, point: Code) -> Station<R>
         ensures { result ≡ new_station point }
     {
@@ -45,7 +44,6 @@ impl<R: Role> Station<R> {
         }
     }
 
-    /// Its desk.
     pub(crate) fn desk(&self) -> &Desk<R>
         ensures { result.now ≡ self.now.desk }
     {
@@ -102,7 +100,6 @@ impl<R: Role> Station<R> {
         Ok(reply)
     }
 
-    /// Copies of the first `keep` facts.
     fn front(&self, keep: u32) -> Result<Vec<Fact>, AllocError>
         requires { keep ≤ length self.now.desk.facts }
         ensures { IfOk result (λ facts. facts.items ≡ take keep self.now.desk.facts) }
@@ -114,7 +111,6 @@ impl<R: Role> Station<R> {
         Ok(facts)
     }
 
-    /// The desk of these facts, all saved.
     fn replay(&self, facts: Vec<Fact>) -> Result<Desk<R>, AllocError>
         requires { bad_fact R.SIDE self.now.desk.point facts.items ≡ None }
         ensures { IfOk result (λ desk. desk ≡ record { point = self.now.desk.point; facts = facts.items; saved = length facts.items; halted = false }) }
@@ -135,7 +131,7 @@ impl<R: Role> Station<R> {
         ensures kept { OnErr result (self.new ≡ self.old) }
     {
         fronts_are_legal();
-        self.desk.in_range();
+        self.desk.known();
         let facts = self.front(keep)?;
         self.desk = self.replay(facts)?;
         Ok(())

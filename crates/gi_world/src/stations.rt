@@ -38,12 +38,17 @@ impl Model for Stations {
 
 impl Stations {
     /// Both without facts, at the interconnection point.
-    pub(crate) fn open(alloc: Global, calendar: Calendar, copy: Calendar, point: Code) -> Stations
+    pub(crate) fn open(
+        alloc: Global,
+        initiating: Calendar,
+        matching: Calendar,
+        point: Code,
+    ) -> Stations
         ensures { result ≡ new_world point }
     {
         Stations {
-            initiating: Station::open(alloc, calendar, point),
-            matching: Station::open(alloc, copy, point),
+            initiating: Station::open(alloc, initiating, point),
+            matching: Station::open(alloc, matching, point),
         }
     }
 
@@ -62,11 +67,11 @@ impl Stations {
     }
 
     /// Both desks can be written.
-    pub(crate) fn fits(&self)
+    pub(crate) fn known(&self)
         ensures { FitsWorld self.now }
     {
-        self.initiating.desk().in_range();
-        self.matching.desk().in_range();
+        self.initiating.desk().known();
+        self.matching.desk().known();
     }
 
     /// The packets that a side let out to the other operator, in order.
@@ -89,7 +94,6 @@ impl Stations {
         }
     }
 
-    /// A side takes a call.
     fn take(&mut self, side: Side, call: &Call) -> Result<Reply, AllocError>
         ensures reply { IfOk result (λ reply. reply ≡ reply_of side (station_of side self.old).desk call.now) }
         ensures next { OnOk result (self.new ≡ with_station side (after_call side (station_of side self.old) call.now) self.old) }
@@ -102,7 +106,6 @@ impl Stations {
         }
     }
 
-    /// A side's desk starts again.
     fn start_again(&mut self, side: Side, keep: u32) -> Result<(), AllocError>
         requires { keep ≤ length (station_of side self.now).desk.facts }
         ensures next { OnOk result (self.new ≡ with_station side (after_restart (station_of side self.old) keep) self.old) }
@@ -125,7 +128,6 @@ impl Stations {
         }
     }
 
-    /// Whether a side's desk is halted.
     fn halted(&self, side: Side) -> bool
         ensures { result ≡ (station_of side self.now).desk.halted }
     {
@@ -135,17 +137,12 @@ impl Stations {
         }
     }
 
-    /// The packets that the other side let out to this one, in order.
     fn sent_to(&self, side: Side) -> &[Packet]
         ensures { result.now ≡ (station_of (other side) self.now).sent }
     {
-        match side {
-            Side::I => self.matching.sent(),
-            Side::M => self.initiating.sent(),
-        }
+        self.sent(side.other())
     }
 
-    /// The packet of that number, from 1, that the other side let out to this one.
     fn delivery(&self, side: Side, packet: u64) -> Option<&Packet>
         ensures { option_copied result ≡ delivery_of self.now side packet }
     {
@@ -161,7 +158,6 @@ impl Stations {
         Some(place as u64 + 1)
     }
 
-    /// A side is asked.
     #[tactic(auto, unfolding(crate::specs::World::outcome, crate::specs::World::after, crate::specs::World::may_want))]
     fn call(&mut self, side: Side, call: &Call) -> Result<WorldReply, WorldFault>
         ensures { IsStep self.old (steps.Local side call.now) result self.new }
@@ -185,7 +181,6 @@ impl Stations {
         Ok(Call::Deliver(packet.body.copy()?))
     }
 
-    /// A side gets a packet of the other one.
     #[tactic(auto, unfolding(crate::specs::World::outcome, crate::specs::World::after, crate::specs::World::may_want))]
     fn deliver(&mut self, side: Side, packet: u64) -> Result<WorldReply, WorldFault>
         ensures { IsStep self.old (steps.Deliver side packet) result self.new }
@@ -197,7 +192,6 @@ impl Stations {
         Ok(WorldReply::Desk(self.take(side, &call)?))
     }
 
-    /// A side's desk starts again from its first `keep` facts.
     #[tactic(auto, unfolding(crate::specs::World::outcome, crate::specs::World::after, crate::specs::World::may_want))]
     fn restart(&mut self, side: Side, keep: u32) -> Result<WorldReply, WorldFault>
         ensures { IsStep self.old (steps.Restart side keep) result self.new }
@@ -213,7 +207,6 @@ impl Stations {
         Ok(WorldReply::Restarted { saved: keep })
     }
 
-    /// Makes a step.
     pub(crate) fn step(&mut self, step: &Step) -> Result<WorldReply, WorldFault>
         ensures { IsStep self.old step.now result self.new }
     {

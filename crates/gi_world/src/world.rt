@@ -44,10 +44,10 @@ impl World {
     pub fn new(alloc: Global, point: Code) -> Result<World, StartFault>
         ensures { result ≡ Ok (new_world point) }
     {
-        let calendar = Calendar::new()?;
-        let copy = calendar.copy()?;
+        let initiating = Calendar::new()?;
+        let matching = initiating.copy()?;
         Ok(World {
-            stations: Stations::open(alloc, calendar, copy, point),
+            stations: Stations::open(alloc, initiating, matching, point),
         })
     }
 
@@ -72,7 +72,7 @@ impl World {
         ensures value { result.now ≡ (station_of side self.now).sent }
         ensures carries { All (Carries side self.now) result.now }
     {
-        self.stations.fits();
+        self.stations.known();
         self.stations.sent(side)
     }
 
@@ -82,7 +82,7 @@ impl World {
         ensures value { result.now ≡ (station_of side self.now).told }
         ensures lower { All (TellsTheLower (held self.now) side) result.now }
     {
-        self.stations.fits();
+        self.stations.known();
         self.stations.told(side)
     }
 
@@ -115,19 +115,19 @@ impl World {
         ensures one_quantity { OneConfirmedQuantity (held self.new) }
     {
         lessens_both_ways();
-        self.stations.fits();
+        self.stations.known();
         let outcome = self.stations.step(step);
-        self.stations.fits();
+        self.stations.known();
         outcome
     }
 
     /// What either side has confirmed or told is the lower of what both froze, and what the
     /// initiating side has confirmed, the matching side has.
-    pub(crate) fn confirms_the_lower(&self)
+    pub(crate) fn known(&self)
         ensures lower { ConfirmsTheLower self.now }
         ensures both { ConfirmsAtBoth self.now }
         ensures one_quantity { OneConfirmedQuantity (held self.now) }
     {
-        self.stations.fits();
+        self.stations.known();
     }
 }

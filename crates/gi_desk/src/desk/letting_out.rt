@@ -9,8 +9,8 @@ ghost use Rattle.gi_desk.specs.Machine.{grows, is_for_peer, out_of, saved_out as
 ghost use Rattle.gi_desk.specs.Messages.{on_met, told_packets as told_packets_of};
 
 use crate::desk::Desk;
+use crate::fact_packets::{on_closing, on_meeting, on_taking};
 use crate::history::{number_of_closing, number_of_meeting};
-use crate::letting_out::{on_closing, on_meeting, on_taking};
 use crate::outcome::Outcome;
 use crate::packet::Packet;
 use crate::role::Role;
@@ -22,7 +22,6 @@ use gi_pairs::CycleId;
 use std::alloc::AllocError;
 
 impl<R: Role> Desk<R> {
-    /// Fact number `n`.
     fn numbered(&self, n: u32) -> &Fact
         requires from { 1 ≤ n }
         requires to { n ≤ length self.now.facts }
@@ -31,7 +30,6 @@ impl<R: Role> Desk<R> {
         &self.facts[n as usize - 1]
     }
 
-    /// How far a closed cycle is.
     fn closed_state(&self, id: &CycleId) -> &CycleState
         requires { is_closed id.now self.now.facts ≡ true }
         ensures { result.now ≡ state_of R.SIDE self.now.facts id.now }
@@ -39,7 +37,6 @@ impl<R: Role> Desk<R> {
         find(&self.states, *id).unwrap()
     }
 
-    /// A closed cycle that met a table.
     fn matched(&self, id: &CycleId) -> &Matched
         requires closed { is_closed id.now self.now.facts ≡ true }
         requires met { is_some (peer_of id.now self.now.facts) ≡ true }
@@ -51,7 +48,6 @@ impl<R: Role> Desk<R> {
         cycle
     }
 
-    /// What the meeting of the cycle lets out: to the peer, and to the portfolios.
     fn let_out_on_meeting(&self, cycle: &Matched) -> Result<Vec<Packet>, AllocError>
         ensures { IfOk result (λ packets. packets.items ≡ sent (on_met R.SIDE self.now.point cycle.now) ++ told_packets_of R.SIDE self.now.point cycle.now) }
     {
@@ -88,7 +84,6 @@ impl<R: Role> Desk<R> {
         }
     }
 
-    /// What fact number `n` lets out, where it is saved.
     fn saved_out(&self, n: usize) -> Result<Vec<Packet>, AllocError>
         requires { 1 ≤ n }
         ensures { IfOk result (λ packets. packets.items ≡ saved_out_of R.SIDE self.now n) }
@@ -99,7 +94,6 @@ impl<R: Role> Desk<R> {
         self.let_out(n as u32)
     }
 
-    /// What it lets out to the peer, where it is saved.
     fn saved_for_peer(&self, n: u32) -> Result<Vec<Packet>, AllocError>
         requires { 1 ≤ n }
         ensures { IfOk result (λ packets. packets.items ≡ filter is_for_peer (saved_out_of R.SIDE self.now n)) }
@@ -110,7 +104,6 @@ impl<R: Role> Desk<R> {
         self.for_peer(n)
     }
 
-    /// What the closing and the meeting of a cycle let out, as far as they are saved.
     fn resent(&self, id: &CycleId) -> Result<Vec<Packet>, AllocError>
         ensures { IfOk result (λ packets. packets.items ≡ saved_out_of R.SIDE self.now (number_of (is_closing id.now) self.now.facts) ++ saved_out_of R.SIDE self.now (number_of (is_meeting id.now) self.now.facts)) }
     {

@@ -12,7 +12,7 @@ ghost use Rattle.gi_facts.specs.Writable.{FitsFact};
 ghost use Rattle.gi_facts.specs.declared.fact.Fact.TheVariants.{Closed, Met};
 
 use crate::desk::Desk;
-use crate::ranges::fact_in_range;
+use crate::ranges::fact_known;
 use crate::role::Role;
 use crate::stages::meet;
 use gi_cycles::{Collecting, CycleState};
@@ -35,7 +35,6 @@ impl<R: Role> Desk<R> {
         processed(self.alloc, &book, &contracts, R::SIDE, &frame, id.cycle)
     }
 
-    /// Records the closing of a cycle: its table is frozen.
     fn freeze(&mut self, id: &CycleId) -> Result<(), AllocError>
         requires recorded { would_record R.SIDE self.now.point self.now.facts (Closed id.now) ≡ true }
         requires room { length self.now.facts < most_facts }
@@ -52,7 +51,6 @@ impl<R: Role> Desk<R> {
         Ok(())
     }
 
-    /// Records that a cycle met the peer's table.
     fn meet(&mut self, id: &CycleId, peer: Table) -> Result<(), AllocError>
         requires recorded { would_record R.SIDE self.now.point self.now.facts (Met id.now peer) ≡ true }
         requires room { length self.now.facts < most_facts }
@@ -70,7 +68,6 @@ impl<R: Role> Desk<R> {
         Ok(())
     }
 
-    /// Records a fact that changes no cycle.
     fn add(&mut self, fact: Fact) -> Result<(), AllocError>
         requires recorded { would_record R.SIDE self.now.point self.now.facts fact ≡ true }
         requires room { length self.now.facts < most_facts }
@@ -83,7 +80,6 @@ impl<R: Role> Desk<R> {
         Ok(())
     }
 
-    /// Records a fact that can be written.
     fn put(&mut self, fact: Fact) -> Result<(), AllocError>
         requires recorded { would_record R.SIDE self.now.point self.now.facts fact ≡ true }
         requires room { length self.now.facts < most_facts }
@@ -106,8 +102,8 @@ impl<R: Role> Desk<R> {
         ensures kept { OnErr result (self.new ≡ self.old) }
     {
         // All that is recorded can be written, and so the fact that comes next.
-        self.in_range();
-        fact_in_range(&fact);
+        self.known();
+        fact_known(&fact);
         self.put(fact)
     }
 }

@@ -15,11 +15,10 @@ use std::alloc::Global;
 use std::marker::PhantomData;
 
 impl<R: Role> Desk<R> {
-    /// A desk without facts.
     fn empty(alloc: Global, calendar: Calendar, point: Code) -> Desk<R>
         ensures { result ≡ record { point = point; facts = []; saved = 0; halted = false } }
     {
-        let _ = point.as_str();
+        point.known();
         Desk {
             alloc,
             calendar,
@@ -32,7 +31,6 @@ impl<R: Role> Desk<R> {
         }
     }
 
-    /// Records a fact again, where it may come after those before it.
     fn record_again(&mut self, fact: Fact) -> Result<(), ReplayFault>
         ensures may { IfOk result (λ _. may_follow R.SIDE self.old.point self.old.facts fact ≡ true) }
         ensures next { OnOk result (self.new ≡ record self.old { facts = self.old.facts ++ fact ∷ [] }) }

@@ -4,17 +4,15 @@ ghost use Rattle.std.specs.Prelude.{◌≡◌, IfErr, IfOk, IsTrue, OnErr, OnOk}
 ghost use Rattle.gi_desk.specs.Kept.{CanFollow};
 ghost use Rattle.gi_desk.specs.Machine.{IsForeseen, IsStep, after, answer_of, grows, may_want, next_of, out_of_memory, outcome as outcome_of, reply as reply_of};
 
-use crate::answer::Answer;
 use crate::call::Call;
 use crate::desk::Desk;
 use crate::outcome::Outcome;
-use crate::packets::Packets;
+use crate::packet::Packets;
 use crate::refusal::Refusal;
-use crate::reply::Reply;
+use crate::reply::{Answer, Reply};
 use crate::role::Role;
 use std::alloc::{AllocError, Global};
 
-/// The reply where memory runs out.
 fn short_of_memory(alloc: Global) -> Reply
     ensures { result ≡ out_of_memory }
 {
@@ -25,7 +23,6 @@ fn short_of_memory(alloc: Global) -> Reply
 }
 
 impl<R: Role> Desk<R> {
-    /// What is answered to a call that comes to this.
     fn answer(&self, outcome: &Outcome) -> Answer
         ensures { result ≡ answer_of self.now outcome.now }
     {
@@ -42,7 +39,6 @@ impl<R: Role> Desk<R> {
         }
     }
 
-    /// Makes the change that it comes to.
     fn apply(&mut self, outcome: Outcome) -> Result<(), AllocError>
         requires { CanFollow R.SIDE self.now outcome }
         ensures next { OnOk result (self.new ≡ next_of self.old outcome) }
@@ -58,7 +54,6 @@ impl<R: Role> Desk<R> {
         Ok(())
     }
 
-    /// What the call comes to, and the reply to it.
     fn try_foresee(&self, call: &Call) -> Result<(Outcome, Reply), AllocError>
         ensures outcome { IfOk result (λ both. both.0 ≡ outcome_of R.SIDE self.now call.now) }
         ensures reply { IfOk result (λ both. both.1 ≡ reply_of R.SIDE self.now call.now) }
@@ -72,7 +67,6 @@ impl<R: Role> Desk<R> {
         Ok((outcome, reply))
     }
 
-    /// The reply to the call, whose change is made.
     fn try_step(&mut self, call: &Call) -> Result<Reply, AllocError>
         ensures reply { IfOk result (λ reply. reply ≡ reply_of R.SIDE self.old call.now) }
         ensures next { OnOk result (self.new ≡ after R.SIDE self.old call.now) }

@@ -152,8 +152,8 @@ fn told_alone<R: Role>(
         "unsaved" => unsaved(alloc, desk, text)?,
         // All is saved.
         "save" => text.push_str("none")?,
-        "in_range" => {
-            desk.in_range();
+        "known" => {
+            desk.known();
             text.push_str("ok")?;
         }
         _ => return Ok(false),

@@ -3,7 +3,7 @@
 use super::deciding::add_decision;
 use super::tables::two_tables;
 use gi_calls::{Fault, Words};
-use gi_desk::{difference, met_again, same_hours};
+use gi_desk::{difference, met_again};
 use std::alloc::Global;
 use std::fmt::Write;
 
@@ -20,7 +20,7 @@ pub fn compared(alloc: Global, line: &str, text: &mut String) -> Result<bool, Fa
             None => text.push_str("none")?,
         },
         "met_again" => add_decision(&met_again(&one, &other), text)?,
-        "same_hours" => write!(text, "{}", same_hours(&one, &other))?,
+        "covers_same_hours" => write!(text, "{}", one.covers_same_hours(&other))?,
         _ => return Ok(false),
     }
     Ok(true)

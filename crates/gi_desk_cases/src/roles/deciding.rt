@@ -79,7 +79,7 @@ fn order_taken(
         let message = Message::Delord(order);
         return Ok(Some(Matching::decide(alloc, state, &message)));
     }
-    Ok(Some(take_order(alloc, state, &order)))
+    Ok(Some(take_order(state, &order)))
 }
 
 /// What is decided of the response that the line is; by the role, where it is asked.

@@ -61,30 +61,22 @@ fn by_role(
 }
 
 /// The order of the closed cycle.
-fn order(
-    alloc: Global,
-    state: &CycleState,
-    words: Words<'_>,
-) -> Result<Option<Option<Message>>, AllocError> {
+fn order(state: &CycleState, words: Words<'_>) -> Result<Option<Option<Message>>, AllocError> {
     let mut words = words;
     let (CycleState::Frozen(cycle), Some(point)) = (state, words.code()) else {
         return Ok(None);
     };
-    let order = order_for(alloc, point, cycle)?;
+    let order = order_for(point, cycle)?;
     Ok(Some(Some(Message::Delord(order))))
 }
 
 /// The response of the matched cycle.
-fn response(
-    alloc: Global,
-    state: &CycleState,
-    words: Words<'_>,
-) -> Result<Option<Option<Message>>, AllocError> {
+fn response(state: &CycleState, words: Words<'_>) -> Result<Option<Option<Message>>, AllocError> {
     let mut words = words;
     let (CycleState::Matched(cycle), Some(point)) = (state, words.code()) else {
         return Ok(None);
     };
-    let response = response_for(alloc, point, cycle)?;
+    let response = response_for(point, cycle)?;
     Ok(Some(Some(Message::Delres(response))))
 }
 
@@ -97,8 +89,8 @@ pub fn sent(
 ) -> Result<bool, Fault> {
     let mut words = Words::of(line);
     let sent = match words.next() {
-        "order_for" => order(alloc, state, words)?,
-        "response_for" => response(alloc, state, words)?,
+        "order_for" => order(state, words)?,
+        "response_for" => response(state, words)?,
         method => by_role(alloc, state, method, words)?,
     };
     let Some(message) = sent else {

@@ -1,27 +1,11 @@
-use Rattle.std.proofs.Common.{◌≡◌, Some, None, sym, ap, ◌∙◌, subst}
+use Rattle.std.proofs.Common.{Some, None, ap, ◌∙◌}
 use Rattle.std.specs.Option.{option_copied}
-use Rattle.gi_desk.specs.Kept.{states_of}
-use Rattle.gi_desk.specs.Machine.{DeskState, bad_fact}
-use Rattle.gi_desk.proofs.Confirmed.{found_confirmed, none_confirmed}
+use Rattle.gi_desk.proofs.Confirmed.{confirmed-met}
 use Rattle.gi_desk.proofs.desk.Desk.confirmed.Goals as goal
 
-pub returns-then-lacks_saved_meeting : goal.returns-then-lacks_saved_meeting
-returns-then-lacks_saved_meeting g c = sym (none_confirmed g.R.Role.SIDE c.args.self.now c.args.id c.if-lacks_saved_meeting.ensures)
-
-pub returns-in_err-find : goal.returns-in_err-find
-returns-in_err-find g c =
-    let side = g.R.Role.SIDE in
-    let s = c.args.self.now in
-    let legal = subst (λ (s : DeskState). bad_fact side s.point s.facts ≡ None) c.self.view_is c.self.invariant.legal in
-    let states = c.deref.ensures.value ∙ c.self.invariant.stages ∙ ap (λ (s : DeskState). states_of side s.facts) c.self.view_is in
-    ap option_copied c.from_residual.ensures
-    ∙ found_confirmed side s c.args.id None legal c.if-lacks_saved_meeting.ensures (c.in_err-find.ensures side s.facts states)
+pub returns-in_err-met_saved : goal.returns-in_err-met_saved
+returns-in_err-met_saved g c =
+    ap option_copied c.from_residual.ensures ∙ confirmed-met g.R.Role.SIDE c.args.self.now c.args.id None c.in_err-met_saved.ensures
 
 pub returns : goal.returns
-returns g c =
-    let side = g.R.Role.SIDE in
-    let s = c.args.self.now in
-    let legal = subst (λ (s : DeskState). bad_fact side s.point s.facts ≡ None) c.self.view_is c.self.invariant.legal in
-    let states = c.deref.ensures.value ∙ c.self.invariant.stages ∙ ap (λ (s : DeskState). states_of side s.facts) c.self.view_is in
-    c.confirmed_in.ensures
-    ∙ found_confirmed side s c.args.id (Some c.in_ok-find.field-0.now) legal c.if-lacks_saved_meeting.ensures (c.in_ok-find.ensures side s.facts states)
+returns g c = ap Some c.confirmed.ensures.kept ∙ confirmed-met g.R.Role.SIDE c.args.self.now c.args.id (Some c.in_ok-met_saved.field-0.now) c.in_ok-met_saved.ensures

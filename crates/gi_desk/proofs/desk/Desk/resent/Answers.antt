@@ -1,7 +1,8 @@
 use Rattle.std.proofs.Common.{◌≤◌, ◌∙◌, ℕ, ap, sym, subst}
 use Rattle.gi_desk.specs.History.{is_closing, is_meeting, number_of}
 use Rattle.gi_desk.specs.Machine.{DeskState}
-use Rattle.gi_desk.proofs.LettingOut.{both_out, number_of-from}
+use Rattle.gi_desk.proofs.LettingOut.{both_out}
+use Rattle.gi_desk.proofs.StateLaws.{number_of-from}
 use Rattle.gi_desk.proofs.desk.Desk.resent.Goals as goal
 
 pub saved_out-requires : goal.saved_out-requires

@@ -1,6 +1,6 @@
 use Rattle.std.proofs.Common.{rules, ◌≡◌, ◌+◌, [], ◌∷◌, ◌++◌, ap, ◌∙◌, sym}
 use Rattle.gi_desk.specs.Machine.{after, reply}
-use Rattle.gi_desk.specs.declared.answer.Answer.TheVariants as answers
+use Rattle.gi_desk.specs.declared.reply.Answer.TheVariants as answers
 use Rattle.gi_desk.specs.declared.refusal.Refusal.TheVariants as refusals
 use Rattle.gi_office.specs.Keeping.{HeldState, SeatState}
 use Rattle.gi_office.specs.declared.entry.Entry.{Entry}

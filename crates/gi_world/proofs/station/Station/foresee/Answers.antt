@@ -1,7 +1,7 @@
 use Rattle.std.proofs.Common.{◌≡◌, rules, subst}
 use Rattle.std.specs.Prelude.{IsTrue}
 use Rattle.gi_desk.specs.Machine.{may_want}
-use Rattle.gi_desk.specs.declared.answer.Answer.TheVariants as answers
+use Rattle.gi_desk.specs.declared.reply.Answer.TheVariants as answers
 use Rattle.gi_desk.specs.declared.refusal.Refusal.TheVariants as refusals
 use Rattle.gi_world.specs.World.{StationState}
 use Rattle.gi_world.proofs.MemoryWanted.{foreseen_short}

@@ -5,25 +5,19 @@ ghost use Rattle.gi_messages.specs.declared.message.Message.TheVariants as messa
 ghost use Rattle.gi_desk.specs.LetOut.{frozen_of, let_out_on_closing, sent as sent_of};
 ghost use Rattle.gi_desk.specs.Messages.{acknow_of, on_met, to_user};
 
-use crate::body::Body;
-use crate::packet::Packet;
-use crate::recipient::Recipient;
+use crate::packet::{Packet, Recipient};
 use crate::role::Role;
 use gi_cycles::{Collecting, CycleState, Frozen, Matched};
-use gi_messages::{Acknow, Message, Nomint, encode};
+use gi_messages::{Acknow, Message, Nomint};
 use gi_pairs::Code;
 use std::alloc::{AllocError, Global};
 
-/// What is sent to the peer, if anything.
 fn sent(alloc: Global, message: Option<Message>) -> Result<Vec<Packet>, AllocError>
     ensures { IfOk result (λ packets. packets.items ≡ sent_of message) }
 {
     let mut packets = Vec::new(alloc);
     if let Some(message) = message {
-        packets.push(Packet {
-            to: Recipient::Peer,
-            body: Body::from(encode(alloc, &message)?),
-        })?;
+        packets.push(Packet::of(alloc, Recipient::Peer, &message)?)?;
     }
     Ok(packets)
 }
@@ -38,14 +32,11 @@ pub(crate) fn on_taking(alloc: Global, document: &Nomint) -> Result<Vec<Packet>,
         day: document.day,
         version: document.version,
     });
-    let packet = Packet {
-        to: Recipient::User(document.portfolio),
-        body: Body::from(encode(alloc, &message)?),
-    };
+    let packet = Packet::of(alloc, Recipient::User(document.portfolio), &message)?;
     Ok(vec![in alloc; packet]?)
 }
 
-/// The matched cycle as it was frozen.
+/// The matched cycle as it was frozen: a role writes of a closing from that alone.
 fn frozen_again(cycle: &Matched) -> Result<Frozen, AllocError>
     ensures { IfOk result (λ frozen. frozen ≡ frozen_of cycle.now) }
 {
@@ -53,7 +44,6 @@ fn frozen_again(cycle: &Matched) -> Result<Frozen, AllocError>
     Ok(Collecting::new(cycle.id()).close(own))
 }
 
-/// What the closing of the cycle let out, by how far the cycle is now.
 pub(crate) fn on_closing<R: Role>(
     alloc: Global,
     point: Code,
@@ -69,7 +59,6 @@ pub(crate) fn on_closing<R: Role>(
     sent(alloc, message)
 }
 
-/// What the meeting of the cycle let out to the peer.
 pub(crate) fn on_meeting<R: Role>(
     alloc: Global,
     point: Code,

@@ -43,7 +43,6 @@ impl<R: Role> Desk<R> {
         book_at(self.alloc, self.point, &self.facts)
     }
 
-    /// A nomination.
     fn nominated(&self, document: Nomint) -> Result<Outcome, AllocError>
         ensures { IfOk result (λ outcome. outcome ≡ nominated_of self.now.point self.now.facts document) }
     {
@@ -52,7 +51,6 @@ impl<R: Role> Desk<R> {
         Ok(nominated(&self.calendar, &self.facts, &book, &contracts, document))
     }
 
-    /// A nomination in these bytes.
     fn submitted(&self, bytes: &[u8]) -> Result<Outcome, AllocError>
         ensures value { IfOk result (λ outcome. outcome ≡ submitted_of self.now.point self.now.facts (decoded bytes.now)) }
         ensures short { IfErr result (λ _. IsTrue (can_be_read bytes.now)) }
@@ -65,7 +63,6 @@ impl<R: Role> Desk<R> {
         }
     }
 
-    /// The peer's message, which is for this side, of this cycle.
     fn decided(&self, id: &CycleId, message: &Message) -> Result<Outcome, AllocError>
         requires kind { IsForRole R.SIDE message.now }
         requires few { HasFewRows message.now }
@@ -80,7 +77,6 @@ impl<R: Role> Desk<R> {
         Ok(decided(&self.facts, *id, decision))
     }
 
-    /// The peer's message in these bytes.
     fn delivered(&self, bytes: &[u8]) -> Result<Outcome, AllocError>
         ensures value { IfOk result (λ outcome. outcome ≡ delivered_of R.SIDE self.now.point self.now.facts (decoded bytes.now)) }
         ensures short { IfErr result (λ _. IsTrue (can_be_read bytes.now)) }
@@ -99,7 +95,6 @@ impl<R: Role> Desk<R> {
         self.decided(&id, &message)
     }
 
-    /// What a call comes to by itself.
     fn comes_to(&self, call: &Call) -> Result<Outcome, AllocError>
         ensures value { IfOk result (λ outcome. outcome ≡ comes_to_of R.SIDE self.now call.now) }
         ensures short { IfErr result (λ _. IsTrue (learns_with_memory call.now)) }
@@ -140,7 +135,6 @@ impl<R: Role> Desk<R> {
         }
     }
 
-    /// Whether the nomination can be taken.
     fn would_take(&self, document: &Nomint) -> Result<bool, AllocError>
         ensures { IfOk result (λ would. would ≡ would_record_of R.SIDE self.now.point self.now.facts (Nominated document.now)) }
     {
@@ -154,7 +148,6 @@ impl<R: Role> Desk<R> {
         )
     }
 
-    /// Whether the cycle can meet the peer's table.
     fn would_meet(&self, id: &CycleId, peer: &Table) -> bool
         ensures { result ≡ would_record_of R.SIDE self.now.point self.now.facts (Met id.now peer.now) }
     {

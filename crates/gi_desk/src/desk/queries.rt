@@ -1,0 +1,116 @@
+//! What a desk is asked without a step.
+
+ghost use Rattle.std.specs.Prelude.{◌≡◌, IfOk, IfSome, nat_lt};
+ghost use Rattle.std.specs.Option.{option_copied, option_map};
+ghost use Rattle.gi_facts.specs.Grammar.{IsWritable};
+ghost use Rattle.gi_desk.specs.History.{is_meeting, number_of, state_of};
+ghost use Rattle.gi_desk.specs.Queries.{acknowledged as is_acknowledged, confirmed as confirmed_of, fact_at, matched_in as matched_in_state, met_saved as met_saved_of, outgoing as outgoing_of, stage_of, told as told_in, unsaved as next_unsaved};
+
+use crate::desk::Desk;
+use crate::history::number_of_meeting;
+use crate::packet::Packets;
+use crate::role::Role;
+use crate::stage_name::StageName;
+use crate::stages::{find, stage};
+use crate::telling::told_if;
+use gi_cycles::{CycleState, Matched};
+use gi_facts::Fact;
+use gi_messages::Nomres;
+use gi_pairs::{Code, CycleId, Table};
+use std::alloc::AllocError;
+
+fn matched_in(state: &CycleState) -> Option<&Matched>
+    ensures { option_copied result ≡ matched_in_state state.now }
+{
+    match state {
+        CycleState::Matched(cycle) => Some(cycle),
+        _ => None,
+    }
+}
+
+impl<R: Role> Desk<R> {
+    /// Fact number `n`, from 1. It can be written.
+    pub fn fact(&self, n: u32) -> Option<&Fact>
+        ensures value { option_copied result ≡ fact_at self.now.facts n }
+        ensures writable { IfSome result (λ fact. IsWritable fact.now) }
+    {
+        let before = n.checked_sub(1)?;
+        let fact = self.facts.get(before as usize)?;
+        Some(fact)
+    }
+
+    /// The next fact to save, with its number. It can be written.
+    pub fn unsaved(&self) -> Option<(u32, &Fact)>
+        ensures value { option_map (λ it. (it.0, it.1.now)) result ≡ next_unsaved self.now }
+        ensures writable { IfSome result (λ it. IsWritable it.1.now) }
+    {
+        let fact = self.facts.get(self.saved as usize)?;
+        Some((self.saved + 1, fact))
+    }
+
+    /// Whether fact number `n` is saved: a nomination so recorded is acknowledged.
+    pub fn acknowledged(&self, n: u32) -> bool
+        ensures { result ≡ is_acknowledged self.now n }
+    {
+        1 <= n && n <= self.saved
+    }
+
+    /// How far the cycle is, by all facts.
+    pub fn state(&self, id: CycleId) -> StageName
+        ensures { result ≡ stage_of (state_of R.SIDE self.now.facts id) }
+    {
+        match find(&self.states, id) {
+            Some(state) => stage(state),
+            None => StageName::Collecting,
+        }
+    }
+
+    /// What is confirmed of the cycle: the lesser of its frozen table and the peer's, once a saved
+    /// fact met the latter.
+    pub fn confirmed(&self, id: CycleId) -> Option<&Table>
+        ensures { option_copied result ≡ confirmed_of R.SIDE self.now id }
+    {
+        Some(self.met_saved(&id)?.confirmed())
+    }
+
+    /// The cycle, where a saved fact met the peer's table: the number of its meeting tells that, as
+    /// a state counts facts that are not saved.
+    fn met_saved(&self, id: &CycleId) -> Option<&Matched>
+        ensures { option_copied result ≡ met_saved_of R.SIDE self.now id.now }
+    {
+        if self.lacks_saved_meeting(id) {
+            return None;
+        }
+        matched_in(find(&self.states, *id)?)
+    }
+
+    fn lacks_saved_meeting(&self, id: &CycleId) -> bool
+        ensures { result ≡ nat_lt self.now.saved (number_of (is_meeting id.now) self.now.facts) }
+    {
+        number_of_meeting(&self.facts, *id) > self.saved as usize
+    }
+
+    /// What the portfolio is told of the cycle: its confirmed rows, once a saved fact met the
+    /// peer's table and where it stands in one of them.
+    #[tactic(auto, unfolding(crate::specs::Queries::told))]
+    pub fn told(&self, portfolio: Code, id: CycleId) -> Result<Option<Nomres>, AllocError>
+        ensures { IfOk result (λ nomres. nomres ≡ told_in R.SIDE self.now portfolio id) }
+    {
+        match self.met_saved(&id) {
+            Some(cycle) => told_if(self.alloc, R::SIDE, self.point, cycle, portfolio),
+            None => Ok(None),
+        }
+    }
+
+    /// What the saved facts from number `first` on let out, in order. 0 reads as 1.
+    pub fn outgoing(&self, first: u32) -> Result<Packets, AllocError>
+        ensures { IfOk result (λ packets. packets ≡ outgoing_of R.SIDE self.now first) }
+    {
+        let mut packets = Vec::new(self.alloc);
+        for n in first.max(1)..self.saved + 1 {
+            let mut later = self.let_out(n)?;
+            packets.append(&mut later)?;
+        }
+        Ok(Packets::from(packets))
+    }
+}
