@@ -110,13 +110,6 @@ impl GasDay {
     pub fn known(self)
         ensures { IsGasYear self.year }
     {}
-
-    /// Every gas day lies in the years 2000 to 2199.
-    pub fn in_range(self)
-        ensures { IsGasYear self.year }
-    {
-        let _ = self.date();
-    }
 }
 
 impl fmt::Display for GasDay {
