@@ -56,7 +56,7 @@ pub key_of-lesser_row : (own peer : TableContents) (key : Key) → key_of (lesse
 unfolding lesser_row
 key_of-lesser_row own peer key = refl
 
-keys_of-rows : (own peer : TableContents) (ks : List Key) → keys_of (map (lesser_row own peer) ks) ≡ ks
+pub keys_of-rows : (own peer : TableContents) (ks : List Key) → keys_of (map (lesser_row own peer) ks) ≡ ks
 keys_of-rows own peer [] = refl
 keys_of-rows own peer (k ∷ ks) = λ i. key_of-lesser_row own peer k i ∷ keys_of-rows own peer ks i
 
@@ -212,7 +212,7 @@ hour-lesser_row own peer key hour low high =
     get_or-map-range_with_len (λ h. min (reading own key.pair key.direction h) (reading peer key.pair key.direction h)) own.first (covered own.first own.last) (hour - own.first) hour 0
     (omega arith) (omega arith)
 
-shape-lesser : (own peer : TableContents) → ((lesser_of own peer).first ≡ own.first) × ((lesser_of own peer).last ≡ own.last)
+pub shape-lesser : (own peer : TableContents) → ((lesser_of own peer).first ≡ own.first) × ((lesser_of own peer).last ≡ own.last)
 unfolding lesser_of
 shape-lesser own peer = (refl, refl)
 

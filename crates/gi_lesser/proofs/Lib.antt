@@ -1,3 +1,6 @@
 pub mod LesserLaws
 mod BothWays
-mod Rows
+mod Union
+mod WalkAnswers
+mod WalkLaws
+mod WalkTable

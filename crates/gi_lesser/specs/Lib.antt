@@ -1,2 +1,3 @@
 pub mod Lesser
 pub mod Laws
+pub mod Walk

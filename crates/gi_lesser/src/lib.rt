@@ -3,6 +3,7 @@
 
 mod laws;
 mod lesser_rule;
+mod walk;
 
 pub use laws::lessens_both_ways;
 pub use lesser_rule::lesser;
