@@ -12,7 +12,7 @@ ghost use Rattle.gi_facts.specs.declared.fact.Fact.TheVariants.{Contracted, Noti
 ghost use Rattle.gi_desk.specs.History.{capacity_of, documents_of, is_closed as is_closed_in, is_closing, is_meeting, is_taking, last_closed as last_closed_of, number_of};
 
 use gi_day::{Calendar, GasDay};
-use gi_facts::{Fact, copy_nomination};
+use gi_facts::Fact;
 use gi_messages::Nomint;
 use gi_nominations::Book;
 use gi_pairs::{Code, CycleId};
@@ -170,7 +170,7 @@ fn take(book: &mut Book, fact: &Fact) -> Result<(), AllocError>
     ensures documents { OnOk result (book.new.documents ≡ book.old.documents ++ documents_of (fact.now ∷ [])) }
 {
     match fact {
-        Fact::Nominated(document) => book.take(copy_nomination(document)?),
+        Fact::Nominated(document) => book.take(document.copy()?),
         _ => Ok(()),
     }
 }

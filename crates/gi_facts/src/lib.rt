@@ -7,7 +7,6 @@ mod fact;
 mod fact_fault;
 mod kind;
 mod laws;
-mod same;
 
 pub use decoding::decode_fact;
 pub use encoding::encode_fact;
@@ -17,4 +16,3 @@ pub use laws::{
     fact_is_text, fact_round_trip, fact_writable_exactly, one_fact, reads_fact,
     same_facts_are_equal, writes_fact,
 };
-pub use same::{copy_nomination, same_table};

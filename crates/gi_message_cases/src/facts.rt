@@ -4,7 +4,7 @@ mod shown;
 
 use crate::json_bytes::{add_written, json_bytes};
 use gi_calls::{Fault, Subject, Words};
-use gi_facts::{Fact, FactFault, copy_nomination, decode_fact, encode_fact, same_table};
+use gi_facts::{Fact, FactFault, decode_fact, encode_fact};
 use shown::add_fact;
 use std::alloc::Global;
 
@@ -74,7 +74,7 @@ impl Facts {
         let Some(Fact::Nominated(nomination)) = &self.fact else {
             return Ok(text.push_str("none")?);
         };
-        let copy = copy_nomination(nomination)?;
+        let copy = nomination.copy()?;
         self.keep_copy(alloc, Fact::Nominated(copy), text)
     }
 
@@ -94,7 +94,7 @@ impl Facts {
         ) else {
             return "none";
         };
-        truth(same_table(peer, other))
+        truth(peer == other)
     }
 }
 

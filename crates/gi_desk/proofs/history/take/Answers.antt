@@ -9,14 +9,14 @@ use Rattle.gi_desk.proofs.HistoryLaws.{no_document}
 use Rattle.gi_desk.proofs.history.take.Goals as goal
 
 pub take-requires : goal.take-requires
-take-requires c = record { newer = subst (λ (document : Nomint). IsNewer c.args.book.now.documents document) (sym c.in_ok-copy_nomination-in-Nominated.ensures) (c.requires c.in-Nominated.document c.in-Nominated.is) }
+take-requires c = record { newer = subst (λ (document : Nomint). IsNewer c.args.book.now.documents document) (sym c.in_ok-copy-in-Nominated.ensures) (c.requires c.in-Nominated.document c.in-Nominated.is) }
 
-pub returns-in_ok-copy_nomination-in-Nominated-clause-documents :
-    goal.returns-in_ok-copy_nomination-in-Nominated-clause-documents
+pub returns-in_ok-copy-in-Nominated-clause-documents :
+    goal.returns-in_ok-copy-in-Nominated-clause-documents
 unfolding documents_of
-returns-in_ok-copy_nomination-in-Nominated-clause-documents c =
+returns-in_ok-copy-in-Nominated-clause-documents c =
     on_ok_weaker c.take.result
-    (λ e. ap (λ (d : Documents). d.documents) e ∙ (λ t. c.args.book.now.documents ++ c.in_ok-copy_nomination-in-Nominated.ensures t ∷ [])
+    (λ e. ap (λ (d : Documents). d.documents) e ∙ (λ t. c.args.book.now.documents ++ c.in_ok-copy-in-Nominated.ensures t ∷ [])
     ∙ ap (λ (fact : Fact). c.args.book.now.documents ++ documents_of (fact ∷ [])) (sym c.in-Nominated.is))
     c.take.ensures.taken
 
