@@ -57,20 +57,12 @@ impl<'a> Words<'a> {
 
     /// The next word as a direction.
     pub fn direction(&mut self) -> Option<Direction> {
-        match self.next() {
-            "IM" => Some(Direction::IM),
-            "MI" => Some(Direction::MI),
-            _ => None,
-        }
+        self.next().parse::<Direction>().ok()
     }
 
     /// The next word as a side.
     pub fn side(&mut self) -> Option<Side> {
-        match self.next() {
-            "I" => Some(Side::I),
-            "M" => Some(Side::M),
-            _ => None,
-        }
+        self.next().parse::<Side>().ok()
     }
 
     /// The next word as a number that fits.

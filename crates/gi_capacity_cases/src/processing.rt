@@ -8,7 +8,7 @@ mod running_sums;
 
 use crate::hours_text::add_table;
 use gi_calls::{Fault, Subject, Words};
-use gi_pairs::{Pair, Table};
+use gi_pairs::Table;
 use gi_processing::{ContractFault, MOST_PERMILLE, MOST_PORTFOLIOS, NoticeFault};
 use reading::notice;
 use recorded::answer_recorded;
@@ -116,31 +116,20 @@ impl Processing {
         };
         let table = records.processed(alloc, side, day, cycle)?;
         match &table {
-            Some(table) if whole => add_table(table, text)?,
-            Some(table) => write!(text, "{}", table.rows().len())?,
-            None => text.push_str("NoSuchCycle")?,
+            Ok(table) if whole => add_table(table, text)?,
+            Ok(table) => write!(text, "{}", table.rows().len())?,
+            Err(fault) => write!(text, "{fault}")?,
         }
-        self.table = table;
+        self.table = table.ok();
         Ok(true)
     }
 
     /// Adds what the table reads.
     fn at(&self, mut words: Words<'_>, text: &mut String) -> Result<bool, Fault> {
-        let (Some(table), Some(initiating), Some(matching)) = (
-            &self.table,
-            words.code(),
-            words.code(),
-        ) else {
+        let (Some(table), Some(key), Some(hour)) = (&self.table, words.key(), words.byte()) else {
             return Ok(false);
         };
-        let (Some(direction), Some(hour)) = (words.direction(), words.byte()) else {
-            return Ok(false);
-        };
-        let pair = Pair {
-            initiating,
-            matching,
-        };
-        write!(text, "{}", table.at(pair, direction, hour))?;
+        write!(text, "{}", table.at(key.pair, key.direction, hour))?;
         Ok(true)
     }
 }

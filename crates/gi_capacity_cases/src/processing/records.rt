@@ -6,7 +6,7 @@ ghost use Rattle.gi_nominations.specs.Book.{IsNewer};
 ghost use Rattle.gi_nominations.specs.declared.verdict.Verdict.TheVariants as Verdict;
 ghost use Rattle.gi_processing.specs.Processing.{AreSound, IsSound};
 
-use gi_day::{Calendar, DayFrame, GasDay};
+use gi_day::{Calendar, DayFrame, GasDay, NoSuchCycle};
 use gi_messages::Nomint;
 use gi_nominations::{Book, Setting, Verdict};
 use gi_pairs::{Code, Side, Table};
@@ -78,19 +78,19 @@ impl Records {
         Ok(verdict)
     }
 
-    /// The processed table of a cycle, where the gas day has it.
+    /// The processed table of a cycle, or what the gas day's frame says of one that it has not.
     pub fn processed(
         &self,
         alloc: Global,
         side: Side,
         day: GasDay,
         cycle: u8,
-    ) -> Result<Option<Table>, AllocError> {
+    ) -> Result<Result<Table, NoSuchCycle>, AllocError> {
         let frame = frame(day);
-        if cycle >= frame.cycle_count() {
-            return Ok(None);
+        if let Err(fault) = frame.cycle_start(cycle) {
+            return Ok(Err(fault));
         }
         let table = processed(alloc, &self.book, &self.contracts, side, &frame, cycle)?;
-        Ok(Some(table))
+        Ok(Ok(table))
     }
 }

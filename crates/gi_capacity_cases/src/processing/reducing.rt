@@ -57,7 +57,7 @@ pub fn processed_lines(
     let Verdict::Recordable = records.take(nomint)? else {
         return Ok(None);
     };
-    Ok(records.processed(alloc, Side::I, day, 0)?)
+    Ok(records.processed(alloc, Side::I, day, 0)?.ok())
 }
 
 /// Lines in `IM` with these quantities in every hour, B's first. Where they are mixed, the last one
