@@ -52,22 +52,32 @@ def need(crate, jobs):
     return whole / 2 * (1 + 0.3 * (jobs - 1))
 
 
-def side_by_side(tasks, work, waits=lambda task, other: False, jobs=1, look=lambda: None):
-    """Does the work of each crate, each after those that it waits for, as many side by side as there are processors and memory, and
-    gives what each answered. The first are those on which most others wait. A look is taken each second."""
-    left = sorted(tasks, key=lambda it: -sum(waits(other, it) for other in tasks))
+def lines_of(crate):
+    return sum(rtlib.text_of(it).count("\n") for it in rtlib.files_of(crate.folder))
+
+
+def side_by_side(tasks, work, waits=lambda task, other: False, weight=lines_of, jobs=1, look=lambda: None):
+    """Does the work of each crate, each after all those that it waits for, as many side by side as there are processors and memory,
+    and gives what each answered. The first is that with which the heaviest way begins, through those that wait: it is given all
+    jobs, and the others one each, of a lower priority. A look is taken each second."""
+    ways = {}
+    for task in sorted(tasks, key=lambda it: -sum(waits(it, other) for other in tasks)):
+        ways[task] = weight(task) + max((ways[it] for it in ways if waits(it, task)), default=0)
+    left = sorted(tasks, key=lambda it: -ways[it])
     memory = 0.85 * 1024 * rtlib.number_in("/proc/meminfo", r"MemAvailable:\s+(\d+)")
     running, given = {}, {}
-    with ThreadPoolExecutor(processors()) as pool:
+    with ThreadPoolExecutor(processors()) as first, ThreadPoolExecutor(processors(), initializer=os.nice, initargs=(10,)) as others:
         while left or running:
-            busy = [*left, *running.values()]
+            busy = [*left, *(it for it, _ in running.values())]
             for task in [it for it in left if not any(waits(it, other) for other in busy)]:
-                needs = sum(need(it, jobs) for it in [*running.values(), task])
+                is_first = all(ways[task] >= ways[it] for it in busy)
+                own_jobs = jobs if is_first else 1
+                needs = need(task, own_jobs) + sum(need(*it) for it in running.values())
                 if len(running) < processors() and (not running or needs < memory):
                     left.remove(task)
-                    running[pool.submit(work, task)] = task
+                    running[(first if is_first else others).submit(work, task, own_jobs)] = task, own_jobs
             for it in wait(running, timeout=1, return_when=FIRST_COMPLETED).done:
-                given[running.pop(it)] = it.result()
+                given[running.pop(it)[0]] = it.result()
             look()
     return given
 
@@ -75,9 +85,9 @@ def side_by_side(tasks, work, waits=lambda task, other: False, jobs=1, look=lamb
 def build_libraries(libraries, started=lambda crate: None, ended=lambda crate, status, said: None, look=lambda: None):
     """Proves and builds the libraries, lowest first, side by side where none stands on the other, and gives whether all are
     proved. What is built stays, so that a build which was interrupted goes on from there."""
-    failed, jobs = set(), processors()
+    failed = set()
 
-    def work(crate):
+    def work(crate, jobs):
         if failed & {*crate.below()}:
             failed.add(crate)
             return
@@ -90,5 +100,5 @@ def build_libraries(libraries, started=lambda crate: None, ended=lambda crate, s
             failed.add(crate)
         ended(crate, status, said)
 
-    side_by_side(libraries, work, lambda crate, other: other in crate.below(), jobs, look)
+    side_by_side(libraries, work, lambda crate, other: other in crate.below(), jobs=processors(), look=look)
     return not failed
