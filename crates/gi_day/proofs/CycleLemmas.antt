@@ -1,11 +1,11 @@
 -- Which cycles a day has, when they start and what they cover.
-use Rattle.std.proofs.Common.{◌≡◌, ℕ, zero, suc, ◌+◌, ◌-◌, ◌*◌, ◌<◌, ◌≤◌, ◌↔◌, ◌⊎◌, inl, inr, ℤ, pos, neg_ℤ, ◌+ℤ◌, Option, ◌-ℤ◌, ◌≤ℤ◌, arith, refl}
+use Rattle.std.proofs.Common.{◌≡◌, ℕ, zero, suc, ◌+◌, ◌-◌, ◌*◌, ◌<◌, ◌≤◌, ◌↔◌, ◌⊎◌, inl, inr, ℤ, pos, neg_ℤ, ◌+ℤ◌, Option, ◌-ℤ◌, arith, refl}
 use Rattle.std.proofs.lemmas.Bool.Decides.{leb_tells, nat_tests}
 use Rattle.std.proofs.lemmas.Int.{ints}
 use Rattle.std.specs.Int.{IsInRange}
 use Rattle.jiff_core.proofs.SignedLemmas.{signed_arith}
 use Rattle.jiff_core.specs.declared.civil.date.Date.{Date}
-use Rattle.gi_day.specs.Cycles.{day_start, first_cycle_start, cycle_start, wait_hours, hour_count, cycle_count, hour_start, first_hour, IsCycle, IsCovered, IsDue, IsLeastOpen, IsOpen}
+use Rattle.gi_day.specs.Cycles.{day_start, first_cycle_start, cycle_start, wait_hours, hour_count, cycle_count, hour_start, first_hour, IsCycle, IsCovered, IsDue, IsOpen}
 use Rattle.gi_day.specs.FrameKept.{IsFrame, lead_hours}
 use Rattle.gi_day.specs.declared.day_frame.DayFrame.TheInside.{Inside}
 use Rattle.gi_day.proofs.DayFacts.{DayFacts, day_facts}
@@ -136,13 +136,6 @@ first_within day k h =
       | inl early ↦ rw (first_early day k early) (omega (arith, f.hours_in))
       | inr late ↦ rw (first_late day k late) (omega (arith, f.count_is, f.hours_in))
     ]
-
--- the least open cycle is the only one that may be due
-pub not_due : (day : Date) (moment : ℤ) (last : Option ℕ) (next : ℕ) → IsLeastOpen last next
-    → (IsCycle day next → cycle_start day next ≤ℤ moment → ⊥) → (cycle : ℕ) → ¬ (IsDue day moment last cycle)
-not_due day moment last next least never cycle due =
-    let same : next ≡ cycle = omega (arith, due.is_least.1 next least.0, least.1 cycle due.is_least.0) in
-    never (rw same due.is_cycle) (rw same due.started)
 
 pub none_due : (day : Date) (moment : ℤ) (last : Option ℕ) → ((cycle : ℕ) → IsOpen last cycle → 255 < cycle)
     → (cycle : ℕ) → ¬ (IsDue day moment last cycle)

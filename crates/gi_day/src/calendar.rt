@@ -82,7 +82,6 @@ impl Calendar {
         Ok(Calendar { zone: self.zone })
     }
 
-    /// The instant of a full hour of a date, in whole seconds since 1970-01-01T00:00Z.
     fn instant(&self, date: Date, hour: i8) -> Result<i64, CalendarFault>
         requires close { IsClose date }
         requires hour { IsBetween (pos 0) (pos 23) hour }

@@ -55,7 +55,6 @@ impl Model for DayFrame {
 
 const SECONDS_PER_HOUR: i64 = 3600;
 
-/// How many hours the seconds are, where they are whole hours.
 fn whole_hours(seconds: i64) -> Option<u8>
     ensures { (hours : ℕ) → hours < 256 → seconds ≡ pos (hours * 3600) → result ≡ Some hours }
 {
@@ -65,7 +64,6 @@ fn whole_hours(seconds: i64) -> Option<u8>
     u8::try_from(seconds / SECONDS_PER_HOUR).ok()
 }
 
-/// How many hours after cycle 0 a cycle starts.
 #[tactic(auto, unfolding(crate::specs::Cycles::wait_hours))]
 fn wait_hours(cycle: u8) -> i64
     ensures { result ≡ pos (wait_hours_of cycle) }
@@ -73,7 +71,6 @@ fn wait_hours(cycle: u8) -> i64
     if cycle == 0 { 0 } else { cycle as i64 + 2 }
 }
 
-/// The least number above the last one, where a cycle may have it.
 fn next_after(last_closed: Option<u8>) -> Option<u8>
     ensures { MatchOption result ((cycle : ℕ) → IsOpen last_closed cycle → 255 < cycle) (IsLeastOpen last_closed) }
 {

@@ -51,14 +51,12 @@ impl Model for GasDay {
     ghost inverse = { λ d. record { date = d } };
 }
 
-/// Whether gas days lie in the year.
 fn is_gas_year(year: i16) -> bool
     ensures { IsTrue result ↔ IsGasYear year }
 {
     2000 <= year && year <= 2199
 }
 
-/// The date of the calendar whose text `YYYY-MM-DD` this is.
 fn date_of(text: &str) -> Option<Date>
     ensures { MatchOption result (IsNoDay text.now) (λ date. IsDayText date text.now) }
 {
@@ -98,7 +96,6 @@ impl GasDay {
         }
     }
 
-    /// The date.
     pub(crate) fn date(self) -> Date
         ensures date { result ≡ self }
         ensures year { IsGasYear result.year }

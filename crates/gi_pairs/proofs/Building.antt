@@ -108,10 +108,6 @@ same_rows (x ∷ xs) (y ∷ ys) sx sy f g =
 
 -- ---- the rows put in order one by one
 
-first_two : {A B C : Type 0} → A ⊎ C → A ⊎ (B ⊎ C)
-first_two (inl e) = inl e
-first_two (inr k) = inr (inr k)
-
 behind : {A B C : Type 0} → B ⊎ (A ⊎ C) → A ⊎ (B ⊎ C)
 behind (inl e) = inr (inl e)
 behind (inr (inl e)) = inl e

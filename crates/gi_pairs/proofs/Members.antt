@@ -1,21 +1,21 @@
 -- What stands in a list, through maps and filters, and which row is found.
-use Rattle.std.proofs.Common.{◌≡◌, ℕ, ◌+◌, ◌-◌, ◌<◌, ◌≤◌, List, [], ◌∷◌, ◌++◌, length, map, filter, find, get_or, true, false, Bool, Some, None, Option, is_some, Result, Ok, Err, is_ok, arith, ◌⊎◌, inl, inr, refl, sym, ap, ◌∙◌, subst, if◌then◌else◌}
+use Rattle.std.proofs.Common.{◌≡◌, ℕ, ◌+◌, ◌-◌, ◌≤◌, List, [], ◌∷◌, ◌++◌, map, filter, find, get_or, true, false, Bool, Some, None, Option, arith, ◌⊎◌, inl, inr, refl, sym, ap, ◌∙◌, subst, if◌then◌else◌}
 use Rattle.std.specs.declared.cmp.Ordering.{Ordering}
 use Rattle.std.specs.declared.cmp.Ordering.TheVariants.{Less, Equal, Greater}
 use Rattle.std.specs.List.{list_any, range_with_len}
 use Rattle.std.proofs.lemmas.Bool.{or_parts}
 use Rattle.std.proofs.lemmas.List.{get_or_default}
 use Rattle.std.proofs.lemmas.List.FromFn.{map-range_with_len_more}
-use Rattle.std.specs.List.Sorted.{IsStrictlySortedBy, IsSearchInRange, IsBinarySearchResult}
+use Rattle.std.specs.List.Sorted.{IsStrictlySortedBy}
 use Rattle.std.specs.Ordering.{is_eq}
 use Rattle.gi_pairs.specs.Key.{key_cmp}
 use Rattle.gi_pairs.specs.Row.{key_of}
 use Rattle.gi_pairs.specs.Table.{is_at, keys_of, repeats}
 use Rattle.gi_pairs.specs.declared.key.Key.{Key}
 use Rattle.gi_pairs.specs.declared.row.Row.{Row}
-use Rattle.gi_pairs.proofs.Building.{In, contains_from_in, in_from_contains}
+use Rattle.gi_pairs.proofs.Building.{In, contains_from_in}
 use Rattle.gi_pairs.proofs.KeyOrder.{key_refl, key_same}
-use Rattle.gi_pairs.proofs.Reading.{find_found, find_missed, searchable}
+use Rattle.gi_pairs.proofs.Reading.{find_found}
 
 pub in_map : {X Y : Type 0} (f : X → Y) (x : X) (xs : List X) → In x xs → In (f x) (map f xs)
 in_map f x [] h = absurd h
@@ -98,20 +98,6 @@ pub find_present : (rows : List Row) (key : Key) → IsStrictlySortedBy key_cmp 
 find_present rows key sorted h =
     let row = from_map key_of key rows h in
     (row.0, row.1, row.2, subst (λ (k : Key). find (is_at k) rows ≡ Some row.0) row.2 (find_member rows row.0 sorted row.1))
-
--- what a binary search of rows in table order tells
-pub search_tells : (rows : List Row) (key : Key) (r : Result ℕ ℕ) → IsStrictlySortedBy key_cmp (keys_of rows) → IsSearchInRange r (length rows)
-    → IsBinarySearchResult (λ row. key_cmp (key_of row) key) rows r → is_ok r ≡ is_some (find (is_at key) rows)
-search_tells [] key (Ok i) sorted below equal = absurd (omega arith)
-search_tells (x ∷ xs) key (Ok i) sorted below equal =
-    let row = get_or (x ∷ xs) i x in
-    let found = find_found (x ∷ xs) key i (get_or (x ∷ xs) i x) sorted below (get_or_default (x ∷ xs) i x (get_or (x ∷ xs) i x) below) equal in
-    sym (ap is_some found)
-search_tells rows key (Err i) sorted below point = sym (ap is_some (find_missed rows key i (point (searchable rows key sorted))))
-
--- what was read of a list stands in it
-pub in_read : {X : Type 0} (xs : List X) (i : ℕ) (x : X) → i < length xs → x ≡ get_or xs i x → In x xs
-in_read xs i x below is = in_from_contains x xs (i, below, sym is)
 
 -- ---- keys that stand once
 

@@ -1,5 +1,4 @@
 -- The order of cycles.
-use Rattle.std.specs.Prelude.{ℕ}
 use Rattle.std.specs.declared.cmp.Ordering.{Ordering}
 use Rattle.std.specs.Ordering.{int_cmp, nat_cmp, on, then_cmp}
 use Rattle.jiff_core.specs.Date.{epoch_day}

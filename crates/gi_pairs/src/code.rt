@@ -51,14 +51,12 @@ impl Model for Code {
     ghost inverse_ok = { kept_is };
 }
 
-/// Whether a byte may stand in a code.
 fn is_code_character(byte: u8) -> bool
     ensures { result ≡ is_character byte }
 {
     matches!(byte, b'A'..=b'Z' | b'0'..=b'9' | b'-')
 }
 
-/// Whether the bytes are a code.
 fn is_code(bytes: &[u8]) -> bool
     ensures { IsTrue result ↔ IsCode bytes.now }
 {
@@ -82,7 +80,6 @@ impl Code {
         })
     }
 
-    /// The bytes of the code.
     pub(crate) fn as_bytes(&self) -> &[u8]
         ensures value { result.now ≡ self.now }
         ensures code { IsCode result.now }

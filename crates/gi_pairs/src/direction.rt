@@ -36,7 +36,6 @@ impl Direction {
     ghost use Rattle.std.specs.Prelude.{◌≡◌};
     ghost use Rattle.gi_pairs.specs.Direction.{place_of, direction_text};
 
-    /// 0 for `IM`, 1 for `MI`.
     fn place(self) -> u8
         ensures { result ≡ place_of self }
     {

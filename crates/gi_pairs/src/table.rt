@@ -86,14 +86,12 @@ impl Model for Table {
     ghost invariant = { λ t. IsTable (contents t) };
 }
 
-/// Whether a table can cover the hours from `first` to `last`.
 fn is_hour_range(first: u8, last: u8) -> bool
     ensures { result ≡ is_hour_range_of first last }
 {
     1 <= first && first <= last && last <= LAST_HOUR
 }
 
-/// Whether each row has so many hours.
 fn have_hours(rows: &[Row], hours: usize) -> bool
     ensures lengths { result ≡ list_all (λ row. length row.hours == hours) rows.now }
     ensures known { OnTrue result (All IsRow rows.now) }
@@ -107,7 +105,6 @@ fn have_hours(rows: &[Row], hours: usize) -> bool
     true
 }
 
-/// Puts the rows into table order.
 fn sort_rows(rows: &mut Vec<Row>)
     ensures permutation { IsPermutation rows.old.items rows.new.items }
     ensures sorted { IsSortedByKey key_of key_cmp rows.new.items }
@@ -115,7 +112,6 @@ fn sort_rows(rows: &mut Vec<Row>)
     rows.sort_unstable_by_key(|row| row.key());
 }
 
-/// Whether two rows of sorted rows are for one key.
 fn has_twins(rows: &[Row]) -> bool
     requires { IsSortedByKey key_of key_cmp rows.now }
     ensures twins { result ≡ repeats (keys_of rows.now) }
@@ -129,7 +125,6 @@ fn has_twins(rows: &[Row]) -> bool
     false
 }
 
-/// The row of a key, among rows in table order.
 fn row_of(rows: &[Row], key: Key) -> Option<&Row>
     requires { IsStrictlySortedBy key_cmp (keys_of rows.now) }
     ensures { option_copied result ≡ find (is_at key) rows.now }
@@ -248,7 +243,6 @@ impl Eq for Table {
     ghost laws = { Prim.search (comparing, rules) depth 12 };
 }
 
-/// Equal rows, in the same order.
 fn copy_rows(rows: &Vec<Row>) -> Result<Vec<Row>, AllocError>
     ensures { IfOk result (λ copies. copies.items ≡ rows.now.items) }
 {
