@@ -25,7 +25,6 @@ use gi_pairs::{MOST_PROCESSED_ROWS, MOST_ROWS, Table};
 use serde_json::Value;
 use std::alloc::Global;
 
-/// The version of a nomination.
 fn version(object: &Value) -> Result<u32, Key>
     ensures { result ≡ reading.number 1 last_version Version (view object.now) }
 {
@@ -52,7 +51,6 @@ pub fn nomint(alloc: Global, object: &Value) -> Result<Nomint, FieldFault>
     })
 }
 
-/// The ACKNOW that an object is.
 #[tactic(auto, unfolding(crate::specs::Decoding::acknow))]
 fn acknow(object: &Value) -> Result<Acknow, FieldFault>
     ensures { reading.Gives (λ found. found) result (acknow (view object.now)) }
@@ -69,7 +67,6 @@ fn acknow(object: &Value) -> Result<Acknow, FieldFault>
     })
 }
 
-/// The NOMRES that an object is.
 #[tactic(auto, unfolding(crate::specs::Decoding::nomres))]
 fn nomres(alloc: Global, object: &Value) -> Result<Nomres, FieldFault>
     ensures { reading.Gives (λ found. found) result (nomres (view object.now)) }
@@ -92,7 +89,6 @@ fn nomres(alloc: Global, object: &Value) -> Result<Nomres, FieldFault>
     })
 }
 
-/// The processed table for these hours that an object has.
 fn processed(alloc: Global, object: &Value, span: Span) -> Result<Table, FieldFault>
     requires { span.first ≤ span.last }
     ensures { reading.Gives (λ found. found) result (processed span (view object.now)) }
@@ -108,7 +104,6 @@ fn processed(alloc: Global, object: &Value, span: Span) -> Result<Table, FieldFa
     )
 }
 
-/// The DELORD that an object is.
 #[tactic(auto, unfolding(crate::specs::Decoding::delord))]
 fn delord(alloc: Global, object: &Value) -> Result<Delord, FieldFault>
     ensures { reading.Gives (λ found. found) result (delord (view object.now)) }
@@ -123,7 +118,6 @@ fn delord(alloc: Global, object: &Value) -> Result<Delord, FieldFault>
     })
 }
 
-/// The DELRES that an object is.
 #[tactic(auto, unfolding(crate::specs::Decoding::delres))]
 fn delres(alloc: Global, object: &Value) -> Result<Delres, FieldFault>
     ensures { reading.Gives (λ found. found) result (delres (view object.now)) }
@@ -141,7 +135,6 @@ fn delres(alloc: Global, object: &Value) -> Result<Delres, FieldFault>
     })
 }
 
-/// The message of a kind that an object is.
 fn of_kind(alloc: Global, kind: Kind, object: &Value) -> Result<Message, FieldFault>
     ensures { reading.Gives (λ found. found) result (of_kind kind (view object.now)) }
 {
@@ -162,7 +155,6 @@ pub fn kind_of(object: &Value) -> Option<Kind>
     kind_named(object.get(Key::Kind.text())?.as_str()?)
 }
 
-/// The message that the bytes are, or the first fault.
 #[tactic(auto, unfolding(crate::specs::Decoding::decoded))]
 fn read(alloc: Global, bytes: &[u8]) -> Result<Message, MessageFault>
     ensures exact { Gives result (decoded bytes.now) }

@@ -14,7 +14,6 @@ use gi_pairs::{Quantity, Row};
 use serde_json::{Value, json};
 use std::alloc::{AllocError, Global};
 
-/// The array of the quantities.
 fn quantities_value(alloc: Global, quantities: &[Quantity]) -> Result<Value, AllocError>
     ensures { IfOk result (λ value. view value ≡ whole_numbers quantities.now) }
 {
@@ -25,7 +24,6 @@ fn quantities_value(alloc: Global, quantities: &[Quantity]) -> Result<Value, All
     Ok(Value::Array(values))
 }
 
-/// The object of a row.
 #[tactic(auto, unfolding(crate::specs::Writing::row_data))]
 fn row_value(alloc: Global, row: &Row) -> Result<Value, AllocError>
     ensures { IfOk result (λ value. view value ≡ row_data row.now) }
@@ -50,7 +48,6 @@ pub fn rows_value(alloc: Global, rows: &[Row]) -> Result<Value, AllocError>
     Ok(Value::Array(values))
 }
 
-/// The object of a line.
 #[tactic(auto, unfolding(crate::specs::Writing::line_data))]
 fn line_value(alloc: Global, line: &Line) -> Result<Value, AllocError>
     ensures { IfOk result (λ value. view value ≡ line_data line.now) }
@@ -63,7 +60,6 @@ fn line_value(alloc: Global, line: &Line) -> Result<Value, AllocError>
     })
 }
 
-/// The JSON array of the lines, in their order.
 fn lines_value(alloc: Global, lines: &[Line]) -> Result<Value, AllocError>
     ensures { IfOk result (λ value. view value ≡ lines_data lines.now) }
 {
@@ -91,7 +87,6 @@ pub fn nomint_value(alloc: Global, message: &Nomint) -> Result<Value, AllocError
     })
 }
 
-/// The object of an ACKNOW.
 #[tactic(auto, unfolding(crate::specs::Writing::acknow_data))]
 fn acknow_value(alloc: Global, message: &Acknow) -> Result<Value, AllocError>
     ensures { IfOk result (λ value. view value ≡ acknow_data message.now) }
@@ -106,7 +101,6 @@ fn acknow_value(alloc: Global, message: &Acknow) -> Result<Value, AllocError>
     })
 }
 
-/// The object of a NOMRES.
 #[tactic(auto, unfolding(crate::specs::Writing::nomres_data))]
 fn nomres_value(alloc: Global, message: &Nomres) -> Result<Value, AllocError>
     ensures { IfOk result (λ value. view value ≡ nomres_data message.now) }
@@ -125,7 +119,6 @@ fn nomres_value(alloc: Global, message: &Nomres) -> Result<Value, AllocError>
     })
 }
 
-/// The object of a DELORD.
 #[tactic(auto, unfolding(crate::specs::Writing::delord_data))]
 fn delord_value(alloc: Global, message: &Delord) -> Result<Value, AllocError>
     ensures { IfOk result (λ value. view value ≡ delord_data message.now) }
@@ -143,7 +136,6 @@ fn delord_value(alloc: Global, message: &Delord) -> Result<Value, AllocError>
     })
 }
 
-/// The object of a DELRES.
 #[tactic(auto, unfolding(crate::specs::Writing::delres_data))]
 fn delres_value(alloc: Global, message: &Delres) -> Result<Value, AllocError>
     ensures { IfOk result (λ value. view value ≡ delres_data message.now) }
@@ -163,7 +155,6 @@ fn delres_value(alloc: Global, message: &Delres) -> Result<Value, AllocError>
     })
 }
 
-/// The object of a message.
 fn message_value(alloc: Global, message: &Message) -> Result<Value, AllocError>
     ensures { IfOk result (λ value. view value ≡ data_of message.now) }
 {

@@ -42,7 +42,6 @@ pub fn span_of(object: &Value) -> Result<Span, Key>
     })
 }
 
-/// What a DELORD or a DELRES begins with.
 #[tactic(auto, unfolding(crate::specs::Decoding::head))]
 pub(crate) fn head_of(object: &Value) -> Result<Head, Key>
     ensures value { result ≡ head (view object.now) }

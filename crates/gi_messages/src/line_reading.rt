@@ -13,8 +13,6 @@ use crate::quantities::hours;
 use serde_json::Value;
 use std::alloc::Global;
 
-/// A line, from an element of the array at the key `lines`: with so many hours, or with any number
-/// of them where no count is given.
 #[tactic(auto, unfolding(crate::specs::Reading::line))]
 fn line(alloc: Global, element: &Value, count: Option<usize>) -> Result<Line, FieldFault>
     ensures { Gives (λ found. found) result (line count (view element.now)) }
@@ -32,7 +30,6 @@ fn line(alloc: Global, element: &Value, count: Option<usize>) -> Result<Line, Fi
     })
 }
 
-/// The lines of an array's elements.
 fn each_line(
     alloc: Global,
     elements: &[Value],

@@ -13,7 +13,6 @@ use gi_pairs::{Hours, Quantity};
 use serde_json::Value;
 use std::alloc::Global;
 
-/// The quantities of an array's elements.
 fn each_quantity(alloc: Global, elements: &[Value]) -> Result<Vec<Quantity>, FieldFault>
     ensures { Gives (λ found. found.items) result (each (whole 0 most_quantity HoursKey) (items_view elements.now)) }
 {
@@ -24,15 +23,11 @@ fn each_quantity(alloc: Global, elements: &[Value]) -> Result<Vec<Quantity>, Fie
     Ok(quantities)
 }
 
-/// A quantity, in kWh/h.
 fn quantity(element: &Value) -> Result<Quantity, Key>
     ensures { result ≡ whole 0 most_quantity HoursKey (view element.now) }
 {
     let value = whole(element, Key::Hours, 0, Quantity::MAX)?;
-    match Quantity::new(value) {
-        Ok(quantity) => Ok(quantity),
-        Err(_) => Err(Key::Hours),
-    }
+    Ok(Quantity::new(value).unwrap())
 }
 
 /// The quantities at the key `hours`: one for each of so many hours, or any number of them where

@@ -33,7 +33,6 @@ pub fn row(alloc: Global, element: &Value, array: Key, count: usize) -> Result<R
     })
 }
 
-/// The rows of an array's elements.
 fn each_row(
     alloc: Global,
     elements: &[Value],
@@ -49,7 +48,6 @@ fn each_row(
     Ok(rows)
 }
 
-/// The rows of an array's elements, of which there are at most `limit`.
 #[tactic(auto, using(crate::proofs::Elements::lengths), unfolding(crate::specs::Reading::rows_of))]
 fn rows_of(
     alloc: Global,
