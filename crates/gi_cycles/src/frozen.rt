@@ -30,7 +30,6 @@ impl Model for Frozen {
 }
 
 impl Frozen {
-    /// The cycle with its table frozen.
     pub(crate) fn new(id: CycleId, own: Table) -> Frozen
         requires { length own.rows ≤ most_processed_rows }
         ensures id { result.id ≡ id }

@@ -26,7 +26,6 @@ impl Model for Matched {
 }
 
 impl Matched {
-    /// The cycle with its three tables.
     pub(crate) fn new(id: CycleId, own: Table, peer: Table, confirmed: Table) -> Matched
         requires { IsMatched own peer confirmed }
         ensures { result ≡ record { id = id; own = own; peer = peer; confirmed = confirmed } }

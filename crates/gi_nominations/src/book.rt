@@ -38,7 +38,6 @@ impl Model for Book {
     ghost invariant = { λ book. Rises book.documents.items };
 }
 
-/// How a nomination is judged by the one in force.
 fn by_version(held: &Nomint, nomint: &Nomint) -> Verdict
     ensures { result ≡ judged_by_version (Some held.now) nomint.now }
 {
@@ -55,7 +54,6 @@ fn by_version(held: &Nomint, nomint: &Nomint) -> Verdict
     Verdict::Refused(NominationFault::Conflict { held: version })
 }
 
-/// The last of the documents that is of the portfolio and the gas day.
 #[tactic(auto, unfolding(crate::specs::Book::in_force))]
 fn last_of(documents: &[Nomint], portfolio: Code, day: GasDay) -> Option<&Nomint>
     ensures { option_copied result ≡ in_force_of portfolio day documents.now }
@@ -97,7 +95,6 @@ impl Book {
         self.verdict(setting, nomint)
     }
 
-    /// The verdict on a nomination.
     #[tactic(auto, unfolding(crate::specs::Judging::verdict))]
     fn verdict(&self, setting: &Setting, nomint: &Nomint) -> Verdict
         requires { setting.now.frame ≡ nomint.now.day }

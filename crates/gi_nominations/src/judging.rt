@@ -11,7 +11,6 @@ use gi_messages::Line;
 /// How many lines a nomination has at most.
 pub const MOST_LINES: usize = 64;
 
-/// Whether each line has so many hours.
 fn have_hours(lines: &[Line], hours: usize) -> bool
     ensures { result ≡ has_hours hours lines.now }
 {
@@ -20,21 +19,18 @@ fn have_hours(lines: &[Line], hours: usize) -> bool
         .all(|line| line.hours.as_slice().len() == hours)
 }
 
-/// Whether both lines are of one counterparty and direction.
 fn is_twin(line: &Line, other: &Line) -> bool
     ensures { result ≡ is_twin_of line.now other.now }
 {
     line.counterparty == other.counterparty && line.direction == other.direction
 }
 
-/// Whether one of the others is of the line's counterparty and direction.
 fn has_twin(line: &Line, others: &[Line]) -> bool
     ensures { result ≡ has_twin line.now others.now }
 {
     others.iter().any(|other| is_twin(line, other))
 }
 
-/// Whether two lines are of one counterparty and direction.
 fn have_twins(lines: &[Line]) -> bool
     ensures { result ≡ has_twins lines.now }
 {

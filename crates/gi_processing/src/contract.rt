@@ -16,14 +16,12 @@ pub struct Contract {
 }
 
 impl Contract {
-    /// Whether it is of the portfolio, for the day.
     pub(crate) fn is_of(&self, portfolio: Code, day: GasDay) -> bool
         ensures { result ≡ is_of portfolio day self.now }
     {
         self.portfolio == portfolio && self.day == day
     }
 
-    /// Whether it is of the portfolio, for the day and the direction.
     pub(crate) fn is_for(&self, portfolio: Code, day: GasDay, direction: Direction) -> bool
         ensures { result ≡ is_for_of portfolio day direction self.now }
     {

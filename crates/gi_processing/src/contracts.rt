@@ -40,7 +40,6 @@ impl Model for Contracts {
     ghost invariant = { IsKept };
 }
 
-/// The contract of a portfolio for a day and direction: the last one.
 #[tactic(auto, unfolding(crate::specs::Capacity::contract_of))]
 fn last_contract(
     contracts: &[Contract],
@@ -55,7 +54,6 @@ fn last_contract(
     found.copied()
 }
 
-/// The notice for an hour: the last one that covers it.
 #[tactic(auto, unfolding(crate::specs::Capacity::notice_of))]
 fn last_notice(notices: &[Notice], day: GasDay, direction: Direction, hour: u8) -> Option<Notice>
     ensures { result ≡ notice_of day direction hour notices.now }
@@ -65,7 +63,6 @@ fn last_notice(notices: &[Notice], day: GasDay, direction: Direction, hour: u8) 
     found.copied()
 }
 
-/// So many thousandths of a quantity, rounded down.
 fn part(quantity: Quantity, permille: u16) -> u64
     ensures value { result ≡ part_of quantity permille }
     ensures whole { permille ≡ most_permille → result ≡ quantity }
@@ -75,7 +72,6 @@ fn part(quantity: Quantity, permille: u16) -> u64
     quantity.value() * u64::from(permille) / u64::from(MOST_PERMILLE)
 }
 
-/// What a contract leaves at these numbers.
 fn parts(contract: Contract, firm: u16, interruptible: u16) -> u64
     ensures value { result ≡ parts_of contract firm interruptible }
     ensures whole { firm ≡ most_permille → interruptible ≡ most_permille → result ≡ contract.firm + contract.interruptible }
@@ -84,7 +80,6 @@ fn parts(contract: Contract, firm: u16, interruptible: u16) -> u64
     part(contract.firm, firm) + part(contract.interruptible, interruptible)
 }
 
-/// What a contract, if there is one, leaves under a notice, if there is one.
 fn quantity_left(contract: Option<Contract>, notice: Option<Notice>) -> u64
     ensures value { result ≡ left_of contract notice }
     ensures no_notice { IfSome contract (λ contract. IfNone notice (result ≡ contract.firm + contract.interruptible)) }
@@ -99,21 +94,18 @@ fn quantity_left(contract: Option<Contract>, notice: Option<Notice>) -> u64
     }
 }
 
-/// Whether a portfolio is among these.
 fn is_among(portfolios: &[Code], portfolio: Code) -> bool
     ensures { result ≡ list_any (bytes_eq portfolio) portfolios.now }
 {
     portfolios.iter().any(|other| portfolio == *other)
 }
 
-/// Whether a portfolio is one too many beside these.
 fn is_too_many(portfolios: &[Code], portfolio: Code) -> bool
     ensures { result ≡ is_too_many_of portfolios.now portfolio }
 {
     !is_among(portfolios, portfolio) && portfolios.len() >= MOST_PORTFOLIOS
 }
 
-/// Puts a portfolio behind the others, where it is not among them.
 fn add_portfolio(portfolios: &mut Vec<Code>, portfolio: Code) -> Result<(), AllocError>
     ensures added { OnOk result (portfolios.new.items ≡ with_portfolio portfolios.old.items portfolio) }
     ensures kept { OnErr result (portfolios.new.items ≡ portfolios.old.items) }
@@ -205,7 +197,6 @@ impl Contracts {
         quantity_left(contract, notice)
     }
 
-    /// The portfolios that have contracts, each once, in the order of their first contracts.
     pub(crate) fn portfolios(&self) -> &[Code]
         ensures value { result.now ≡ portfolios_of self.now.contracts }
         ensures few { length result.now ≤ most_portfolios }

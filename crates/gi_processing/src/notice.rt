@@ -26,21 +26,18 @@ pub struct Notice {
 }
 
 impl Notice {
-    /// Whether it is for the day and direction, and covers the hour.
     pub(crate) fn covers(&self, day: GasDay, direction: Direction, hour: u8) -> bool
         ensures { result ≡ covers_of day direction hour self.now }
     {
         self.day == day && self.direction == direction && self.first <= hour && hour <= self.last
     }
 
-    /// Whether 1 <= first <= last <= hours.
     fn is_within(&self, hours: u8) -> bool
         ensures { result ≡ has_hours hours self.now }
     {
         1 <= self.first && self.first <= self.last && self.last <= hours
     }
 
-    /// Whether a number is over 1000 per mille.
     fn is_over(&self) -> bool
         ensures { result ≡ is_over_of self.now }
     {
