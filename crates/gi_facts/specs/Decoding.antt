@@ -47,8 +47,7 @@ notice d = do
 -- a NOMINT names its kind
 abbrev pub if_nomint : Option MessageKind → Read Nomint → Read Nomint
 if_nomint (Some messages.Nomint) read = read
-if_nomint (Some other) read = Err NomintKey
-if_nomint None read = Err NomintKey
+if_nomint other read = Err NomintKey
 
 abbrev pub document_of : Data → Read Nomint
 document_of d = if_nomint (message_kind_of d) (nomint d)

@@ -21,18 +21,13 @@ use gi_processing::{Contract, MOST_PERMILLE, Notice};
 use serde_json::Value;
 use std::alloc::Global;
 
-/// The quantity at a key, in kWh/h.
 fn quantity(object: &Value, key: Key) -> Result<Quantity, Key>
     ensures { result ≡ reading.number 0 most_quantity key (view object.now) }
 {
     let value = number(object, key, 0, Quantity::MAX)?;
-    match Quantity::new(value) {
-        Ok(quantity) => Ok(quantity),
-        Err(_) => Err(key),
-    }
+    Ok(Quantity::new(value).unwrap())
 }
 
-/// The contract that an object is.
 #[tactic(auto, unfolding(crate::specs::Decoding::contract))]
 fn contract(object: &Value) -> Result<Contract, Key>
     ensures { result ≡ contract (view object.now) }
@@ -51,7 +46,6 @@ fn contract(object: &Value) -> Result<Contract, Key>
     })
 }
 
-/// The notice that an object is.
 #[tactic(auto, unfolding(crate::specs::Decoding::notice))]
 fn notice(object: &Value) -> Result<Notice, Key>
     ensures { result ≡ notice (view object.now) }
@@ -71,7 +65,6 @@ fn notice(object: &Value) -> Result<Notice, Key>
     })
 }
 
-/// The nomination that a NOMINT's object is.
 fn document_of(alloc: Global, object: &Value) -> Result<Nomint, FieldFault>
     ensures { reading.Gives (λ found. found) result (document_of (view object.now)) }
 {
@@ -81,7 +74,6 @@ fn document_of(alloc: Global, object: &Value) -> Result<Nomint, FieldFault>
     }
 }
 
-/// The nomination whose NOMINT stands at the key `nomint`.
 #[tactic(auto, unfolding(crate::specs::Decoding::document))]
 fn document(alloc: Global, object: &Value) -> Result<Nomint, FieldFault>
     ensures { reading.Gives (λ found. found) result (document (view object.now)) }
@@ -89,7 +81,6 @@ fn document(alloc: Global, object: &Value) -> Result<Nomint, FieldFault>
     document_of(alloc, needed(object, Key::Nomint)?)
 }
 
-/// The cycle that an object names.
 #[tactic(auto, unfolding(crate::specs::Decoding::cycle_id))]
 fn cycle_id(object: &Value) -> Result<CycleId, Key>
     ensures { result ≡ cycle_id (view object.now) }
@@ -99,7 +90,6 @@ fn cycle_id(object: &Value) -> Result<CycleId, Key>
     Ok(CycleId { day, cycle })
 }
 
-/// The peer's table that an object has.
 #[tactic(auto, unfolding(crate::specs::Decoding::peer_table))]
 fn peer_table(alloc: Global, object: &Value) -> Result<Table, FieldFault>
     ensures { reading.Gives (λ found. found) result (peer_table (view object.now)) }
@@ -108,7 +98,6 @@ fn peer_table(alloc: Global, object: &Value) -> Result<Table, FieldFault>
     table(alloc, object, Key::Peer, MOST_PROCESSED_ROWS, first, last)
 }
 
-/// The meeting that an object is.
 #[tactic(auto, unfolding(crate::specs::Decoding::meeting))]
 fn meeting(alloc: Global, object: &Value) -> Result<Fact, FieldFault>
     ensures { reading.Gives (λ found. found) result (meeting (view object.now)) }
@@ -118,7 +107,6 @@ fn meeting(alloc: Global, object: &Value) -> Result<Fact, FieldFault>
     Ok(Fact::Met { id, peer })
 }
 
-/// The kind that an object names.
 #[tactic(auto, unfolding(crate::specs::Decoding::kind))]
 fn kind(object: &Value) -> Result<Kind, Key>
     ensures { result ≡ kind (view object.now) }
@@ -126,7 +114,6 @@ fn kind(object: &Value) -> Result<Kind, Key>
     kind_named(text(object, Key::Fact)?).ok_or(Key::Fact)
 }
 
-/// The fact of a kind that an object is.
 fn of_kind(alloc: Global, kind: Kind, object: &Value) -> Result<Fact, FieldFault>
     ensures { reading.Gives (λ found. found) result (of_kind kind (view object.now)) }
 {
@@ -139,7 +126,6 @@ fn of_kind(alloc: Global, kind: Kind, object: &Value) -> Result<Fact, FieldFault
     }
 }
 
-/// The fact that an object is.
 #[tactic(auto, unfolding(crate::specs::Decoding::fact))]
 fn fact(alloc: Global, object: &Value) -> Result<Fact, FieldFault>
     ensures { reading.Gives (λ found. found) result (fact (view object.now)) }
@@ -148,7 +134,6 @@ fn fact(alloc: Global, object: &Value) -> Result<Fact, FieldFault>
     of_kind(alloc, kind, object)
 }
 
-/// The fact that the bytes are.
 #[tactic(auto, unfolding(crate::specs::Decoding::fact_of))]
 fn read(alloc: Global, bytes: &[u8]) -> Result<Fact, FactFault>
     ensures { Gives result (fact_of bytes.now) }

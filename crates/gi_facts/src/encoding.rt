@@ -15,7 +15,6 @@ use gi_processing::{Contract, Notice};
 use serde_json::{Value, json};
 use std::alloc::{AllocError, Global};
 
-/// The object of a contract.
 #[tactic(auto, unfolding(crate::specs::Writing::contract_data))]
 fn contract_value(alloc: Global, contract: &Contract) -> Result<Value, AllocError>
     ensures { IfOk result (λ value. view value ≡ contract_data contract.now) }
@@ -31,7 +30,6 @@ fn contract_value(alloc: Global, contract: &Contract) -> Result<Value, AllocErro
     })
 }
 
-/// The object of a notice.
 #[tactic(auto, unfolding(crate::specs::Writing::notice_data))]
 fn notice_value(alloc: Global, notice: &Notice) -> Result<Value, AllocError>
     ensures { IfOk result (λ value. view value ≡ notice_data notice.now) }
@@ -48,7 +46,6 @@ fn notice_value(alloc: Global, notice: &Notice) -> Result<Value, AllocError>
     })
 }
 
-/// The object of a nomination.
 #[tactic(auto, unfolding(crate::specs::Writing::nomination_data))]
 fn nomination_value(alloc: Global, document: &Nomint) -> Result<Value, AllocError>
     ensures { IfOk result (λ value. view value ≡ nomination_data document.now) }
@@ -60,7 +57,6 @@ fn nomination_value(alloc: Global, document: &Nomint) -> Result<Value, AllocErro
     })
 }
 
-/// The object of a closing.
 #[tactic(auto, unfolding(crate::specs::Writing::closing_data))]
 fn closing_value(alloc: Global, id: &CycleId) -> Result<Value, AllocError>
     ensures { IfOk result (λ value. view value ≡ closing_data id.now) }
@@ -73,7 +69,6 @@ fn closing_value(alloc: Global, id: &CycleId) -> Result<Value, AllocError>
     })
 }
 
-/// The object of a meeting.
 #[tactic(auto, unfolding(crate::specs::Writing::meeting_data))]
 fn meeting_value(alloc: Global, id: &CycleId, peer: &Table) -> Result<Value, AllocError>
     ensures { IfOk result (λ value. view value ≡ meeting_data id.now peer.now) }
@@ -90,7 +85,6 @@ fn meeting_value(alloc: Global, id: &CycleId, peer: &Table) -> Result<Value, All
     })
 }
 
-/// The object of a fact.
 fn fact_value(alloc: Global, fact: &Fact) -> Result<Value, AllocError>
     ensures { IfOk result (λ value. view value ≡ data_of fact.now) }
 {
