@@ -1,5 +1,7 @@
 pub mod LesserLaws
 mod BothWays
+mod Gathering
+mod PartLaws
 mod Union
 mod WalkAnswers
 mod WalkLaws

@@ -12,11 +12,10 @@ use Rattle.gi_lesser.proofs.WalkTable.{built-walked}
 pub matched : (own peer : TableContents) → IsTable own → IsTable peer → HasShapeOf own peer → length own.rows ≤ most_processed_rows → length peer.rows ≤ most_processed_rows → AreMatched own peer
 matched own peer a b shape own_few peer_few = record { own_table = a; peer_table = b; shape = shape; own_few = own_few; peer_few = peer_few }
 
--- rows that were walked make the lesser
-pub made : (own peer : TableContents) (first last : ℕ) (ours theirs rows : List Row) (r : Result TableContents TableFault) → AreMatched own peer
-    → first ≡ own.first → last ≡ own.last → ours ≡ own.rows → theirs ≡ peer.rows → rows ≡ lesser_rows ours theirs → r ≡ built first last rows → r ≡ Ok (lesser_of own peer)
-made own peer first last ours theirs rows r m from to of_own of_peer walked exact =
-    exact ∙ built-walked own peer first last rows m from to (walked ∙ (λ i. lesser_rows (of_own i) (of_peer i)))
+-- the lesser of their rows makes the lesser
+pub made : (own peer : TableContents) (first last : ℕ) (rows : List Row) (r : Result TableContents TableFault) → AreMatched own peer
+    → first ≡ own.first → last ≡ own.last → rows ≡ lesser_rows own.rows peer.rows → r ≡ built first last rows → r ≡ Ok (lesser_of own peer)
+made own peer first last rows r m from to walked exact = exact ∙ built-walked own peer first last rows m from to walked
 
 pub ok_is : (r : Result TableContents TableFault) (t : TableContents) → r ≡ Ok t → IsOk r
 ok_is (Ok x) t e = search rules

@@ -150,7 +150,7 @@ all_theirs (y ∷ ys) sorted =
 
 -- ---- one turn of the walk
 
-sorted_drop : (i : ℕ) (rows : List Row) → IsStrictlySortedBy key_cmp (keys_of rows) → IsStrictlySortedBy key_cmp (keys_of (drop i rows))
+pub sorted_drop : (i : ℕ) (rows : List Row) → IsStrictlySortedBy key_cmp (keys_of rows) → IsStrictlySortedBy key_cmp (keys_of (drop i rows))
 sorted_drop zero rows sorted = sorted
 sorted_drop (suc i) [] sorted = sorted
 sorted_drop (suc i) (x ∷ xs) sorted = sorted_drop i xs (sorted_tail key_cmp (key_of x) (keys_of xs) sorted)

@@ -1,5 +1,5 @@
 -- The lesser of two tables.
-use Rattle.std.specs.Prelude.{◌≡◌, ℕ, ◌-◌, List, ◌++◌, map, filter, find, min, slice_index, not, is_some, Bool, Contains, ◌↔◌, ◌⊎◌}
+use Rattle.std.specs.Prelude.{◌≡◌, ℕ, List, ◌++◌, map, filter, find, min, not, is_some, Bool, Contains, ◌↔◌, ◌⊎◌}
 use Rattle.std.specs.List.{range_with_len}
 pub use Rattle.gi_pairs.specs.Table.{HasShapeOf}
 use Rattle.gi_pairs.specs.Table.{TableContents, IsTable, covered, in_order, is_at, keys_of, reading}
@@ -34,14 +34,6 @@ lesser_row own peer key = record {
   pair = key.pair;
   direction = key.direction;
   hours = map (λ hour. min (reading own key.pair key.direction hour) (reading peer key.pair key.direction hour)) (range_with_len own.first (covered own.first own.last));
-}
-
--- the row of the lower of a row's quantities and a table's readings
-abbrev pub row_below : Row → TableContents → Row
-row_below row t = record {
-  pair = row.pair;
-  direction = row.direction;
-  hours = map (λ hour. min (slice_index row.hours (hour - t.first)) (reading t row.pair row.direction hour)) (range_with_len t.first (covered t.first t.last));
 }
 
 -- the table of those rows

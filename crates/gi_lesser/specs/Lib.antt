@@ -1,3 +1,4 @@
 pub mod Lesser
 pub mod Laws
 pub mod Walk
+pub mod Parts

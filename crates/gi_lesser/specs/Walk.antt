@@ -1,4 +1,4 @@
--- The lesser of two lists of rows, as a walk over both gives it.
+-- The lesser of two lists of rows, by the keys of both.
 use Rattle.std.specs.Prelude.{ℕ, List, [], ◌∷◌, map, min, zip, find, Option, Some, None, if◌then◌else◌}
 use Rattle.std.specs.declared.cmp.Ordering.{Ordering}
 use Rattle.std.specs.declared.cmp.Ordering.TheVariants.{Less, Equal, Greater}
@@ -20,7 +20,7 @@ lower_hours a b = map (λ p. min p.0 p.1) (zip a.hours b.hours)
 abbrev pub alone : Row → Row
 alone row = with_hours row (map (λ _. 0) row.hours)
 
--- the first row of both sides, by the order of their first rows
+-- what is confirmed of the first key of both sides, whose first rows are in this order
 abbrev pub first_of_both : Ordering → Row → Row → Row
 first_of_both Less our their = alone our
 first_of_both Equal our their = with_hours our (lower_hours our their)

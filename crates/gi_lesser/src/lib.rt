@@ -3,7 +3,8 @@
 
 mod laws;
 mod lesser_rule;
+mod parallel;
 mod walk;
 
 pub use laws::lessens_both_ways;
-pub use lesser_rule::lesser;
+pub use lesser_rule::{lesser, lesser_parallel};
