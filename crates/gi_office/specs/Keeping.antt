@@ -26,6 +26,10 @@ pub record IsKept (side : Side) (held : HeldState) : Type 0 where
   pub life : IsLegal side (life_of held) held.desk
   pub counted : held.total ≡ length held.trail
 
+-- How many seats an office has. What its lock keeps no contract names.
+pub record OfficeState : Type 0 where
+  pub seats : ℕ
+
 -- its number, the calls that were made from it, and its share in the ledger: an amount, and some of the parts
 pub record SeatState : Type 0 where
   pub number : ℕ

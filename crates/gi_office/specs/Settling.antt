@@ -64,14 +64,10 @@ pub record SettledState : Type 0 where
 abbrev pub settled_of : HeldState → SettledState
 settled_of held = record { lives = life_of held ∷ []; desk = held.desk }
 
--- an office settles exactly where every list is the trail's; else the first difference is told
-abbrev pub Settles : HeldState → List SeatState → Result SettledState Unsettled → Type 0
-Settles held handed (Ok settled) = (settled ≡ settled_of held) × AreSettled held.seats held.trail handed
-Settles held handed (Err fault) = IsUnsettled held.seats held.trail handed fault
-
--- the same of what the lock kept
-abbrev pub SettlesKept : Side → List SeatState → Result SettledState Unsettled → Type 0
-SettlesKept side handed result = (held : HeldState) × IsKept side held × Settles held handed result
+-- an office of so many seats settles exactly where every list is the trail's; else the first difference is told
+abbrev pub Settles : ℕ → HeldState → List SeatState → Result SettledState Unsettled → Type 0
+Settles seats held handed (Ok settled) = (settled ≡ settled_of held) × AreSettled seats held.trail handed
+Settles seats held handed (Err fault) = IsUnsettled seats held.trail handed fault
 
 -- how many calls the seats noted, and how many parts of the ledger they have
 abbrev pub noted_by : List SeatState → ℕ
@@ -83,3 +79,14 @@ parts_of handed = sum (map (λ seat. seat.parts) handed)
 -- the seats have all parts of a ledger, so none is missing
 abbrev pub AreAll : ℕ → List SeatState → Type 0
 AreAll parts handed = (1 ≤ parts) × (parts_of handed ≡ parts)
+
+-- where none is missing, the seats noted as many calls as the trail has
+abbrev pub CountsAll : ℕ → HeldState → List SeatState → Type 0
+CountsAll parts held handed = AreAll parts handed → noted_by handed ≡ length held.trail
+
+-- What a lock kept is not told, but that it was an office like any other. An office of so many seats settles as that one.
+pub record SettlesKept (side : Side) (parts seats : ℕ) (handed : List SeatState) (result : Result SettledState Unsettled) : Type 0 where
+  pub held : HeldState
+  pub kept : IsKept side held
+  pub settles : Settles seats held handed result
+  pub counted : CountsAll parts held handed

@@ -5,23 +5,13 @@ ghost use Rattle.std.specs.Prelude.{◌≡◌, IfOk};
 use gi_desk::{Packet, Packets, Reply};
 use std::alloc::{AllocError, Global};
 
-/// An equal packet.
-fn packet_copy(packet: &Packet) -> Result<Packet, AllocError>
-    ensures { IfOk result (λ copy. copy ≡ packet.now) }
-{
-    Ok(Packet {
-        to: packet.to,
-        body: packet.body.copy()?,
-    })
-}
-
 /// Equal packets, in order.
 fn packets_copy(alloc: Global, packets: &[Packet]) -> Result<Vec<Packet>, AllocError>
     ensures { IfOk result (λ copies. copies.items ≡ packets.now) }
 {
     let mut copies = Vec::with_capacity(alloc, packets.len())?;
     for packet in packets {
-        copies.push(packet_copy(packet)?)?;
+        copies.push(packet.copy()?)?;
     }
     Ok(copies)
 }

@@ -4,7 +4,7 @@ ghost use Rattle.gi_office.specs.Entering.{entered, noted, receipt_of};
 ghost use Rattle.gi_office.specs.Keeping.{IsFull, IsKept};
 ghost use Rattle.gi_office.specs.Limits.{most_seats};
 ghost use Rattle.gi_office.specs.Opening.{new_held, new_seats};
-ghost use Rattle.gi_office.specs.Settling.{AreAll, Settles, noted_by};
+ghost use Rattle.gi_office.specs.Settling.{CountsAll, Settles};
 ghost use Rattle.gi_office.specs.Waiting.{waited_for};
 
 use crate::copying::reply_copy;
@@ -86,7 +86,7 @@ impl<R: Role, L: Ledger> Held<R, L> {
 
     /// The facts that the desk was opened with and the calls since then are a legal life, of which
     /// the desk is the end; and the ledger counts the calls.
-    pub fn is_legal(&self)
+    pub fn known(&self)
         ensures { IsKept R.SIDE self.now }
     {
         let _ = self.trail.len();
@@ -174,10 +174,23 @@ impl<R: Role, L: Ledger> Held<R, L> {
     /// seat, in order, each once and with its place; else the first difference. It merges the shares,
     /// and takes no memory.
     pub fn settle(self, seats: Vec<Seat<L>>) -> Result<Settled<R>, Unsettled>
-        ensures settles { Settles self seats.items result }
-        ensures counted { AreAll L.parts seats.items → noted_by seats.items ≡ length self.trail }
+        ensures settles { Settles self.seats self seats.items result }
+        ensures counted { CountsAll L.parts self seats.items }
     {
-        let unsettled = first_fault(self.seats, &seats, &self.trail);
+        let count = self.seats;
+        self.settle_seats(count, seats)
+    }
+
+    /// The same, where it is known beside the lock how many seats there are.
+    pub(crate) fn settle_seats(
+        self,
+        count: u8,
+        seats: Vec<Seat<L>>,
+    ) -> Result<Settled<R>, Unsettled>
+        ensures settles { Settles count self seats.items result }
+        ensures counted { CountsAll L.parts self seats.items }
+    {
+        let unsettled = first_fault(count, &seats, &self.trail);
         let Held {
             alloc: _,
             opening,

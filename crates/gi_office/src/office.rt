@@ -18,6 +18,7 @@ use gi_desk::{Answer, Body, Call, Desk, Role};
 use gi_pairs::CycleId;
 use gi_processing::{Contract, Notice};
 use std::alloc::Global;
+use std::marker::Model;
 use std::sync::ledger::{Blank, Ledger};
 use std::sync::{Condvar, Mutex, Wait};
 
@@ -25,8 +26,18 @@ use std::sync::{Condvar, Mutex, Wait};
 #[derive(Drop)]
 pub struct Office<R: Role, L: Ledger> {
     held: Mutex<Held<R, L>>,
-    /// Is told of each fact that is saved, and of a halt.
+    /// Is told of a halt.
     changed: Condvar,
+    /// How many seats there are, known without the lock.
+    seats: u8,
+}
+
+impl<R: Role, L: Ledger> Model for Office<R, L> {
+    ghost use Rattle.gi_office.specs.Keeping.{OfficeState};
+
+    ghost Value = { OfficeState };
+
+    ghost view = { λ o. record { seats = o.seats } };
 }
 
 /// The number of the fact that an answer is of.
@@ -47,7 +58,7 @@ fn asked<R: Role, L: Ledger>(
 ) -> Result<Receipt, OfficeFault>
     ensures { IsAnswered R.SIDE seat.old call result seat.new }
 {
-    held.is_legal();
+    held.known();
     held.enter(seat, call)
 }
 
@@ -66,14 +77,16 @@ impl<R: Role, L: Ledger> Office<R, L> {
         requires saved { desk.saved ≡ length desk.facts }
         requires runs { desk.halted ≡ false }
         ensures refused { (result ≡ Err OpenFault.SeatCount) ↔ ¬ ((1 ≤ seats) × (seats ≤ most_seats)) }
+        ensures office { IfOk result (λ office. office.0.seats ≡ seats) }
         ensures seats { IfOk result (λ office. office.1.items ≡ new_seats seats) }
     {
-        let (held, seats) = Held::open(alloc, blank, desk, seats)?;
+        let (held, places) = Held::open(alloc, blank, desk, seats)?;
         let office = Office {
             held: Mutex::new(held),
             changed: Condvar::new(),
+            seats: seats as u8,
         };
-        Ok((office, seats))
+        Ok((office, places))
     }
 
     /// Takes the lock and makes one call, which `Held::enter` answers.
@@ -200,20 +213,25 @@ impl<R: Role, L: Ledger> Office<R, L> {
 
     /// Takes the office apart, as `Held::settle` says of what the lock kept.
     pub fn settle(self, seats: Vec<Seat<L>>) -> Result<Settled<R>, Unsettled>
-        ensures { SettlesKept R.SIDE seats.items result }
+        ensures { SettlesKept R.SIDE L.parts self.seats seats.items result }
     {
-        let Office { held, changed: _ } = self;
-        taken_apart(held.into_inner(), seats)
+        let Office {
+            held,
+            changed: _,
+            seats: count,
+        } = self;
+        taken_apart(held.into_inner(), count, seats)
     }
 }
 
-/// Settles what a lock kept.
+/// Settles what the lock of an office of so many seats kept.
 fn taken_apart<R: Role, L: Ledger>(
     held: Held<R, L>,
+    count: u8,
     seats: Vec<Seat<L>>,
 ) -> Result<Settled<R>, Unsettled>
-    ensures { SettlesKept R.SIDE seats.items result }
+    ensures { SettlesKept R.SIDE L.parts count seats.items result }
 {
-    held.is_legal();
-    held.settle(seats)
+    held.known();
+    held.settle_seats(count, seats)
 }
