@@ -11,7 +11,6 @@ use crate::moves::Move;
 use std::alloc::AllocError;
 use std::collections::VecDeque;
 
-/// A copy of the first message, if there is one.
 fn copy_of_first(waiting: &VecDeque<Vec<u8>>) -> Result<Option<Vec<u8>>, AllocError>
     ensures { IfOk result (λ copy. option_map bytes_of copy ≡ given_by Repeat (messages_of waiting.now)) }
 {

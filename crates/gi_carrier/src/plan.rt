@@ -51,7 +51,6 @@ impl Plan {
         &self.moves
     }
 
-    /// The move at a position: after the last move comes the first.
     pub(crate) fn move_at(&self, position: u64) -> Move
         ensures { result ≡ move_of self.now position }
     {

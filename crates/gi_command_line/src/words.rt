@@ -92,7 +92,6 @@ fn option<'a>(alloc: Global, name: &'a str, value: &'a str, help: &'a str) -> Ar
         .help(help)
 }
 
-/// The commands and options that the program knows, with what their help teaches.
 fn commands<'a>(alloc: Global) -> Result<Command<'a>, AllocError>
     ensures { IfOk result (λ program. app_of program ≡ the_program) }
 {
@@ -143,7 +142,6 @@ fn hours_of<'a>(matches: &ArgMatches<'a>) -> Request<'a>
     }
 }
 
-/// A report of this kind and side: over a book where it is named by its file and its point.
 fn report_over<'a>(
     kind: ReportKind,
     side: Side,
@@ -189,7 +187,6 @@ fn report_of<'a>(matches: &ArgMatches<'a>) -> Request<'a>
     )
 }
 
-/// What was entered, and else `match`.
 fn request_of<'a>(matches: &ArgMatches<'a>) -> Request<'a>
     ensures { meaning result ≡ asked_of (subcommand_rows_of matches.now) }
 {

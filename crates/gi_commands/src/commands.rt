@@ -56,8 +56,6 @@ fn write_text<W: Write>(text: &[u8], output: &mut W) -> Result<(), Fault>
     }
 }
 
-/// Makes the steps of the script that is read, and writes what came of each. Where memory runs out
-/// in one, the lines of those before it are written.
 fn simulate_script<R: Read, W: Write>(
     alloc: Global,
     input: &mut R,
@@ -113,8 +111,6 @@ fn report_book<W: Write>(
     write_text(text.as_bytes(), output)
 }
 
-/// Writes a report: of a book in a file where one is named, and nothing is read, and else of the
-/// script that is read.
 fn report<R: Read, W: Write>(
     rt: &HostRuntime,
     wanted: Report<'_>,

@@ -40,7 +40,6 @@ fn part(number: i8) -> u8
     number as u8
 }
 
-/// The line of a cycle: its number, its start in UTC to the minute, and its first hour.
 fn cycle_line(alloc: Global, frame: DayFrame, cycle: u8) -> Result<String, AllocError>
     requires { IsCycle frame cycle }
     ensures { IfOk result (λ line. IsCycleLine frame cycle (string_bytes line)) }

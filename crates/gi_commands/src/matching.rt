@@ -13,7 +13,6 @@ use gi_messages::{Delord, Delres, Message, MessageFault, decode, encode};
 use gi_pairs::Table;
 use std::alloc::Global;
 
-/// The DELORD on a line.
 fn table_on(alloc: Global, line: Line, bytes: &[u8]) -> Result<Delord, Fault>
     ensures spelled { IfOk result (λ table. Spells bytes.now (message.Delord table)) }
     ensures few_rows { IfOk result (λ table. length table.processed.rows ≤ most_processed_rows) }
@@ -32,7 +31,6 @@ fn table_on(alloc: Global, line: Line, bytes: &[u8]) -> Result<Delord, Fault>
     }
 }
 
-/// Whether both are for one point, day and cycle, and for the same hours.
 fn same_shape(order: &Delord, own: &Delord) -> bool
     ensures { IsTrue result ↔ SameShape order.now own.now }
 {

@@ -57,7 +57,6 @@ pub fn script_report(
     })
 }
 
-/// The report of the desk that is replayed from these facts.
 pub(crate) fn facts_report<R: Role>(
     alloc: Global,
     kind: ReportKind,
@@ -71,7 +70,6 @@ pub(crate) fn facts_report<R: Role>(
     Ok(desk_report(alloc, kind, &desk, &[])?)
 }
 
-/// The report of a book's desk, replayed from its facts.
 fn replayed_report<R: Role, S: Alter>(
     alloc: Global,
     kind: ReportKind,

@@ -27,7 +27,6 @@ fn counts(alloc: Global, simulation: &Simulation) -> Result<String, AllocError>
     Ok(text)
 }
 
-/// Adds a line of what each side holds. Where memory runs out the text is as it was.
 fn add_counts(alloc: Global, text: &mut String, simulation: &Simulation) -> Result<(), AllocError>
     ensures added { OnOk result (string_bytes text.new ≡ string_bytes text.old ++ counts_of simulation.now) }
     ensures kept { OnErr result (string_bytes text.new ≡ string_bytes text.old) }

@@ -4,7 +4,6 @@ use sqlite::{Alter, Connection};
 use std::alloc::Global;
 use std::fs;
 
-/// The facts of the book in a database.
 fn facts_of<S: Alter + Drop>(
     alloc: Global,
     connection: Connection<S>,

@@ -31,8 +31,6 @@ pub struct Run {
     pub done: usize,
 }
 
-/// Makes a step, and keeps what came of it, for which there is a place. Where memory runs out
-/// nothing is changed.
 fn make(
     world: &mut World,
     outcomes: &mut Vec<Result<WorldReply, WorldFault>>,

@@ -50,21 +50,18 @@ impl<R: Role> Station<R> {
         &self.desk
     }
 
-    /// The packets that it let out to its peer, in order.
     pub(crate) fn sent(&self) -> &[Packet]
         ensures { result.now ≡ self.now.sent }
     {
         &self.sent
     }
 
-    /// The packets that told its portfolios, in order.
     pub(crate) fn told(&self) -> &[Packet]
         ensures { result.now ≡ self.now.told }
     {
         &self.told
     }
 
-    /// What the desk would reply.
     fn foresee(&self, call: &Call) -> Result<Reply, AllocError>
         ensures reply { IfOk result (λ reply. reply ≡ reply_of R.SIDE self.now.desk call.now) }
         ensures short { OnErr result (IsTrue (may_want R.SIDE self.now.desk call.now)) }
@@ -76,8 +73,7 @@ impl<R: Role> Station<R> {
         Ok(reply)
     }
 
-    /// Takes a call: what the desk lets out is kept. The copies are made, and their places grown,
-    /// before anything changes.
+    /// The copies are made, and their places grown, before anything changes.
     #[tactic(auto, unfolding(crate::specs::World::after_call))]
     pub(crate) fn take(&mut self, call: &Call) -> Result<Reply, AllocError>
         ensures reply { IfOk result (λ reply. reply ≡ reply_of R.SIDE self.old.desk call.now) }
@@ -123,7 +119,6 @@ impl<R: Role> Station<R> {
         }
     }
 
-    /// Starts the desk again from its first `keep` facts, which are then saved.
     #[tactic(auto, unfolding(crate::specs::World::after_restart))]
     pub(crate) fn restart(&mut self, keep: u32) -> Result<(), AllocError>
         requires { keep ≤ length self.now.desk.facts }

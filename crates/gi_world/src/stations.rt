@@ -37,7 +37,6 @@ impl Model for Stations {
 }
 
 impl Stations {
-    /// Both without facts, at the interconnection point.
     pub(crate) fn open(
         alloc: Global,
         initiating: Calendar,
@@ -52,21 +51,18 @@ impl Stations {
         }
     }
 
-    /// The initiating operator's desk.
     pub(crate) fn initiating(&self) -> &Desk<Initiating>
         ensures { result.now ≡ self.now.initiating.desk }
     {
         self.initiating.desk()
     }
 
-    /// The matching operator's desk.
     pub(crate) fn matching(&self) -> &Desk<Matching>
         ensures { result.now ≡ self.now.matching.desk }
     {
         self.matching.desk()
     }
 
-    /// Both desks can be written.
     pub(crate) fn known(&self)
         ensures { FitsWorld self.now }
     {
@@ -74,7 +70,6 @@ impl Stations {
         self.matching.desk().known();
     }
 
-    /// The packets that a side let out to the other operator, in order.
     pub(crate) fn sent(&self, side: Side) -> &[Packet]
         ensures { result.now ≡ (station_of side self.now).sent }
     {
@@ -84,7 +79,6 @@ impl Stations {
         }
     }
 
-    /// The packets that told a side's portfolios, in order.
     pub(crate) fn told(&self, side: Side) -> &[Packet]
         ensures { result.now ≡ (station_of side self.now).told }
     {
@@ -117,7 +111,6 @@ impl Stations {
         }
     }
 
-    /// How many facts a side has saved, and how many it has.
     fn counts(&self, side: Side) -> (u32, u32)
         ensures saved { result.0 ≡ (station_of side self.now).desk.saved }
         ensures len { result.1 ≡ length (station_of side self.now).desk.facts }
@@ -150,7 +143,6 @@ impl Stations {
         self.sent_to(side).get(before as usize)
     }
 
-    /// The least number, from 1, of a packet of these bytes that the other side let out to this one.
     pub(crate) fn number_of(&self, side: Side, bytes: &[u8]) -> Option<u64>
         ensures { IsNumberOf self.now side bytes.now result }
     {
@@ -168,8 +160,7 @@ impl Stations {
         Ok(WorldReply::Desk(self.take(side, call)?))
     }
 
-    /// What a packet asks of a side's desk. A halted one answers every call alike, so for it nothing
-    /// is copied.
+    /// A halted desk answers every call alike, so for it nothing is copied.
     fn asked(&self, side: Side, packet: &Packet) -> Result<Call, AllocError>
         ensures reply { IfOk result (λ call. reply_of side (station_of side self.now).desk call ≡ reply_of side (station_of side self.now).desk (calls.Deliver packet.now.body)) }
         ensures next { IfOk result (λ call. after_call side (station_of side self.now) call ≡ after_call side (station_of side self.now) (calls.Deliver packet.now.body)) }

@@ -121,8 +121,6 @@ impl World {
         outcome
     }
 
-    /// What either side has confirmed or told is the lower of what both froze, and what the
-    /// initiating side has confirmed, the matching side has.
     pub(crate) fn known(&self)
         ensures lower { ConfirmsTheLower self.now }
         ensures both { ConfirmsAtBoth self.now }
