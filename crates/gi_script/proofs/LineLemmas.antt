@@ -1,10 +1,10 @@
 -- The first line of a text, and the lines after it.
-use Rattle.std.proofs.Common.{◌≡◌, ℕ, ◌+◌, ◌<◌, ◌≤◌, Bool, true, false, ◌==◌, List, [], ◌∷◌, length, take, drop, refl, arith, subst, Some, None, one-add, add-one, not, cond}
+use Rattle.std.proofs.Common.{◌≡◌, ℕ, suc, ◌+◌, ◌<◌, ◌≤◌, Bool, true, false, ◌==◌, List, [], ◌∷◌, ◌++◌, length, take, drop, refl, ap, arith, subst, subst₂, Some, None, one-add, add-one, not, cond, eqb-true}
 use Rattle.std.specs.List.{onto_first, position, position_or_len}
 use Rattle.std.proofs.lemmas.Option.{cond_some}
 use Rattle.std.proofs.lemmas.Bool.Decides.{nat_tests}
 use Rattle.std.specs.Prelude.{nat_lt}
-use Rattle.gi_script.specs.Lines.{lines}
+use Rattle.gi_script.specs.Lines.{lines, line_feed}
 
 abbrev ends_line : ℕ → Bool
 ends_line byte = byte == 10
@@ -47,6 +47,32 @@ lines-ended bytes at found =
     let parts = cond_some (nat_lt (before bytes) (length bytes)) (before bytes) at found in
     let within : before bytes < length bytes = grind (arith, nat_tests, parts.0) in
     subst (λ (n : ℕ). lines bytes ≡ take n bytes ∷ lines (drop (n + 1) bytes)) parts.1 (lines-before bytes within)
+
+joined-cons : (byte : ℕ) (bytes : List ℕ) (ended : Bool) → ends_line byte ≡ ended
+    → (before bytes < length bytes → bytes ≡ take (before bytes) bytes ++ line_feed ∷ drop (before bytes + 1) bytes)
+    → let n = cond (not ended) (1 + before bytes) 0 in
+    n < length (byte ∷ bytes) → byte ∷ bytes ≡ take n (byte ∷ bytes) ++ line_feed ∷ drop (n + 1) (byte ∷ bytes)
+joined-cons byte bytes true is rest within = ap (λ (b : ℕ). b ∷ bytes) (eqb-true byte 10 is)
+joined-cons byte bytes false is rest within =
+    let n = before bytes in
+    let fewer : n < length bytes = omega arith in
+    let next : n + 1 ≡ suc n = omega arith in
+    let here : suc n ≡ 1 + n = omega arith in
+    let behind : suc (suc n) ≡ (1 + n) + 1 = omega arith in
+    let tail : bytes ≡ take n bytes ++ line_feed ∷ drop (suc n) bytes = subst (λ (m : ℕ). bytes ≡ take n bytes ++ line_feed ∷ drop m bytes) next (rest fewer) in
+    subst₂ (λ (m k : ℕ). byte ∷ bytes ≡ take m (byte ∷ bytes) ++ line_feed ∷ drop k (byte ∷ bytes)) here behind (ap (λ (l : List ℕ). byte ∷ l) tail)
+
+joined-before : (bytes : List ℕ) → before bytes < length bytes
+    → bytes ≡ take (before bytes) bytes ++ line_feed ∷ drop (before bytes + 1) bytes
+joined-before [] within = absurd (omega arith)
+joined-before (byte ∷ bytes) within = joined-cons byte bytes (ends_line byte) refl (joined-before bytes) within
+
+-- what follows the first line stands behind its line feed
+pub joined : (bytes : List ℕ) (at : ℕ) → position ends_line bytes ≡ Some at → bytes ≡ take at bytes ++ line_feed ∷ drop (at + 1) bytes
+joined bytes at found =
+    let parts = cond_some (nat_lt (before bytes) (length bytes)) (before bytes) at found in
+    let within : before bytes < length bytes = grind (arith, nat_tests, parts.0) in
+    subst (λ (n : ℕ). bytes ≡ take n bytes ++ line_feed ∷ drop (n + 1) bytes) parts.1 (joined-before bytes within)
 
 -- where no line feed stands, the first byte is none
 not_ended : (byte : ℕ) (bytes : List ℕ) (ended : Bool) → ends_line byte ≡ ended

@@ -118,7 +118,6 @@ fn plain(side: Side, verb: Verb, words: Words<'_>) -> Option<Instruction>
     }
 }
 
-/// A call of that side's desk.
 fn call(side: Side, call: Call) -> Option<Instruction>
     ensures { result ≡ Some (instructions.Call side call) }
 {

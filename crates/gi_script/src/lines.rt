@@ -1,5 +1,5 @@
 ghost use Rattle.std.specs.Prelude.{◌≡◌, ◌==◌, ◌+◌, ◌<◌, [], ◌∷◌, length, position, IfSome, MatchOption, OnSome};
-ghost use Rattle.gi_script.specs.Lines.{lines, line_feed as line_feed_byte};
+ghost use Rattle.gi_script.specs.Lines.{IsBehind, lines, line_feed as line_feed_byte};
 ghost use Rattle.gi_script.specs.LinesKept.{IsCounted, left};
 ghost use Rattle.gi_script.specs.Script.{lines_of};
 
@@ -20,10 +20,11 @@ fn line_feed(text: &[u8]) -> Option<usize>
     text.iter().position(|byte| *byte == LINE_FEED)
 }
 
-/// The first line of a text, without its line feed, and what follows it; `None` where no byte is
-/// left.
+/// The first line of a text, without its line feed, and all that follows it; `None` where no byte
+/// is left.
 pub fn split_line(text: &[u8]) -> Option<(&[u8], &[u8])>
     ensures lines { MatchOption result (lines text.now ≡ []) (λ split. lines text.now ≡ split.0.now ∷ lines split.1.now) }
+    ensures rest { IfSome result (λ split. IsBehind text.now split.0.now split.1.now) }
     ensures shorter { IfSome result (λ split. length split.1.now < length text.now) }
 {
     if text.is_empty() {

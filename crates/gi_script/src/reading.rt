@@ -17,7 +17,6 @@ use crate::words::Words;
 use gi_pairs::{Code, Side};
 use std::alloc::Global;
 
-/// The point that the line `point CODE` names.
 fn point(line: &[u8]) -> Option<Code>
     ensures { Finds (SpellsPoint line.now) result }
 {
@@ -35,7 +34,6 @@ fn point(line: &[u8]) -> Option<Code>
     Some(point)
 }
 
-/// What `plan` and these words say.
 fn plan_line(alloc: Global, mut words: Words<'_>) -> Result<Instruction, LineFault>
     ensures { Reads (SaysPlan (codes "plan" ∷ words.entry)) result }
 {
@@ -48,7 +46,6 @@ fn plan_line(alloc: Global, mut words: Words<'_>) -> Result<Instruction, LineFau
     }
 }
 
-/// What the first word and those after it say, `SIDE VERB` and what the verb wants.
 fn side_command(alloc: Global, first: &str, mut words: Words<'_>) -> Result<Instruction, LineFault>
     ensures { Reads (SaysCommand (first.now ∷ words.entry)) result }
 {
@@ -64,7 +61,6 @@ fn side_command(alloc: Global, first: &str, mut words: Words<'_>) -> Result<Inst
     command(alloc, side, verb, words)
 }
 
-/// The instruction that a line spells.
 fn instruction(alloc: Global, line: &[u8]) -> Result<Instruction, LineFault>
     ensures { Reads (Spells line.now) result }
 {
@@ -79,7 +75,6 @@ fn instruction(alloc: Global, line: &[u8]) -> Result<Instruction, LineFault>
     }
 }
 
-/// A line and its number.
 fn line(alloc: Global, number: u64, text: &[u8]) -> Result<Line, ScriptFault>
     ensures { IsLineRead (record { number = number; text = text.now }) result }
 {
@@ -93,7 +88,6 @@ fn line(alloc: Global, number: u64, text: &[u8]) -> Result<Line, ScriptFault>
     }
 }
 
-/// The lines after the point's.
 fn further(alloc: Global, mut lines: Lines<'_>) -> Result<Vec<Line>, ScriptFault>
     requires { IsCounted lines }
     ensures { MatchResult result (λ read. SpellAll (left lines.entry) read.items) (IsStopped (left lines.entry)) }

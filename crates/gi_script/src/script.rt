@@ -20,7 +20,6 @@ impl Model for Script {
 }
 
 impl Script {
-    /// The script of these lines at the point.
     pub(crate) fn new(point: Code, lines: Vec<Line>) -> Script
         ensures { result ≡ record { point = point; lines = lines.items } }
     {
