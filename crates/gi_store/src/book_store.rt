@@ -52,7 +52,6 @@ impl<S: Alter> Model for BookStore<S> {
     ghost invariant = { λ b. IsCounted b.loaded × (IsClean S.Store b.connection → IsKept (state S.Store b.connection) b.loaded) };
 }
 
-/// So many rows, where the number that comes next is a `u32`.
 fn counted(rows: usize) -> Option<u32>
     ensures { result ≡ counted rows }
 {

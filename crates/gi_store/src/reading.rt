@@ -64,7 +64,7 @@ pub fn read_facts(alloc: Global, rows: &[Row]) -> Result<Vec<Fact>, StoreFault>
 {
     let mut facts = Vec::new(alloc);
     let mut next = 1u64;
-    'rows: for row in rows {
+    for row in rows {
         let fact = read_row(alloc, row, next)?;
         facts.push(fact)?;
         next += 1;

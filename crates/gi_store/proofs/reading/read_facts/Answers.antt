@@ -7,26 +7,26 @@ use Rattle.gi_store.proofs.reading.read_facts.Goals as goal
 
 pub returns-in_err-fact-clause-refused : goal.returns-in_err-fact-clause-refused
 returns-in_err-fact-clause-refused c =
-    let i = c.rows.row-index in
+    let i = c.loop-row.row-index in
     let rows = c.args.rows.now in
     let row = c.row-item.result in
     let within : i < length rows = omega arith in
     let cut : rows ≡ take i rows ++ row ∷ drop (suc i) rows = split_at rows i row within ∙ ap (λ r. take i rows ++ r ∷ drop (suc i) rows) (sym c.row-item.is) in
     let len = length-take-le i rows (omega arith) in
     let got : IsReadFault rows c.in_err-fact.field-0.0 =
-    refused rows (take i rows) (drop (suc i) rows) row c.rows.facts.items c.rows.next c.in_err-fact.field-0.0 cut c.rows.invariant.good (omega arith) c.in_err-fact.ensures.refused in
+    refused rows (take i rows) (drop (suc i) rows) row c.loop-row.facts.items c.loop-row.next c.in_err-fact.field-0.0 cut c.loop-row.invariant.good (omega arith) c.in_err-fact.ensures.refused in
     search rules
 
-pub rows-preserved : goal.rows-preserved
-rows-preserved c =
-    let i = c.rows.row-index in
+pub loop-row-preserved : goal.loop-row-preserved
+loop-row-preserved c =
+    let i = c.loop-row.row-index in
     let rows = c.args.rows.now in
     let row = c.row-item.result in
     let within : i < length rows = omega arith in
     let more : take (i + 1) rows ≡ take i rows ++ row ∷ [] = take_more rows i row within ∙ ap (λ r. take i rows ++ r ∷ []) (sym c.row-item.is) in
     let len = length-take-le i rows (omega arith) in
-    let next : c.rows.next ≡ 1 + length (take i rows) = omega arith in
+    let next : c.loop-row.next ≡ 1 + length (take i rows) = omega arith in
     record {
-      good = rw (more, c.in_ok-push.ensures.items) (one_more 1 (take i rows) c.rows.facts.items row c.in_ok-fact.fact c.rows.invariant.good (subst (λ k. IsFactRow k row c.in_ok-fact.fact) next c.in_ok-fact.ensures.fact));
+      good = rw (more, c.in_ok-push.ensures.items) (one_more 1 (take i rows) c.loop-row.facts.items row c.in_ok-fact.fact c.loop-row.invariant.good (subst (λ k. IsFactRow k row c.in_ok-fact.fact) next c.in_ok-fact.ensures.fact));
       count = omega arith;
     }
