@@ -6,14 +6,14 @@ use Rattle.jiff_core.specs.declared.civil.date.Date.{Date}
 use Rattle.gi_day.specs.Day.{day_text}
 use Rattle.gi_pairs.specs.declared.cycle_id.CycleId.{CycleId}
 use Rattle.gi_pairs.specs.declared.row.Row.{Row}
-use Rattle.gi_reports.specs.Columns.{line_feed, right_in}
+use Rattle.gi_reports.specs.Columns.{right_in}
 use Rattle.gi_reports.specs.Confirmed.{confirmed_line, row_text}
 
 -- a line of these parts
 abbrev pub line_of : Date → ℕ → List ℕ → ℕ → ℕ → List ℕ
 line_of day cycle row hour quantity =
     day_text day ++ (codes " " ++ (right_in 2 cycle ++ (codes " " ++ (row ++ (codes " " ++ (right_in 2 hour
-    ++ (codes " " ++ (right_in 12 quantity ++ line_feed ∷ []))))))))
+    ++ (codes " " ++ (right_in 12 quantity ++ codes "\n"))))))))
 
 pub same_line : (id : CycleId) (row : Row) (hour cycle read quantity : ℕ) (text : List ℕ) → cycle ≡ id.cycle → text ≡ row_text row → read ≡ quantity
     → line_of id.day cycle text hour read ≡ confirmed_line id row hour quantity

@@ -16,10 +16,6 @@ two_digits number = filled_in 48 2 number
 abbrev pub left_in : ℕ → List ℕ → List ℕ
 left_in places text = text ++ replicate (places - length text) 32
 
--- the byte that ends a line
-abbrev pub line_feed : ℕ
-line_feed = 10
-
 -- the name of a portfolio, and `?` where there is none
 abbrev pub name_of : Option (List ℕ) → List ℕ
 name_of None = codes "?"

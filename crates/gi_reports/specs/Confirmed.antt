@@ -1,5 +1,5 @@
 -- What a desk has confirmed, hour by hour.
-use Rattle.std.specs.Prelude.{◌≡◌, ℕ, List, [], ◌∷◌, ◌++◌, Option, Some, None, codes}
+use Rattle.std.specs.Prelude.{◌≡◌, ℕ, List, [], ◌++◌, Option, Some, None, codes}
 use Rattle.std.specs.List.{enumerate_from, flat_map}
 use Rattle.gi_day.specs.Day.{day_text}
 use Rattle.gi_pairs.specs.Direction.{direction_text}
@@ -9,7 +9,7 @@ use Rattle.gi_pairs.specs.declared.row.Row.{Row}
 use Rattle.gi_pairs.specs.declared.side.Side.{Side}
 use Rattle.gi_desk.specs.Machine.{DeskState}
 use Rattle.gi_desk.specs.Queries.{confirmed}
-use Rattle.gi_reports.specs.Columns.{left_in, line_feed, right_in}
+use Rattle.gi_reports.specs.Columns.{left_in, right_in}
 use Rattle.gi_reports.specs.Cycles.{AreClosedCycles}
 
 -- what a row is for: `IM A                B               `
@@ -22,7 +22,7 @@ row_text row =
 abbrev pub confirmed_line : CycleId → Row → ℕ → ℕ → List ℕ
 confirmed_line id row hour quantity =
     day_text id.day ++ (codes " " ++ (right_in 2 id.cycle ++ (codes " " ++ (row_text row ++ (codes " " ++ (right_in 2 hour
-    ++ (codes " " ++ (right_in 12 quantity ++ line_feed ∷ []))))))))
+    ++ (codes " " ++ (right_in 12 quantity ++ codes "\n"))))))))
 
 -- each hour of a row, from the table's first hour on
 abbrev pub row_lines : CycleId → ℕ → Row → List ℕ

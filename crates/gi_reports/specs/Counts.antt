@@ -1,5 +1,5 @@
 -- How many facts a desk has, how many of them are saved, and how many cycles are confirmed.
-use Rattle.std.specs.Prelude.{ℕ, List, [], ◌∷◌, ◌++◌, length, filter, Bool, is_some, codes}
+use Rattle.std.specs.Prelude.{ℕ, List, ◌++◌, length, filter, Bool, is_some, codes}
 use Rattle.std.specs.Fmt.{decimal}
 use Rattle.gi_pairs.specs.Side.{side_text}
 use Rattle.gi_pairs.specs.declared.cycle_id.CycleId.{CycleId}
@@ -7,7 +7,6 @@ use Rattle.gi_pairs.specs.declared.side.Side.{Side}
 use Rattle.gi_desk.specs.History.{closings}
 use Rattle.gi_desk.specs.Machine.{DeskState}
 use Rattle.gi_desk.specs.Queries.{confirmed}
-use Rattle.gi_reports.specs.Columns.{line_feed}
 
 abbrev pub is_confirmed : Side → DeskState → CycleId → Bool
 is_confirmed side s id = is_some (confirmed side s id)
@@ -20,4 +19,4 @@ confirmed_count side s = length (filter (is_confirmed side s) (closings s.facts)
 abbrev pub counts_line : Side → DeskState → List ℕ
 counts_line side s =
     side_text side ++ (codes " facts " ++ (decimal (length s.facts) ++ (codes " saved " ++ (decimal s.saved
-    ++ (codes " confirmed " ++ (decimal (confirmed_count side s) ++ line_feed ∷ []))))))
+    ++ (codes " confirmed " ++ (decimal (confirmed_count side s) ++ codes "\n"))))))

@@ -1,5 +1,5 @@
 -- What stays open at a desk: its closed cycles that are not confirmed.
-use Rattle.std.specs.Prelude.{◌≡◌, ℕ, List, [], ◌∷◌, ◌++◌, filter, Bool, is_none, codes}
+use Rattle.std.specs.Prelude.{◌≡◌, ℕ, List, ◌++◌, filter, Bool, is_none, codes}
 use Rattle.std.specs.List.{flat_map}
 use Rattle.gi_day.specs.Day.{day_text}
 use Rattle.gi_pairs.specs.declared.cycle_id.CycleId.{CycleId}
@@ -9,7 +9,7 @@ use Rattle.gi_desk.specs.Machine.{DeskState}
 use Rattle.gi_desk.specs.Queries.{confirmed, stage_of}
 use Rattle.gi_desk.specs.declared.stage_name.StageName.{StageName}
 use Rattle.gi_desk.specs.declared.stage_name.StageName.TheVariants.{Collecting, Frozen, Matched}
-use Rattle.gi_reports.specs.Columns.{line_feed, right_in}
+use Rattle.gi_reports.specs.Columns.{right_in}
 use Rattle.gi_reports.specs.Cycles.{AreClosedCycles}
 
 -- `unsaved` where a closed cycle has met the peer's table, else `frozen`
@@ -21,7 +21,7 @@ open_word Matched = codes "unsaved"
 -- `2026-01-15 35 frozen`
 abbrev pub open_line : CycleId → StageName → List ℕ
 open_line id stage =
-    day_text id.day ++ (codes " " ++ (right_in 2 id.cycle ++ (codes " " ++ (open_word stage ++ line_feed ∷ []))))
+    day_text id.day ++ (codes " " ++ (right_in 2 id.cycle ++ (codes " " ++ (open_word stage ++ codes "\n"))))
 
 abbrev pub is_open : Side → DeskState → CycleId → Bool
 is_open side s id = is_none (confirmed side s id)

@@ -3,7 +3,7 @@ use Rattle.std.specs.Prelude.{ℕ, List, [], ◌∷◌, ◌++◌, length, map, f
 use Rattle.std.specs.Cmp.Lexicographic.{pointwise}
 use Rattle.std.specs.List.{flat_map}
 use Rattle.std.specs.Option.{option_eq}
-use Rattle.gi_reports.specs.Columns.{left_in, line_feed, name_of, right_in}
+use Rattle.gi_reports.specs.Columns.{left_in, name_of, right_in}
 
 -- whether two submissions are of one portfolio, or both cannot be read
 abbrev pub same : Option (List ℕ) → Option (List ℕ) → Bool
@@ -24,7 +24,7 @@ refused_counts submissions = map (λ who. (who, times who submissions)) (first_p
 
 -- `A                     2`
 abbrev pub refused_line : Option (List ℕ) × ℕ → List ℕ
-refused_line counted = left_in 16 (name_of counted.0) ++ (codes " " ++ (right_in 6 counted.1 ++ line_feed ∷ []))
+refused_line counted = left_in 16 (name_of counted.0) ++ (codes " " ++ (right_in 6 counted.1 ++ codes "\n"))
 
 -- a line for each
 abbrev pub refused_lines : List (Option (List ℕ) × ℕ) → List ℕ

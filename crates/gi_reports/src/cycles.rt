@@ -28,7 +28,6 @@ fn add(ids: &mut Vec<CycleId>, id: Option<CycleId>) -> Result<(), AllocError>
     Ok(())
 }
 
-/// The closed cycles, in the order of their closings.
 pub(crate) fn closings<R: Role>(alloc: Global, desk: &Desk<R>) -> Result<Vec<CycleId>, AllocError>
     ensures { IfOk result (λ ids. ids.items ≡ closings_of desk.now.facts) }
 {
