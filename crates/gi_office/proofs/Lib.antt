@@ -1,4 +1,6 @@
+mod Marking
 mod Noting
 mod Points
 mod Runs
 mod Sames
+mod Standing

@@ -1,10 +1,14 @@
--- A fault prints as its name, and then each value after one space.
+-- A fault prints as its name, and then each value, or the fault in it, after one space.
 use Rattle.std.specs.Prelude.{ℕ, List, ◌++◌, codes}
 use Rattle.std.specs.Fmt.{decimal}
+use Rattle.gi_desk.specs.FaultText.{refusal_text}
+use Rattle.gi_store.specs.FaultText.{fault_text}
 use Rattle.gi_office.specs.declared.office_fault.OfficeFault.{OfficeFault}
 use Rattle.gi_office.specs.declared.office_fault.OfficeFault.TheVariants as offices
 use Rattle.gi_office.specs.declared.open_fault.OpenFault.{OpenFault}
 use Rattle.gi_office.specs.declared.open_fault.OpenFault.TheVariants as openings
+use Rattle.gi_office.specs.declared.save_fault.SaveFault.{SaveFault}
+use Rattle.gi_office.specs.declared.save_fault.SaveFault.TheVariants as savings
 use Rattle.gi_office.specs.declared.unsettled.Unsettled.{Unsettled}
 
 abbrev pub office_fault_text : OfficeFault → List ℕ
@@ -17,3 +21,9 @@ open_fault_text openings.OutOfMemory = codes "OutOfMemory"
 
 abbrev pub unsettled_text : Unsettled → List ℕ
 unsettled_text fault = codes "Unsettled " ++ decimal fault.seat ++ codes " " ++ decimal fault.place
+
+abbrev pub save_fault_text : SaveFault → List ℕ
+save_fault_text savings.Halted = codes "Halted"
+save_fault_text (savings.Store fault) = codes "Store " ++ fault_text fault
+save_fault_text (savings.Office fault) = codes "Office " ++ office_fault_text fault
+save_fault_text (savings.Marked refusal) = codes "Marked " ++ refusal_text refusal

@@ -4,5 +4,6 @@ pub mod Keeping
 pub mod Limits
 pub mod Lives
 pub mod Opening
+pub mod Saving
 pub mod Settling
 pub mod Waiting

@@ -4,11 +4,13 @@ ghost use Rattle.gi_office.specs.Entering.{entered, noted, receipt_of};
 ghost use Rattle.gi_office.specs.Keeping.{IsFull, IsKept};
 ghost use Rattle.gi_office.specs.Limits.{most_seats};
 ghost use Rattle.gi_office.specs.Opening.{new_held, new_seats};
+ghost use Rattle.gi_office.specs.Saving.{CanBeWritten, look_of};
 ghost use Rattle.gi_office.specs.Settling.{CountsAll, Settles};
 ghost use Rattle.gi_office.specs.Waiting.{waited_for};
 
 use crate::copying::reply_copy;
 use crate::entry::Entry;
+use crate::look::Look;
 use crate::note::Note;
 use crate::office_fault::OfficeFault;
 use crate::open_fault::OpenFault;
@@ -154,6 +156,23 @@ impl<R: Role, L: Ledger> Held<R, L> {
         seat.notes.push_reserved(note);
         self.book.add(&mut seat.share, 1);
         Ok(receipt)
+    }
+
+    /// What is to be saved of the desk: a copy of its next fact, where it is not halted.
+    pub fn look(&self) -> Result<Look, AllocError>
+        ensures value { IfOk result (λ look. look ≡ look_of self.now.desk) }
+        ensures writable { IfOk result CanBeWritten }
+    {
+        if self.desk.halted() {
+            return Ok(Look::Halted);
+        }
+        match self.desk.unsaved() {
+            Some((n, fact)) => Ok(Look::Next {
+                n,
+                fact: fact.copy()?,
+            }),
+            None => Ok(Look::Nothing),
+        }
     }
 
     /// What became of fact number `n`; nothing while it may still be saved.

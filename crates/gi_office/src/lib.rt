@@ -1,5 +1,6 @@
 //! An operator's office: one desk (`gi_desk`) under a lock, which several threads call, each from a
-//! seat of its own; and the trail of all calls, in which each caller finds its own afterwards.
+//! seat of its own; the trail of all calls, against which `settle` holds what each seat noted; and
+//! the turns that save the desk's facts in a book (`gi_store`).
 //!
 //! ```text
 //!   thread 1 ── seat 1 ──┐            ┌ lock ─────────────────────────────────────┐
@@ -37,26 +38,33 @@ mod comparing;
 mod copying;
 mod entry;
 mod held;
+mod look;
 mod note;
 mod office;
 mod office_fault;
 mod open_fault;
 mod receipt;
+mod save_fault;
 mod seat;
 mod seating;
 mod settled;
 mod settling;
+mod turn;
 mod unsettled;
 mod waited;
+mod writing;
 
 pub use entry::Entry;
 pub use held::{Held, MOST_SEATS};
+pub use look::Look;
 pub use note::Note;
 pub use office::Office;
 pub use office_fault::OfficeFault;
 pub use open_fault::OpenFault;
 pub use receipt::Receipt;
+pub use save_fault::SaveFault;
 pub use seat::{MOST_NOTES, Seat};
 pub use settled::Settled;
+pub use turn::Turn;
 pub use unsettled::Unsettled;
 pub use waited::Waited;

@@ -6,6 +6,8 @@ ghost use Rattle.gi_office.specs.Settling.{SettlesKept};
 ghost use Rattle.gi_office.specs.Waiting.{number_in};
 ghost use Rattle.gi_desk.specs.declared.call.Call.TheVariants as calls;
 
+mod saving;
+
 use crate::held::Held;
 use crate::office_fault::OfficeFault;
 use crate::open_fault::OpenFault;
@@ -26,7 +28,7 @@ use std::sync::{Condvar, Mutex, Wait};
 #[derive(Drop)]
 pub struct Office<R: Role, L: Ledger> {
     held: Mutex<Held<R, L>>,
-    /// Is told of a halt.
+    /// Is told of each fact that is saved, and of a halt.
     changed: Condvar,
     /// How many seats there are, known without the lock.
     seats: u8,
@@ -51,7 +53,7 @@ fn number_of(answer: &Answer) -> Option<u32>
 }
 
 /// Makes the call from the seat on what a lock gave.
-fn asked<R: Role, L: Ledger>(
+pub(crate) fn asked<R: Role, L: Ledger>(
     held: &mut Held<R, L>,
     seat: &mut Seat<L>,
     call: Call,

@@ -1,0 +1,37 @@
+ghost use Rattle.std.specs.Prelude.{Some};
+
+use crate::office_fault::OfficeFault;
+use gi_desk::Refusal;
+use gi_store::StoreFault;
+use std::error::Error;
+use std::fmt;
+
+/// Why a turn saved nothing.
+#[derive(Clone, Copy, Debug, PartialEq, Eq)]
+pub enum SaveFault {
+    /// The desk is halted.
+    Halted,
+    /// The book refused the fact, or has another one in its place. The desk is halted.
+    Store(StoreFault),
+    /// The copy of the fact, its mark or the halt was refused.
+    Office(OfficeFault),
+    /// The fact stands in the book, and the desk refused its mark.
+    Marked(Refusal),
+}
+
+impl fmt::Display for SaveFault {
+    ghost use Rattle.gi_office.specs.FaultText.{save_fault_text};
+
+    ghost output = { λ fault. Some (save_fault_text fault) };
+
+    fn fmt<W: fmt::Write>(&self, f: &mut fmt::Formatter<W>) -> fmt::Result {
+        match self {
+            SaveFault::Halted => f.write_str("Halted"),
+            SaveFault::Store(fault) => write!(f, "Store {fault}"),
+            SaveFault::Office(fault) => write!(f, "Office {fault}"),
+            SaveFault::Marked(refusal) => write!(f, "Marked {refusal}"),
+        }
+    }
+}
+
+impl Error for SaveFault {}
