@@ -4,6 +4,7 @@
 mod cycles;
 mod days;
 mod order;
+mod sides;
 mod table_text;
 mod tables;
 

@@ -12,7 +12,7 @@ use std::fmt::Write;
 const MOST_SHOWN: usize = 20;
 
 /// The quantities of the words.
-pub fn hours_of(alloc: Global, words: Words<'_>) -> Result<Option<Hours>, Fault> {
+pub(crate) fn hours_of(alloc: Global, words: Words<'_>) -> Result<Option<Hours>, Fault> {
     let mut quantities = Vec::new(alloc);
     if words.is_empty() {
         return Ok(Some(Hours::from(quantities)));
@@ -27,7 +27,7 @@ pub fn hours_of(alloc: Global, words: Words<'_>) -> Result<Option<Hours>, Fault>
 }
 
 /// The row of the words: a key and then the quantities.
-pub fn row_of(alloc: Global, mut words: Words<'_>) -> Result<Option<Row>, Fault> {
+pub(crate) fn row_of(alloc: Global, mut words: Words<'_>) -> Result<Option<Row>, Fault> {
     let Some(Key { pair, direction }) = words.key() else {
         return Ok(None);
     };
@@ -88,7 +88,10 @@ fn rows_of(alloc: Global, mut words: Words<'_>, hours: u8) -> Result<Option<Vec<
 }
 
 /// What `Table::build` answers to the hours and rows of a call.
-pub fn table_of(alloc: Global, text: &str) -> Result<Option<Result<Table, TableFault>>, Fault> {
+pub(crate) fn table_of(
+    alloc: Global,
+    text: &str,
+) -> Result<Option<Result<Table, TableFault>>, Fault> {
     let mut parts = text.split(" | ");
     let mut words = Words::of(parts.next().unwrap_or(""));
     let (Some(first), Some(last)) = (words.byte(), words.byte()) else {
@@ -108,7 +111,7 @@ pub fn table_of(alloc: Global, text: &str) -> Result<Option<Result<Table, TableF
 }
 
 /// Adds the quantities, each behind a space.
-pub fn add_hours(hours: &Hours, text: &mut String) -> Result<(), Fault> {
+pub(crate) fn add_hours(hours: &Hours, text: &mut String) -> Result<(), Fault> {
     for quantity in hours.as_slice() {
         let quantity = quantity.value();
         write!(text, " {quantity}")?;
@@ -117,14 +120,14 @@ pub fn add_hours(hours: &Hours, text: &mut String) -> Result<(), Fault> {
 }
 
 /// Adds what a row is for.
-pub fn add_key(key: Key, text: &mut String) -> Result<(), Fault> {
+pub(crate) fn add_key(key: Key, text: &mut String) -> Result<(), Fault> {
     let (initiating, matching, direction) = (key.pair.initiating, key.pair.matching, key.direction);
     write!(text, "{initiating} {matching} {direction}")?;
     Ok(())
 }
 
 /// Adds a row, in a line.
-pub fn add_row(row: &Row, text: &mut String) -> Result<(), Fault> {
+pub(crate) fn add_row(row: &Row, text: &mut String) -> Result<(), Fault> {
     add_key(row.key(), text)?;
     add_hours(&row.hours, text)?;
     text.push_str("\n")?;
@@ -143,7 +146,7 @@ fn add_ends(rows: &[Row], text: &mut String) -> Result<(), Fault> {
 }
 
 /// Adds the hours of a table, and its rows.
-pub fn add_table(table: &Table, text: &mut String) -> Result<(), Fault> {
+pub(crate) fn add_table(table: &Table, text: &mut String) -> Result<(), Fault> {
     let (first, last) = (table.first(), table.last());
     writeln!(text, "hours {first} {last}")?;
     if table.rows().len() > MOST_SHOWN {

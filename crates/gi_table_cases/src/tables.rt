@@ -1,6 +1,7 @@
 //! Codes, quantities, rows and tables.
 
 use crate::order::order_of;
+use crate::sides::{other, pair_at, pair_of};
 use crate::table_text::{add_hours, add_key, add_row, add_table, hours_of, row_of, table_of};
 use gi_calls::{Fault, Subject, Words};
 use gi_pairs::{
@@ -228,6 +229,9 @@ impl Subject for Tables {
             "key" => key(alloc, words, text),
             "copy_row" => copy_row(alloc, words, text),
             "equal" => equal(alloc, words.rest(), text),
+            "other" => other(words, text),
+            "pair_of" => pair_of(words, text),
+            "pair_at" => pair_at(words, text),
             "names" => names(text),
             "limits" => limits(text),
             "build" => self.build(alloc, words.rest(), text),
