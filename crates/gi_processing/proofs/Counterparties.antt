@@ -1,5 +1,5 @@
 -- Lines in order of counterparty.
-use Rattle.std.proofs.Common.{◌≡◌, ℕ, List, [], ◌∷◌, map, true, false, Bool, cond, ◌&&◌, nat_eq, ◌⊎◌, inl, inr, refl, sym, ap, ◌∙◌, rules, if◌then◌else◌}
+use Rattle.std.proofs.Common.{◌≡◌, ℕ, List, [], ◌∷◌, true, false, Bool, cond, ◌&&◌, nat_eq, ◌⊎◌, inl, inr, refl, sym, ap, ◌∙◌, rules, if◌then◌else◌}
 use Rattle.std.specs.declared.cmp.Ordering.{Ordering}
 use Rattle.std.specs.declared.cmp.Ordering.TheVariants.{Less, Equal, Greater}
 use Rattle.std.specs.Cmp.{IsTotalOrder}
@@ -19,19 +19,11 @@ use Rattle.gi_pairs.proofs.Building.{In}
 use Rattle.gi_pairs.proofs.Members.{from_filter}
 use Rattle.gi_messages.specs.declared.line.Line.{Line}
 use Rattle.gi_nominations.specs.Lines.{has_twins, is_twin}
-use Rattle.gi_processing.specs.Reduction.{by_counterparty, in_direction, is_in, with_line}
-
--- the counterparties of lines
-abbrev pub counterparties : List Line → List (List ℕ)
-counterparties = map (λ line. line.counterparty)
-
--- lines whose counterparties ascend strictly
-abbrev pub AreOrdered : List Line → Type 0
-AreOrdered lines = IsStrictlySortedBy code_cmp (counterparties lines)
+use Rattle.gi_processing.specs.Reduction.{AreOrdered, by_counterparty, counterparties, in_direction, is_in, with_line}
 
 -- ---- the order of codes
 
-code_total : IsTotalOrder code_cmp
+pub code_total : IsTotalOrder code_cmp
 code_total = search (comparing, rules)
 
 equal_from_flip : (o : Ordering) → o ≡ ordering_reverse o → o ≡ Equal
@@ -46,7 +38,7 @@ code_refl a = equal_from_flip (code_cmp a a) (code_total.antisymm a a)
 pub code_above : (a b : List ℕ) → code_cmp a b ≡ Less → code_cmp b a ≡ Greater
 code_above a b less = code_total.antisymm b a ∙ ap ordering_reverse less
 
-less_from_not : (a b : List ℕ) (o : Ordering) → code_cmp a b ≡ o → is_lt o ≡ false → is_eq o ≡ false → code_cmp b a ≡ Less
+pub less_from_not : (a b : List ℕ) (o : Ordering) → code_cmp a b ≡ o → is_lt o ≡ false → is_eq o ≡ false → code_cmp b a ≡ Less
 less_from_not a b Less e not_less apart = cc
 less_from_not a b Equal e not_less apart = cc
 less_from_not a b Greater e not_less apart = code_total.antisymm b a ∙ ap ordering_reverse e

@@ -1,5 +1,5 @@
 -- The processed table is one.
-use Rattle.std.proofs.Common.{◌≡◌, ℕ, ◌-◌, ◌<◌, ◌≤◌, ◌&&◌, List, [], ◌∷◌, length, map, find, slice_index, Ok, Option, Some, None, sum, Contains, inl, inr, nat_le, nat_lt, true, false, arith, refl, sym, ap, ◌∙◌, subst}
+use Rattle.std.proofs.Common.{◌≡◌, ℕ, ◌-◌, ◌<◌, ◌≤◌, ◌&&◌, List, [], ◌∷◌, length, map, find, slice_index, Option, Some, None, sum, Contains, inl, inr, nat_le, true, false, arith, refl, sym, ap, ◌∙◌, subst}
 use Rattle.std.specs.Prelude.{◌↔◌}
 use Rattle.std.specs.List.{IsDistinct}
 use Rattle.jiff_core.specs.declared.civil.date.Date.{Date}
@@ -19,10 +19,9 @@ use Rattle.gi_nominations.specs.Book.{in_force}
 use Rattle.gi_nominations.specs.Lines.{has_twins}
 use Rattle.std.specs.Str.{bytes_eq}
 use Rattle.std.proofs.lemmas.Bool.Decides.{Decides-eqb, nat_tests}
-use Rattle.gi_pairs.specs.Limits.{most_processed_rows, most_rows}
+use Rattle.gi_pairs.specs.Limits.{most_processed_rows}
 use Rattle.gi_pairs.specs.Pair.{pair_of}
-use Rattle.gi_pairs.specs.Table.{TableContents, IsTable, built, covered, in_order, is_at, is_hour_range, keys_of, reading}
-use Rattle.gi_pairs.proofs.Refusals.{accepted}
+use Rattle.gi_pairs.specs.Table.{TableContents, IsTable, covered, in_order, is_at, keys_of, reading}
 use Rattle.gi_messages.specs.declared.message.Nomint.{Nomint}
 use Rattle.gi_processing.specs.Capacity.{Capacity}
 use Rattle.gi_processing.specs.CapacityLimits.{most_portfolios}
@@ -33,7 +32,7 @@ use Rattle.gi_processing.specs.declared.span.Span.{Span}
 use Rattle.gi_processing.proofs.Counterparties.{in_by_counterparty}
 use Rattle.gi_processing.proofs.Portfolios.{known_in}
 use Rattle.gi_processing.proofs.ReductionLaws.{is_reduction, no_part_exceeds, parts_sum}
-use Rattle.gi_processing.proofs.ProcessingRows.{in_flat_map, key_in_rows, key_of-row, lines_sound, rows-distinct, rows-few, rows-whole}
+use Rattle.gi_processing.proofs.ProcessingRows.{in_flat_map, key_in_rows, key_of-row, lines_sound, rows-few}
 
 pub kept_from : (capacity : Capacity) (documents : List Nomint) (span : Span) (portfolios : List (List ℕ)) → portfolios ≡ portfolios_of capacity.contracts
     → length portfolios ≤ most_portfolios → IsDistinct bytes_eq portfolios → IsSpan span → AreSound capacity documents span.day → CanProcess capacity documents span
@@ -47,16 +46,6 @@ kept_from capacity documents span portfolios is few distinct hours sound = recor
 pub processed_rows-few : (capacity : Capacity) (documents : List Nomint) (span : Span) → CanProcess capacity documents span → length (processed_rows capacity span documents) ≤ most_processed_rows
 processed_rows-few capacity documents span kept =
     omega (arith, rows-few capacity span documents (portfolios_of capacity.contracts) kept.sound, kept.few)
-
--- they make a table
-pub processed_rows-built : (capacity : Capacity) (documents : List Nomint) (span : Span) → CanProcess capacity documents span
-    → built span.first span.last (processed_rows capacity span documents) ≡ Ok (span_table capacity span documents)
-processed_rows-built capacity documents span kept =
-    let s = kept.hours in
-    let range : is_hour_range span.first span.last ≡ true = grind (arith, nat_tests, s.from, s.ordered, s.ends) in
-    let few : nat_lt most_rows (length (processed_rows capacity span documents)) ≡ false = grind (arith, nat_tests, processed_rows-few capacity documents span kept) in
-    sym (accepted span.first span.last (processed_rows capacity span documents) range few (rows-whole capacity span documents (portfolios_of capacity.contracts))
-    (rows-distinct capacity span documents (portfolios_of capacity.contracts) kept.sound kept.distinct))
 
 -- ---- what the table has, and reads
 
@@ -128,14 +117,14 @@ module _ (capacity : Capacity) (documents : List Nomint) (span : Span) (table : 
 
 -- ---- the law
 
-map_alike : {X Y : Type 0} (f g : X → Y) (xs : List X) → ((x : X) → In x xs → f x ≡ g x) → map f xs ≡ map g xs
+pub map_alike : {X Y : Type 0} (f g : X → Y) (xs : List X) → ((x : X) → In x xs → f x ≡ g x) → map f xs ≡ map g xs
 map_alike f g [] same = refl
 map_alike f g (x ∷ xs) same =
     let here = same x (inl refl) in
     let rest = map_alike f g xs (λ y h. same y (inr h)) in
     λ i. here i ∷ rest i
 
-direction_is : (direction : Direction) (line : Line) → is_in direction line ≡ true → line.direction ≡ direction
+pub direction_is : (direction : Direction) (line : Line) → is_in direction line ≡ true → line.direction ≡ direction
 direction_is direction line is = same_direction line.direction direction ((Decides-eqb (place_of line.direction) (place_of direction)).0 is)
   where
     same_direction : (a b : Direction) → place_of a ≡ place_of b → a ≡ b

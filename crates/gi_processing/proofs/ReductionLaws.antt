@@ -1,7 +1,6 @@
 -- Parts make a reduction: none exceeds its quantity, and together they are what is available.
 use Rattle.std.proofs.Common.{◌≡◌, ℕ, zero, suc, ◌+◌, ◌-◌, ◌*◌, ◌/◌, ◌<◌, ◌≤◌, List, [], ◌∷◌, ◌++◌, length, map, filter, take, sum, sum_by, nat_le, true, false, Bool, cond, ◌⊎◌, inl, inr, Contains, refl, sym, ap, ◌∙◌, subst, arith, add-zero, zero-add, if◌then◌else◌}
-use Rattle.std.specs.declared.cmp.Ordering.{Ordering}
-use Rattle.std.specs.declared.cmp.Ordering.TheVariants.{Less, Equal, Greater}
+use Rattle.std.specs.declared.cmp.Ordering.TheVariants.{Less}
 use Rattle.std.specs.List.{AllByRecursion}
 use Rattle.std.specs.List.Sorted.{IsPermutation, IsStrictlySortedBy}
 use Rattle.std.specs.Ordering.{is_le, is_lt}
@@ -18,9 +17,8 @@ use Rattle.gi_pairs.specs.declared.direction.Direction.{Direction}
 use Rattle.gi_pairs.proofs.Building.{In, in_from_contains}
 use Rattle.gi_messages.specs.declared.line.Line.{Line}
 use Rattle.gi_nominations.specs.Lines.{has_twins}
-use Rattle.gi_processing.specs.Reduction.{by_counterparty, in_direction, is_before, is_up_to, part, quantity_at, sum_before, sum_up_to, total, IsReduction}
-use Rattle.gi_processing.proofs.Counterparties.{AreOrdered, are_ordered, by_counterparty-permutation, code_above, code_refl, counterparties}
-use Rattle.gi_processing.proofs.SumLemmas.{filter-wider}
+use Rattle.gi_processing.specs.Reduction.{AreOrdered, by_counterparty, counterparties, in_direction, is_before, is_up_to, part, quantity_at, sum_before, sum_up_to, total, IsReduction}
+use Rattle.gi_processing.proofs.Counterparties.{are_ordered, by_counterparty-permutation, code_above, code_refl}
 
 -- ---- which lines come before one, where lines ascend
 
@@ -60,13 +58,13 @@ up_to_middle (x ∷ xs) line back s =
 
 -- ---- what a line's part is, where it stands among lines that ascend
 
-fits_not : (s a : ℕ) → a < s → nat_le s a ≡ false
+pub fits_not : (s a : ℕ) → a < s → nat_le s a ≡ false
 fits_not s a less = grind (arith, nat_tests)
 
-fits : (s a : ℕ) → s ≤ a → nat_le s a ≡ true
+pub fits : (s a : ℕ) → s ≤ a → nat_le s a ≡ true
 fits s a less = grind (arith, nat_tests)
 
-total_push : (index : ℕ) (front : List Line) (line : Line) → total index (front ++ line ∷ []) ≡ total index front + quantity_at index line
+pub total_push : (index : ℕ) (front : List Line) (line : Line) → total index (front ++ line ∷ []) ≡ total index front + quantity_at index line
 total_push index front line = sum_by-append (quantity_at index) front (line ∷ []) ∙ ap (λ n. total index front + n) (sum_by-cons (quantity_at index) line [] ∙ add-zero (quantity_at index line))
 
 -- where all fit, it is the quantity
@@ -75,7 +73,7 @@ unfolding part
 part_whole available index lines line less = let here = fits (total index lines) available less in rw here refl
 
 -- elsewhere the scaled sums differ by it
-part_middle : (available index : ℕ) (all front : List Line) (line : Line) (back : List Line) → all ≡ front ++ line ∷ back → AreOrdered all → available < total index all
+pub part_middle : (available index : ℕ) (all front : List Line) (line : Line) (back : List Line) → all ≡ front ++ line ∷ back → AreOrdered all → available < total index all
     → part available index all line ≡ available * (total index front + quantity_at index line) / total index all - available * total index front / total index all
 unfolding part
 part_middle available index all front line back is ordered less =
@@ -88,16 +86,16 @@ part_middle available index all front line back is ordered less =
 
 -- ---- sums scaled
 
-div_grows : (x y s : ℕ) → 0 < s → x ≤ y → x / s ≤ y / s
+pub div_grows : (x y s : ℕ) → 0 < s → x ≤ y → x / s ≤ y / s
 div_grows x y s some less = le-div (x / s) y s some (omega (arith, div-mul-le_self x s))
 
-scaled_grows : (a b n s : ℕ) → 0 < s → a * b / s ≤ a * (b + n) / s
+pub scaled_grows : (a b n s : ℕ) → 0 < s → a * b / s ≤ a * (b + n) / s
 scaled_grows a b n s some =
     let more : b ≤ b + n = omega arith in
     div_grows (a * b) (a * (b + n)) s some (mul-le-mul_left a more)
 
 -- a sum scaled grows by no more than the sum
-scaled_within : (a b n s : ℕ) → 0 < s → a ≤ s → a * (b + n) / s ≤ a * b / s + n
+pub scaled_within : (a b n s : ℕ) → 0 < s → a ≤ s → a * (b + n) / s ≤ a * b / s + n
 scaled_within a b n s some less =
     let wide : a * (b + n) ≤ a * b + s * n = omega (arith, mul-le-mul_right n less) in
     let most = div_grows (a * (b + n)) (a * b + s * n) s some wide in
@@ -178,7 +176,7 @@ sum_by-filter f p (x ∷ xs) = by_test (p x) (sum_by-filter f p xs) ∙ sym (sum
 sum_by-filter-permutation : {X : Type 0} (f : X → ℕ) (p : X → Bool) (xs ys : List X) → IsPermutation xs ys → sum_by f (filter p ys) ≡ sum_by f (filter p xs)
 sum_by-filter-permutation f p xs ys moved = sum_by-filter f p ys ∙ sum_by-IsPermutation (λ x. cond (p x) (f x) 0) xs ys moved ∙ sym (sum_by-filter f p xs)
 
-part-permutation : (available index : ℕ) (xs ys : List Line) → IsPermutation xs ys → part available index ys ≡ part available index xs
+pub part-permutation : (available index : ℕ) (xs ys : List Line) → IsPermutation xs ys → part available index ys ≡ part available index xs
 unfolding part
 part-permutation available index xs ys moved =
     let all : total index ys ≡ total index xs = sum_by-IsPermutation (quantity_at index) xs ys moved in
@@ -238,18 +236,3 @@ parts_sum available index direction lines none less =
     let quantities : sum (map (quantity_at index) (by_counterparty (in_direction direction lines))) ≡ total index (in_direction direction lines) =
     total-map index (by_counterparty (in_direction direction lines)) ∙ sum_by-IsPermutation (quantity_at index) (in_direction direction lines) (by_counterparty (in_direction direction lines)) moved in
     sum-reduction available _ _ (is_reduction available index direction lines none) (omega (arith, quantities))
-
--- what a line's part is, from the sums, where not all fit
-pub part_scaled : (available index : ℕ) (lines : List Line) (line : Line) → available < total index lines
-    → part available index lines line ≡ available * sum_up_to line.counterparty index lines / total index lines - available * sum_before line.counterparty index lines / total index lines
-unfolding part
-part_scaled available index lines line less = let here = fits_not (total index lines) available less in rw here refl
-
-below_or_same : (o : Ordering) → is_lt o ≡ true → is_le o ≡ true
-below_or_same Less e = refl
-below_or_same Equal e = refl
-below_or_same Greater e = e
-
--- what comes before a code sums up to no more than what comes before it with it
-pub before_up_to : (code : List ℕ) (index : ℕ) (lines : List Line) → sum_before code index lines ≤ sum_up_to code index lines
-before_up_to code index lines = filter-wider (quantity_at index) (is_before code) (is_up_to code) lines (λ x. below_or_same (code_cmp x.counterparty code))

@@ -1,6 +1,6 @@
 -- The processed quantities of a side: what is nominated in its gas day's hours, reduced to what is available.
 -- Source: Regulation (EU) 2015/703 names them; the formula is this project's.
-use Rattle.std.specs.Prelude.{◌≡◌, ◌↔◌, ℕ, ◌-◌, ◌<◌, ◌≤◌, List, [], length, map, sum, Contains, Option, Some, None, true}
+use Rattle.std.specs.Prelude.{◌≡◌, ◌↔◌, ℕ, ◌-◌, ◌<◌, ◌≤◌, List, [], length, map, slice_index, sum, Contains, Option, Some, None, true}
 use Rattle.std.specs.List.{IsDistinct, flat_map, range_with_len}
 use Rattle.std.specs.Str.{bytes_eq}
 use Rattle.jiff_core.specs.declared.civil.date.Date.{Date}
@@ -20,7 +20,7 @@ use Rattle.gi_processing.specs.Capacity.{Capacity, available, knows}
 use Rattle.gi_processing.specs.CapacityLimits.{most_portfolios}
 use Rattle.gi_processing.specs.Recording.{portfolios_of}
 use Rattle.gi_processing.specs.declared.span.Span.{Span}
-use Rattle.gi_processing.specs.Reduction.{IsReduction, by_counterparty, in_direction, part, quantity_at, total}
+use Rattle.gi_processing.specs.Reduction.{IsReduction, by_counterparty, in_direction, part, parts, quantity_at, total}
 
 -- the lines of the nomination in force, none where there is none
 abbrev pub lines_of : Option Nomint → List Line
@@ -56,6 +56,19 @@ processed_row capacity span portfolio lines line = record {
   pair = pair_of span.side portfolio line.counterparty;
   direction = line.direction;
   hours = map (processed_in capacity portfolio span.day lines line) (range_with_len span.first (covered span.first span.last));
+}
+
+-- what is processed of a portfolio's lines of one direction, in each hour
+abbrev pub columns : Capacity → Span → List ℕ → Direction → List Line → List (List ℕ)
+columns capacity span portfolio direction lines =
+    map (λ hour. parts (available_to capacity portfolio span.day direction hour) (hour - 1) lines) (range_with_len span.first (covered span.first span.last))
+
+-- the row of the line at a place, from what is processed of all lines in each hour
+abbrev pub row_at : Span → List ℕ → Line → List (List ℕ) → ℕ → Row
+row_at span portfolio line of_hours place = record {
+  pair = pair_of span.side portfolio line.counterparty;
+  direction = line.direction;
+  hours = map (λ column. slice_index column place) of_hours;
 }
 
 -- the rows of a portfolio: one for each line in force, zeros too

@@ -1,5 +1,7 @@
 -- How the quantities of a portfolio's lines are reduced to what is available to it (this project's formula).
-use Rattle.std.specs.Prelude.{◌≡◌, ℕ, ◌-◌, ◌*◌, ◌/◌, ◌<◌, ◌≤◌, List, [], ◌∷◌, length, filter, take, sum, sum_by, slice_index, Bool, nat_eq, nat_le, if◌then◌else◌}
+use Rattle.std.specs.Prelude.{◌≡◌, ℕ, ◌-◌, ◌*◌, ◌/◌, ◌<◌, ◌≤◌, List, [], ◌∷◌, length, filter, map, take, sum, sum_by, slice_index, Bool, nat_eq, nat_le, if◌then◌else◌}
+use Rattle.std.specs.Borrow.{Bor}
+use Rattle.std.specs.List.Sorted.{IsStrictlySortedBy}
 use Rattle.std.specs.Ordering.{is_le, is_lt}
 use Rattle.gi_pairs.specs.Direction.{place_of}
 use Rattle.gi_pairs.specs.Key.{code_cmp}
@@ -53,6 +55,26 @@ with_line line (x ∷ xs) = if is_lt (code_cmp line.counterparty x.counterparty)
 abbrev pub by_counterparty : List Line → List Line
 by_counterparty [] = []
 by_counterparty (line ∷ lines) = with_line line (by_counterparty lines)
+
+-- the lines that references are to
+abbrev pub referred : List (Bor Line) → List Line
+referred = map (λ line. line.now)
+
+-- the counterparties of lines
+abbrev pub counterparties : List Line → List (List ℕ)
+counterparties = map (λ line. line.counterparty)
+
+-- lines whose counterparties ascend strictly
+abbrev pub AreOrdered : List Line → Type 0
+AreOrdered lines = IsStrictlySortedBy code_cmp (counterparties lines)
+
+-- the sum of the first so many quantities, scaled where not all fit
+abbrev pub quotient : ℕ → ℕ → ℕ → ℕ
+quotient available sum total = if nat_le total available then sum else available * sum / total
+
+-- the parts of all lines of a direction
+abbrev pub parts : ℕ → ℕ → List Line → List ℕ
+parts available index lines = map (part available index lines) lines
 
 -- Quantities reduced to what is available: all stay where they fit; elsewhere the sum of the first so many parts is
 -- that of the first so many quantities, scaled and rounded down.

@@ -1,58 +1,60 @@
-ghost use Rattle.std.specs.Prelude.{◌≡◌, ◌≤◌, ◌++◌, [], None, Ok, IfOk, OnOk, OnErr, Contains, length, map};
+ghost use Rattle.std.specs.Prelude.{◌≡◌, ◌<◌, ◌≤◌, ◌++◌, None, Ok, IfOk, OnOk, All, length, map};
+ghost use Rattle.std.specs.List.Sorted.{IsPermutation};
 ghost use Rattle.gi_day.specs.Cycles.{hour_count, IsCycle};
-ghost use Rattle.gi_nominations.specs.Lines.{lines_fault};
+ghost use Rattle.gi_nominations.specs.Lines.{lines_fault, most_lines};
 ghost use Rattle.gi_pairs.specs.Table.{IsTable, built};
 ghost use Rattle.gi_pairs.specs.Limits.{most_processed_rows};
-ghost use Rattle.gi_processing.specs.Processing.{AreSound, CanProcess, IsProcessed, IsSpan, portfolio_rows, processed as processed_table, processed_in, processed_row, processed_rows, span_table};
+ghost use Rattle.gi_processing.specs.Processing.{AreSound, CanProcess, IsProcessed, IsSpan, columns, portfolio_rows, processed as processed_table, processed_row, processed_rows, row_at, span_table};
+ghost use Rattle.gi_processing.specs.Reduction.{AreOrdered, in_direction, referred};
 
 use crate::contracts::Contracts;
-use crate::reduction::processed_quantity;
+use crate::reduction::{ordered_lines, parts_in};
 use crate::span::Span;
-use gi_day::{DayFrame, GasDay};
+use gi_day::DayFrame;
 use gi_messages::Line;
 use gi_nominations::Book;
-use gi_pairs::{Code, Hours, Pair, Quantity, Row, Side, Table};
+use gi_pairs::{Code, Direction, Hours, Pair, Quantity, Row, Side, Table};
 use std::alloc::{AllocError, Global};
 
-/// What is processed of a portfolio's line in an hour.
-#[tactic(auto, unfolding(crate::specs::Processing::processed_in))]
-fn processed_in_hour(
-    contracts: &Contracts,
-    day: GasDay,
-    portfolio: Code,
-    lines: &[Line],
-    line: &Line,
-    hour: u8,
-) -> Quantity
-    requires from { 1 ≤ hour }
-    requires to { hour ≤ hour_count day }
-    requires sound { lines_fault (hour_count day) lines.now ≡ None }
-    requires member { Contains lines.now line.now }
-    ensures { result ≡ processed_in contracts.now portfolio day lines.now line.now hour }
-{
-    let available = contracts.available(portfolio, day, line.direction, hour);
-    processed_quantity(lines, line, usize::from(hour - 1), available)
-}
-
-/// The row of a portfolio's line.
-#[tactic(auto, unfolding(crate::specs::Processing::processed_row))]
-fn row_of(
+/// What is processed in each hour of a portfolio's lines of a direction, which come in order of
+/// counterparty.
+fn columns_of(
     alloc: Global,
     contracts: &Contracts,
     span: &Span,
     portfolio: Code,
-    lines: &[Line],
-    line: &Line,
-) -> Result<Row, AllocError>
+    lines: &[&Line],
+    direction: Direction,
+) -> Result<Vec<Vec<Quantity>>, AllocError>
     requires span { IsSpan span.now }
-    requires sound { lines_fault (hour_count span.now.day) lines.now ≡ None }
-    requires member { Contains lines.now line.now }
-    ensures { IfOk result (λ row. row ≡ processed_row contracts.now span.now portfolio lines.now line.now) }
+    requires few { length lines.now ≤ most_lines }
+    requires whole { All (λ line. length line.hours ≡ hour_count span.now.day) (referred lines.now) }
+    requires ordered { AreOrdered (referred lines.now) }
+    ensures { IfOk result (λ of_hours. map (λ column. column.items) of_hours.items ≡ columns contracts.now span.now portfolio direction (referred lines.now)) }
 {
-    let mut quantities = Vec::with_capacity(alloc, usize::from(span.last - span.first) + 1)?;
+    let mut of_hours = Vec::with_capacity(alloc, usize::from(span.last - span.first) + 1)?;
     for hour in span.first..span.last + 1 {
-        let quantity = processed_in_hour(contracts, span.day, portfolio, lines, line, hour);
-        quantities.push(quantity)?;
+        let available = contracts.available(portfolio, span.day, direction, hour);
+        of_hours.push(parts_in(alloc, lines, usize::from(hour - 1), available)?)?;
+    }
+    Ok(of_hours)
+}
+
+/// The row of the line at a place, from what is processed of all lines in each hour.
+fn row_of(
+    alloc: Global,
+    span: &Span,
+    portfolio: Code,
+    line: &Line,
+    of_hours: &[Vec<Quantity>],
+    place: usize,
+) -> Result<Row, AllocError>
+    requires { All (λ column. place < length column.items) of_hours.now }
+    ensures { IfOk result (λ row. row ≡ row_at span.now portfolio line.now (map (λ column. column.items) of_hours.now) place) }
+{
+    let mut quantities = Vec::with_capacity(alloc, of_hours.len())?;
+    for column in of_hours {
+        quantities.push(column[place])?;
     }
     Ok(Row {
         pair: Pair::of(span.side, portfolio, line.counterparty),
@@ -61,7 +63,27 @@ fn row_of(
     })
 }
 
-/// Adds a row for each of a portfolio's lines.
+fn add_direction(
+    rows: &mut Vec<Row>,
+    contracts: &Contracts,
+    span: &Span,
+    portfolio: Code,
+    lines: &[Line],
+    direction: Direction,
+) -> Result<(), AllocError>
+    requires span { IsSpan span.now }
+    requires sound { lines_fault (hour_count span.now.day) lines.now ≡ None }
+    ensures { OnOk result (IsPermutation (rows.old.items ++ map (processed_row contracts.now span.now portfolio lines.now) (in_direction direction lines.now)) rows.new.items) }
+{
+    let alloc = *rows.allocator();
+    let ordered = ordered_lines(alloc, lines, direction)?;
+    let of_hours = columns_of(alloc, contracts, span, portfolio, &ordered, direction)?;
+    for place in 0..ordered.len() {
+        rows.push(row_of(alloc, span, portfolio, ordered[place], &of_hours, place)?)?;
+    }
+    Ok(())
+}
+
 fn add_rows(
     rows: &mut Vec<Row>,
     contracts: &Contracts,
@@ -71,13 +93,10 @@ fn add_rows(
 ) -> Result<(), AllocError>
     requires span { IsSpan span.now }
     requires sound { lines_fault (hour_count span.now.day) lines.now ≡ None }
-    ensures { OnOk result (rows.new.items ≡ rows.old.items ++ map (processed_row contracts.now span.now portfolio lines.now) lines.now) }
+    ensures { OnOk result (IsPermutation (rows.old.items ++ map (processed_row contracts.now span.now portfolio lines.now) lines.now) rows.new.items) }
 {
-    let alloc = *rows.allocator();
-    for line in lines {
-        rows.push(row_of(alloc, contracts, span, portfolio, lines, line)?)?;
-    }
-    Ok(())
+    add_direction(rows, contracts, span, portfolio, lines, Direction::IM)?;
+    add_direction(rows, contracts, span, portfolio, lines, Direction::MI)
 }
 
 /// Adds a row for each line that a portfolio has in force.
@@ -91,7 +110,7 @@ fn add_portfolio(
 ) -> Result<(), AllocError>
     requires span { IsSpan span.now }
     requires sound { AreSound contracts.now book.now.documents span.now.day }
-    ensures { OnOk result (rows.new.items ≡ rows.old.items ++ portfolio_rows contracts.now span.now book.now.documents portfolio) }
+    ensures { OnOk result (IsPermutation (rows.old.items ++ portfolio_rows contracts.now span.now book.now.documents portfolio) rows.new.items) }
 {
     match book.in_force(portfolio, span.day) {
         Some(document) => add_rows(rows, contracts, span, portfolio, document.lines.as_slice()),
@@ -108,7 +127,7 @@ fn rows_in_force(
 ) -> Result<Vec<Row>, AllocError>
     requires span { IsSpan span.now }
     requires sound { AreSound contracts.now book.now.documents span.now.day }
-    ensures rows { IfOk result (λ rows. rows.items ≡ processed_rows contracts.now span.now book.now.documents) }
+    ensures rows { IfOk result (λ rows. IsPermutation (processed_rows contracts.now span.now book.now.documents) rows.items) }
     ensures few { IfOk result (λ rows. length rows.items ≤ most_processed_rows) }
     ensures known { IfOk result (λ _. CanProcess contracts.now book.now.documents span.now) }
     ensures makes { IfOk result (λ rows. built span.now.first span.now.last rows.items ≡ Ok (span_table contracts.now span.now book.now.documents)) }

@@ -1,18 +1,37 @@
-ghost use Rattle.std.specs.Prelude.{◌≡◌, ◌+◌, ◌-◌, ◌*◌, ◌/◌, ◌<◌, ◌≤◌, ◌^◌, [], ◌∷◌, true, false, length, slice_index, All, Contains};
+ghost use Rattle.std.specs.Prelude.{◌≡◌, ◌*◌, ◌/◌, ◌<◌, ◌≤◌, false, length, All, IfOk};
+ghost use Rattle.std.specs.List.Sorted.{IsPermutation};
 ghost use Rattle.gi_pairs.specs.Quantity.{most_quantity};
 ghost use Rattle.gi_nominations.specs.Lines.{has_twins, most_lines};
-ghost use Rattle.gi_processing.specs.Reduction.{in_direction, is_in, part, quantity_at, sum_before, sum_up_to, total};
+ghost use Rattle.gi_processing.specs.Reduction.{AreOrdered, in_direction, parts, quantity_at, quotient, referred, total};
 
 use gi_messages::Line;
-use gi_pairs::Quantity;
+use gi_pairs::{Direction, Quantity};
+use std::alloc::{AllocError, Global};
 
-/// Sums of quantities in one hour, in kWh/h: of all lines of a direction, of those whose
-/// counterparty comes before a code, and of those whose counterparty does not come after it.
-#[derive(Clone, Copy)]
-struct Sums {
-    total: u64,
-    before: u64,
-    up_to: u64,
+fn lines_in(alloc: Global, lines: &[Line], direction: Direction) -> Result<Vec<&Line>, AllocError>
+    ensures { IfOk result (λ kept. referred kept.items ≡ in_direction direction lines.now) }
+{
+    let mut kept = Vec::with_capacity(alloc, lines.len())?;
+    for line in lines {
+        if line.direction == direction {
+            kept.push(line)?;
+        }
+    }
+    Ok(kept)
+}
+
+pub(crate) fn ordered_lines(
+    alloc: Global,
+    lines: &[Line],
+    direction: Direction,
+) -> Result<Vec<&Line>, AllocError>
+    requires { has_twins lines.now ≡ false }
+    ensures lines { IfOk result (λ ordered. IsPermutation (in_direction direction lines.now) (referred ordered.items)) }
+    ensures ordered { IfOk result (λ ordered. AreOrdered (referred ordered.items)) }
+{
+    let mut ordered = lines_in(alloc, lines, direction)?;
+    ordered.sort_unstable_by_key(|line| line.counterparty);
+    Ok(ordered)
 }
 
 /// The quantity of a line in the hour of an index, counted from 0.
@@ -23,47 +42,17 @@ fn quantity_of(line: &Line, index: usize) -> Quantity
     line.hours.as_slice()[index]
 }
 
-/// The sums about a line with one more line counted in.
-fn with_line(sums: Sums, line: &Line, other: &Line, index: usize) -> Sums
-    requires room { sums.total + most_quantity < 2 ^ 64 }
-    requires before { sums.before ≤ sums.total }
-    requires up_to { sums.up_to ≤ sums.total }
-    requires covered { is_in line.now.direction other.now ≡ true → index < length other.now.hours }
-    ensures total { result.total ≡ sums.total + total index (in_direction line.now.direction (other.now ∷ [])) }
-    ensures before { result.before ≡ sums.before + sum_before line.now.counterparty index (in_direction line.now.direction (other.now ∷ [])) }
-    ensures up_to { result.up_to ≡ sums.up_to + sum_up_to line.now.counterparty index (in_direction line.now.direction (other.now ∷ [])) }
-    ensures bound { result.total ≤ sums.total + most_quantity }
-{
-    if other.direction != line.direction {
-        return sums;
-    }
-    let quantity = quantity_of(other, index).value();
-    let order = other.counterparty.cmp(&line.counterparty);
-    Sums {
-        total: sums.total + quantity,
-        before: sums.before + if order.is_lt() { quantity } else { 0 },
-        up_to: sums.up_to + if order.is_le() { quantity } else { 0 },
-    }
-}
-
-/// The sums about a line, over the lines of its direction.
-fn sums_about(lines: &[Line], line: &Line, index: usize) -> Sums
+fn total_of(lines: &[&Line], index: usize) -> u64
     requires few { length lines.now ≤ most_lines }
-    requires covered { All (λ other. index < length other.hours) (in_direction line.now.direction lines.now) }
-    ensures total { result.total ≡ total index (in_direction line.now.direction lines.now) }
-    ensures before { result.before ≡ sum_before line.now.counterparty index (in_direction line.now.direction lines.now) }
-    ensures up_to { result.up_to ≡ sum_up_to line.now.counterparty index (in_direction line.now.direction lines.now) }
-    ensures bound { result.total ≤ length lines.now * most_quantity }
+    requires covered { All (λ line. index < length line.hours) (referred lines.now) }
+    ensures value { result ≡ total index (referred lines.now) }
+    ensures bound { result ≤ length lines.now * most_quantity }
 {
-    let mut sums = Sums {
-        total: 0,
-        before: 0,
-        up_to: 0,
-    };
-    for other in lines {
-        sums = with_line(sums, line, other, index);
+    let mut sum = 0;
+    for line in lines {
+        sum += quantity_of(line, index).value();
     }
-    sums
+    sum
 }
 
 /// A sum scaled to what is available in place of the total, rounded down.
@@ -75,37 +64,40 @@ fn scaled(available: u64, sum: u64, total: u64) -> u64
     (u128::from(available) * u128::from(sum) / u128::from(total)) as u64
 }
 
-/// A line's part of what is available, from its quantity and the sums about it.
-fn part_from(sums: Sums, quantity: u64, available: u64) -> u64
-    requires before { sums.before ≤ sums.up_to }
-    requires up_to { sums.up_to ≤ sums.total }
-    ensures whole { sums.total ≤ available → result ≡ quantity }
-    ensures reduced { available < sums.total → result ≡ available * sums.up_to / sums.total - available * sums.before / sums.total }
+/// What the first so many lines get together, of which the sum is given: the sum, where all lines
+/// fit, and else the sum scaled.
+fn quotient_of(available: u64, sum: u64, total: u64) -> u64
+    requires { sum ≤ total }
+    ensures { result ≡ quotient available sum total }
 {
-    if sums.total <= available {
-        return quantity;
+    if total <= available {
+        return sum;
     }
-    let up_to = scaled(available, sums.up_to, sums.total);
-    let before = scaled(available, sums.before, sums.total);
-    up_to - before
+    scaled(available, sum, total)
 }
 
-/// What is processed of a line in the hour of an index, counted from 0, where so many kWh/h are
-/// available to all lines of its direction together.
-pub(crate) fn processed_quantity(
-    lines: &[Line],
-    line: &Line,
+/// What is processed of the lines of a direction, which come in order of counterparty, in the hour
+/// of an index, where so many kWh/h are available to all of them together: one pass, which carries
+/// along what the lines before got.
+pub(crate) fn parts_in(
+    alloc: Global,
+    lines: &[&Line],
     index: usize,
     available: u64,
-) -> Quantity
+) -> Result<Vec<Quantity>, AllocError>
     requires few { length lines.now ≤ most_lines }
-    requires covered { All (λ other. index < length other.hours) (in_direction line.now.direction lines.now) }
-    requires member { Contains lines.now line.now }
-    requires distinct { has_twins lines.now ≡ false }
-    ensures value { result ≡ part available index (in_direction line.now.direction lines.now) line.now }
-    ensures within { result ≤ quantity_at index line.now }
+    requires covered { All (λ line. index < length line.hours) (referred lines.now) }
+    requires ordered { AreOrdered (referred lines.now) }
+    ensures { IfOk result (λ quantities. quantities.items ≡ parts available index (referred lines.now)) }
 {
-    let quantity = quantity_of(line, index).value();
-    let sums = sums_about(lines, line, index);
-    Quantity::new(part_from(sums, quantity, available)).unwrap()
+    let total = total_of(lines, index);
+    let mut quantities = Vec::with_capacity(alloc, lines.len())?;
+    let (mut sum, mut carried) = (0, 0);
+    for line in lines {
+        sum += quantity_of(line, index).value();
+        let quotient = quotient_of(available, sum, total);
+        quantities.push(Quantity::new(quotient - carried).unwrap())?;
+        carried = quotient;
+    }
+    Ok(quantities)
 }

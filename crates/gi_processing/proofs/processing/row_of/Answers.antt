@@ -1,13 +1,12 @@
-use Rattle.std.proofs.Common.{arith}
-use Rattle.gi_pairs.proofs.Members.{hour_step}
-use Rattle.gi_processing.specs.Processing.{processed_in}
+use Rattle.std.proofs.Common.{◌∙◌, ap, map, slice_index, sym, List, Vec, ℕ, Global}
+use Rattle.std.proofs.lemmas.List.{take_all}
+use Rattle.gi_processing.proofs.RowLaws.{map_twice}
 use Rattle.gi_processing.proofs.processing.row_of.Goals as goal
 
-pub overflow_add-hour-end : goal.overflow_add-hour-end
-overflow_add-hour-end c = omega (arith, c.requires.span.ends)
-
-pub loop-hour-preserved : goal.loop-hour-preserved
-loop-hour-preserved c =
-    let span = c.args.span.now in
-    hour_step (processed_in c.args.contracts.now c.args.portfolio span.day c.args.lines.now c.args.line.now) span.first c.loop-hour.hour c.processed_in_hour-quantity.result c.loop-hour.quantities.items c.push.new.self.items
-    (omega (arith, c.loop-hour.auto.hour)) c.loop-hour.invariant c.processed_in_hour-quantity.ensures c.in_ok-push.ensures.items
+pub returns : goal.returns
+returns c =
+    let at = λ (column : List ℕ). slice_index column c.args.place in
+    let hours = c.from.ensures ∙ c.loop-column.invariant
+    ∙ ap (map (λ (column : Vec ℕ Global). slice_index column.items c.args.place)) (take_all c.loop-column.column-index c.args.of_hours.now c.loop-column-test.false)
+    ∙ sym (map_twice at (λ (column : Vec ℕ Global). column.items) c.args.of_hours.now) in
+    λ i. record { pair = c.of.ensures i; direction = c.args.line.now.direction; hours = hours i }

@@ -1,8 +1,5 @@
-use Rattle.std.proofs.Common.{◌≡◌, ◌-◌, map}
-use Rattle.std.specs.List.{range_with_len}
-use Rattle.gi_processing.specs.Processing.{processed_in}
+use Rattle.std.proofs.Common.{◌≡◌, map, slice_index, take, Vec, ℕ, Global}
 use Rattle.gi_processing.proofs.processing.row_of.Given as goal
 
-abbrev pub invariant-loop-hour : goal.invariant-loop-hour
-invariant-loop-hour l =
-    l.quantities.items ≡ map (processed_in l.contracts l.portfolio l.span.day l.lines l.line) (range_with_len l.span.first (l.hour - l.span.first))
+abbrev pub invariant-loop-column : goal.invariant-loop-column
+invariant-loop-column l = l.quantities.items ≡ map (λ (column : Vec ℕ Global). slice_index column.items l.place) (take l.column-index l.of_hours)
