@@ -70,7 +70,7 @@ impl Facts {
     }
 
     /// Copies the nomination of the fact; `none` where it has none.
-    fn copy_nomination(&mut self, alloc: Global, text: &mut String) -> Result<(), Fault> {
+    fn copy_nomint(&mut self, alloc: Global, text: &mut String) -> Result<(), Fault> {
         let Some(Fact::Nominated(nomination)) = &self.fact else {
             return Ok(text.push_str("none")?);
         };
@@ -87,7 +87,7 @@ impl Facts {
     }
 
     /// Whether the fact's table is that of another; `none` where one of them has none.
-    fn same_table(&self, alloc: Global, words: Words) -> &'static str {
+    fn eq_table(&self, alloc: Global, words: Words) -> &'static str {
         let (Some(Fact::Met { peer, .. }), Some(Fact::Met { peer: other, .. })) = (
             &self.fact,
             &fact_of(alloc, words),
@@ -121,9 +121,9 @@ impl Subject for Facts {
                 None => return Ok(false),
             },
             "copy" => return self.copy(alloc, text),
-            "copy_nomination" => self.copy_nomination(alloc, text)?,
+            "copy_nomint" => self.copy_nomint(alloc, text)?,
             "is" => text.push_str(self.is(alloc, words))?,
-            "same_table" => text.push_str(self.same_table(alloc, words))?,
+            "eq_table" => text.push_str(self.eq_table(alloc, words))?,
             "fault" => match fault_of(words.rest()) {
                 Some(fault) => text.push_str(format!(in alloc; "{fault}")?.as_str())?,
                 None => return Ok(false),

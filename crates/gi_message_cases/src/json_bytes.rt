@@ -104,7 +104,11 @@ fn add_element(
 
 /// The bytes that the words behind a decoder's name tell in a form: the rest of the line as it
 /// stands in the form without a name. `None` where there is no such form.
-pub fn json_bytes(alloc: Global, form: &str, words: Words) -> Result<Option<Vec<u8>>, Fault> {
+pub(crate) fn json_bytes(
+    alloc: Global,
+    form: &str,
+    words: Words,
+) -> Result<Option<Vec<u8>>, Fault> {
     match form {
         "" => Ok(Some(Vec::from_slice(alloc, words.rest().as_bytes())?)),
         "_bytes" => listed(alloc, words),
@@ -118,7 +122,7 @@ pub fn json_bytes(alloc: Global, form: &str, words: Words) -> Result<Option<Vec<
 
 /// Adds what is written for something that was read: the written bytes, or in the form of many
 /// elements whether they are the bytes that were read.
-pub fn add_written(
+pub(crate) fn add_written(
     form: &str,
     read: &[u8],
     written: &[u8],

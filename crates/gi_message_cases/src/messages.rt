@@ -5,6 +5,7 @@ pub mod shown;
 
 use crate::json_bytes::{add_written, json_bytes};
 use gi_calls::{Fault, Subject, Words};
+use gi_messages::parts::{Span, json, span_of};
 use gi_messages::{Lines, Message, decode, encode};
 use lines::{line_of, lines_of};
 use shown::{add_line, add_lines, add_message};
@@ -101,6 +102,18 @@ fn copy_line(alloc: Global, words: Words, text: &mut String) -> Result<bool, Fau
     Ok(true)
 }
 
+/// The hours that an object names, or the first key of the two that is missing or wrong.
+fn span(alloc: Global, words: Words, text: &mut String) -> Result<bool, Fault> {
+    let Some(object) = json(alloc, words.rest().as_bytes())? else {
+        return Ok(false);
+    };
+    match span_of(&object) {
+        Ok(Span { first, last }) => text.push_str(format!(in alloc; "{first} {last}")?.as_str())?,
+        Err(key) => text.push_str(key.text())?,
+    }
+    Ok(true)
+}
+
 impl Subject for Messages {
     fn answer(&mut self, rt: &HostRuntime, call: &str, text: &mut String) -> Result<bool, Fault> {
         let alloc = rt.alloc();
@@ -119,6 +132,7 @@ impl Subject for Messages {
             "copy_line" => return copy_line(alloc, words, text),
             "eq" => return self.eq(alloc, words, text),
             "into_vec" => return self.into_vec(alloc, text),
+            "span_of" => return span(alloc, words, text),
             _ => return Ok(false),
         }
         Ok(true)

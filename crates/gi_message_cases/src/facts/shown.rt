@@ -6,7 +6,7 @@ use gi_facts::Fact;
 use std::alloc::Global;
 
 /// Adds the kind and the fields of a fact.
-pub fn add_fact(alloc: Global, fact: &Fact, text: &mut String) -> Result<(), Fault> {
+pub(crate) fn add_fact(alloc: Global, fact: &Fact, text: &mut String) -> Result<(), Fault> {
     match fact {
         Fact::Contracted(contract) => {
             let (portfolio, day) = (contract.portfolio, contract.day);

@@ -21,7 +21,7 @@ fn hours_of(alloc: Global, words: &str) -> Result<Option<Hours>, Fault> {
 }
 
 /// The line `COUNTERPARTY DIRECTION QUANTITY QUANTITY ..`.
-pub fn line_of(alloc: Global, words: &str) -> Result<Option<Line>, Fault> {
+pub(crate) fn line_of(alloc: Global, words: &str) -> Result<Option<Line>, Fault> {
     let mut words = Words::of(words);
     let (Some(counterparty), Some(direction)) = (words.code(), words.direction()) else {
         return Ok(None);
@@ -37,7 +37,7 @@ pub fn line_of(alloc: Global, words: &str) -> Result<Option<Line>, Fault> {
 }
 
 /// The lines `LINE / LINE / ..`.
-pub fn lines_of(alloc: Global, words: Words) -> Result<Option<Lines>, Fault> {
+pub(crate) fn lines_of(alloc: Global, words: Words) -> Result<Option<Lines>, Fault> {
     let mut lines = Vec::new(alloc);
     if words.is_empty() {
         return Ok(Some(Lines::from(lines)));

@@ -16,7 +16,7 @@ fn add_hours(alloc: Global, hours: &Hours, text: &mut String) -> Result<(), Faul
 }
 
 /// Adds a line of a message.
-pub fn add_line(alloc: Global, line: &Line, text: &mut String) -> Result<(), Fault> {
+pub(crate) fn add_line(alloc: Global, line: &Line, text: &mut String) -> Result<(), Fault> {
     text.push_str(line.counterparty.as_str())?;
     text.push_str(" ")?;
     text.push_str(line.direction.as_str())?;
@@ -24,7 +24,7 @@ pub fn add_line(alloc: Global, line: &Line, text: &mut String) -> Result<(), Fau
 }
 
 /// Adds the lines of a message, in their order.
-pub fn add_lines(alloc: Global, lines: &Lines, text: &mut String) -> Result<(), Fault> {
+pub(crate) fn add_lines(alloc: Global, lines: &Lines, text: &mut String) -> Result<(), Fault> {
     if lines.as_slice().is_empty() {
         text.push_str("no lines\n")?;
     }
@@ -35,7 +35,7 @@ pub fn add_lines(alloc: Global, lines: &Lines, text: &mut String) -> Result<(), 
 }
 
 /// Adds the hours that a table covers, then its rows.
-pub fn add_table(alloc: Global, table: &Table, text: &mut String) -> Result<(), Fault> {
+pub(crate) fn add_table(alloc: Global, table: &Table, text: &mut String) -> Result<(), Fault> {
     let (first, last) = (table.first(), table.last());
     text.push_str(format!(in alloc; "hours {first} {last}\n")?.as_str())?;
     for row in table.rows() {
@@ -48,7 +48,7 @@ pub fn add_table(alloc: Global, table: &Table, text: &mut String) -> Result<(), 
 }
 
 /// Adds the fields of a NOMINT.
-pub fn add_nomint(alloc: Global, message: &Nomint, text: &mut String) -> Result<(), Fault> {
+pub(crate) fn add_nomint(alloc: Global, message: &Nomint, text: &mut String) -> Result<(), Fault> {
     let (point, portfolio) = (message.point, message.portfolio);
     let (day, version) = (message.day, message.version);
     let head = format!(in alloc;
@@ -69,7 +69,11 @@ fn add_delres(alloc: Global, message: &Delres, text: &mut String) -> Result<(), 
 }
 
 /// Adds the kind and the fields of a message.
-pub fn add_message(alloc: Global, message: &Message, text: &mut String) -> Result<(), Fault> {
+pub(crate) fn add_message(
+    alloc: Global,
+    message: &Message,
+    text: &mut String,
+) -> Result<(), Fault> {
     match message {
         Message::Nomint(nomint) => {
             text.push_str("NOMINT ")?;
