@@ -25,54 +25,38 @@ lines-other : (byte : ℕ) (bytes : List ℕ) → ends_line byte ≡ false → l
 unfolding lines
 lines-other byte bytes other = rw other refl
 
+-- what a text is, and its lines, where its first line ends at a place
+abbrev Parts : List ℕ → ℕ → Type 0
+Parts bytes at =
+    (lines bytes ≡ take at bytes ∷ lines (drop (at + 1) bytes)) × (bytes ≡ take at bytes ++ line_feed ∷ drop (at + 1) bytes)
+
 -- one byte more in front, by whether it ends a line
-before-cons : (byte : ℕ) (bytes : List ℕ) (ended : Bool) → ends_line byte ≡ ended
-    → (before bytes < length bytes → lines bytes ≡ take (before bytes) bytes ∷ lines (drop (before bytes + 1) bytes))
+before-cons : (byte : ℕ) (bytes : List ℕ) (ended : Bool) → ends_line byte ≡ ended → (before bytes < length bytes → Parts bytes (before bytes))
     → let n = cond (not ended) (1 + before bytes) 0 in
-    n < length (byte ∷ bytes) → lines (byte ∷ bytes) ≡ take n (byte ∷ bytes) ∷ lines (drop (n + 1) (byte ∷ bytes))
-before-cons byte bytes true is rest within = lines-line_feed byte bytes is
+    n < length (byte ∷ bytes) → Parts (byte ∷ bytes) n
+before-cons byte bytes true is rest within = (lines-line_feed byte bytes is, ap (λ (b : ℕ). b ∷ bytes) (eqb-true byte 10 is))
 before-cons byte bytes false is rest within =
-    let fewer : before bytes < length bytes = omega arith in
-    rw (lines-other byte bytes is, rest fewer) (simp (one-add, add-one) refl)
-
-lines-before : (bytes : List ℕ) → before bytes < length bytes
-    → lines bytes ≡ take (before bytes) bytes ∷ lines (drop (before bytes + 1) bytes)
-lines-before [] within = absurd (omega arith)
-lines-before (byte ∷ bytes) within = before-cons byte bytes (ends_line byte) refl (lines-before bytes) within
-
--- the first line ends at the first line feed
-pub lines-ended : (bytes : List ℕ) (at : ℕ) → position ends_line bytes ≡ Some at
-    → lines bytes ≡ take at bytes ∷ lines (drop (at + 1) bytes)
-lines-ended bytes at found =
-    let parts = cond_some (nat_lt (before bytes) (length bytes)) (before bytes) at found in
-    let within : before bytes < length bytes = grind (arith, nat_tests, parts.0) in
-    subst (λ (n : ℕ). lines bytes ≡ take n bytes ∷ lines (drop (n + 1) bytes)) parts.1 (lines-before bytes within)
-
-joined-cons : (byte : ℕ) (bytes : List ℕ) (ended : Bool) → ends_line byte ≡ ended
-    → (before bytes < length bytes → bytes ≡ take (before bytes) bytes ++ line_feed ∷ drop (before bytes + 1) bytes)
-    → let n = cond (not ended) (1 + before bytes) 0 in
-    n < length (byte ∷ bytes) → byte ∷ bytes ≡ take n (byte ∷ bytes) ++ line_feed ∷ drop (n + 1) (byte ∷ bytes)
-joined-cons byte bytes true is rest within = ap (λ (b : ℕ). b ∷ bytes) (eqb-true byte 10 is)
-joined-cons byte bytes false is rest within =
     let n = before bytes in
     let fewer : n < length bytes = omega arith in
+    let parts : Parts bytes n = rest fewer in
     let next : n + 1 ≡ suc n = omega arith in
     let here : suc n ≡ 1 + n = omega arith in
     let behind : suc (suc n) ≡ (1 + n) + 1 = omega arith in
-    let tail : bytes ≡ take n bytes ++ line_feed ∷ drop (suc n) bytes = subst (λ (m : ℕ). bytes ≡ take n bytes ++ line_feed ∷ drop m bytes) next (rest fewer) in
-    subst₂ (λ (m k : ℕ). byte ∷ bytes ≡ take m (byte ∷ bytes) ++ line_feed ∷ drop k (byte ∷ bytes)) here behind (ap (λ (l : List ℕ). byte ∷ l) tail)
+    let tail : bytes ≡ take n bytes ++ line_feed ∷ drop (suc n) bytes = subst (λ (m : ℕ). bytes ≡ take n bytes ++ line_feed ∷ drop m bytes) next parts.1 in (
+      rw (lines-other byte bytes is, parts.0) (simp (one-add, add-one) refl),
+      subst₂ (λ (m k : ℕ). byte ∷ bytes ≡ take m (byte ∷ bytes) ++ line_feed ∷ drop k (byte ∷ bytes)) here behind (ap (λ (l : List ℕ). byte ∷ l) tail),
+    )
 
-joined-before : (bytes : List ℕ) → before bytes < length bytes
-    → bytes ≡ take (before bytes) bytes ++ line_feed ∷ drop (before bytes + 1) bytes
-joined-before [] within = absurd (omega arith)
-joined-before (byte ∷ bytes) within = joined-cons byte bytes (ends_line byte) refl (joined-before bytes) within
+lines-before : (bytes : List ℕ) → before bytes < length bytes → Parts bytes (before bytes)
+lines-before [] within = absurd (omega arith)
+lines-before (byte ∷ bytes) within = before-cons byte bytes (ends_line byte) refl (lines-before bytes) within
 
--- what follows the first line stands behind its line feed
-pub joined : (bytes : List ℕ) (at : ℕ) → position ends_line bytes ≡ Some at → bytes ≡ take at bytes ++ line_feed ∷ drop (at + 1) bytes
-joined bytes at found =
+-- the first line ends at the first line feed, and what follows it stands behind that
+pub lines-ended : (bytes : List ℕ) (at : ℕ) → position ends_line bytes ≡ Some at → Parts bytes at
+lines-ended bytes at found =
     let parts = cond_some (nat_lt (before bytes) (length bytes)) (before bytes) at found in
     let within : before bytes < length bytes = grind (arith, nat_tests, parts.0) in
-    subst (λ (n : ℕ). bytes ≡ take n bytes ++ line_feed ∷ drop (n + 1) bytes) parts.1 (joined-before bytes within)
+    subst (Parts bytes) parts.1 (lines-before bytes within)
 
 -- where no line feed stands, the first byte is none
 not_ended : (byte : ℕ) (bytes : List ℕ) (ended : Bool) → ends_line byte ≡ ended
