@@ -113,11 +113,7 @@ recorded_in side s first end given all old got made first_is given_is old_is =
     ap (λ (r : RefusedState). r.portfolios)
     (made.notes ∙ (λ t. noted recording (old_is t) (first_is t) (turns (given_is t))) ∙ recorded (record { side = side; portfolios = [] }) s (turns all))
 
--- what holds anyway holds of an error, and what follows from what holds of it
+-- what holds anyway holds of an error
 pub on_err : {T E : Type 0} {P : Type 0} (r : Result T E) → P → OnErr r P
 on_err (Ok x) p = tt
 on_err (Err e) p = p
-
-pub on_err-as : {T E : Type 0} {P Q : Type 0} (r : Result T E) → (P → Q) → OnErr r P → OnErr r Q
-on_err-as (Ok x) q p = tt
-on_err-as (Err e) q p = q p

@@ -25,7 +25,6 @@ impl Model for Link {
     ghost view = { λ l. record { carrier = l.carrier; plan = l.plan } };
 }
 
-/// A plan of these moves, which are those of one.
 fn plan_of(alloc: Global, plan: &[Move]) -> Result<Plan, AllocError>
     requires { IsPlan plan.now }
     ensures { IfOk result (λ copy. copy ≡ plan.now) }
@@ -35,7 +34,6 @@ fn plan_of(alloc: Global, plan: &[Move]) -> Result<Plan, AllocError>
 }
 
 impl Link {
-    /// Nothing is on the way, and every message is to pass.
     pub(crate) fn new(alloc: Global) -> Result<Link, AllocError>
         ensures { IfOk result (λ link. link ≡ new_link) }
     {
@@ -46,7 +44,6 @@ impl Link {
         })
     }
 
-    /// What comes is to come by this plan; the carrier's position stays.
     pub(crate) fn set(&mut self, plan: &Plan) -> Result<(), AllocError>
         ensures next { OnOk result (self.new ≡ record { carrier = self.old.carrier; plan = plan.now }) }
         ensures kept { OnErr result (self.new ≡ self.old) }
@@ -75,7 +72,6 @@ impl Link {
         }
     }
 
-    /// The packets for the peer come to them, in order. Where memory runs out only those before come.
     pub(crate) fn send_packets(&mut self, packets: Vec<Packet>) -> Result<(), AllocError>
         ensures sent { OnOk result (self.new ≡ with_packets self.old packets.items) }
         ensures came { WaitedOrCame self.old packets.items self.new }
@@ -86,7 +82,6 @@ impl Link {
         Ok(())
     }
 
-    /// What the carrier's next move gives. Where memory runs out nothing is changed.
     pub(crate) fn next(&mut self) -> Result<Option<Vec<u8>>, AllocError>
         ensures given { IfOk result (λ message. option_map bytes_of message ≡ given self.old.plan self.old.carrier) }
         ensures next { OnOk result (self.new ≡ moved_on self.old) }

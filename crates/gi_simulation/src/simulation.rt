@@ -108,8 +108,6 @@ impl Simulation {
         &self.world
     }
 
-    /// In every simulation a quantity that is confirmed or told is the lower of the two frozen ones,
-    /// only what the other side let out is on its way to a side, and it is delivered.
     pub(crate) fn known(&self)
         ensures { IsSound self.now × AllIsDelivered self.now }
     {
@@ -137,7 +135,6 @@ impl Simulation {
         }
     }
 
-    /// The packets for the peer, which is this side, go on the way to it.
     fn send(&mut self, side: Side, packets: Vec<Packet>) -> Result<(), AllocError>
         requires { WereLetOut (other side) self.now.world packets.items }
         ensures next { OnOk result (self.new ≡ with_link side (with_packets (link_to side self.old) packets.items) self.old) }
@@ -180,8 +177,6 @@ impl Simulation {
         )
     }
 
-    /// The step that an instruction makes, where it makes one. A plan is set, and a carrier makes
-    /// its move.
     fn prepare(&mut self, instruction: &Instruction) -> Result<Option<Step>, AllocError>
         ensures step { IfOk result (λ step. step ≡ step_of self.old instruction.now) }
         ensures next { OnOk result (self.new ≡ prepared self.old instruction.now) }
@@ -209,8 +204,6 @@ impl Simulation {
         })
     }
 
-    /// Makes a step; what it lets out for the peer goes on the way there. Where memory runs out the
-    /// world is as it was or has made the step.
     fn step(&mut self, step: &Step) -> Result<Outcome, AllocError>
         ensures outcome { IfOk result (λ outcome. outcome ≡ shown (world_outcome self.old.world step.now)) }
         ensures next { OnOk result (self.new ≡ after_step self.old step.now) }

@@ -23,7 +23,6 @@ impl Model for Text {
     ghost view = { λ t. string_bytes t.text };
 }
 
-/// The side at which an instruction is made; a plan is of the carrier towards it.
 fn side_of(instruction: &Instruction) -> Side
     ensures { result ≡ side_of_instruction instruction.now }
 {
@@ -46,7 +45,6 @@ fn step_line(alloc: Global, line: &Line, outcome: Outcome) -> Result<String, All
 }
 
 impl Text {
-    /// No step is made.
     pub(crate) fn new(alloc: Global) -> Text
         ensures { result ≡ [] }
     {
@@ -56,7 +54,6 @@ impl Text {
         }
     }
 
-    /// The text.
     pub(crate) fn into_string(self) -> String
         ensures { string_bytes result ≡ self }
     {

@@ -1,6 +1,7 @@
 use Rattle.std.proofs.Common.{inr, ap, refl}
+use Rattle.std.proofs.lemmas.Result.{on_err_weaker}
 use Rattle.gi_simulation.specs.Simulation.{SimulationState}
-use Rattle.gi_simulation.proofs.RunLaws.{cut-one, on_err, on_err-as}
+use Rattle.gi_simulation.proofs.RunLaws.{cut-one, on_err}
 use Rattle.gi_simulation.proofs.run.make_once.Goals as goal
 
 pub returns-in_err-outcome-clause-cut : goal.returns-in_err-outcome-clause-cut
@@ -10,6 +11,6 @@ returns-in_err-outcome-clause-cut g c =
 
 pub returns-clause-cut : goal.returns-clause-cut
 returns-clause-cut g c =
-    on_err-as c.note.result
+    on_err_weaker c.note.result
     (λ same. cut-one g.N.Notes.noting c.args.simulation.now c.make.new.self c.args.line.now c.args.notes.now c.note.new.self same
     (inr (ap (λ (s : SimulationState). s.world) c.in_ok-outcome.ensures.next))) c.note.ensures.kept
