@@ -12,13 +12,6 @@ abbrev pub later : ℕ → Option ℕ → Option ℕ
 later n None = None
 later n (Some place) = Some (place + n)
 
-later_one : (n : ℕ) (o : Option ℕ) → later n (one_later o) ≡ later (n + 1) o
-later_one n None = refl
-later_one n (Some place) = ap Some (omega arith)
-
-same_step : (n : ℕ) (x y : Row) (xs ys : List Row) → row_eq x y ≡ true → later n (difference (x ∷ xs) (y ∷ ys)) ≡ later (n + 1) (difference xs ys)
-same_step n x y xs ys same = rw same (later_one n (difference xs ys))
-
 differs : (n : ℕ) (x y : Row) (xs ys : List Row) → row_eq x y ≡ false → later n (difference (x ∷ xs) (y ∷ ys)) ≡ Some (n + 1)
 differs n x y xs ys other = rw other (ap Some (omega arith))
 

@@ -22,7 +22,6 @@ fn sent(alloc: Global, message: Option<Message>) -> Result<Vec<Packet>, AllocErr
     Ok(packets)
 }
 
-/// What the taking of a nomination lets out: its acknowledgement, to the portfolio.
 pub(crate) fn on_taking(alloc: Global, document: &Nomint) -> Result<Vec<Packet>, AllocError>
     ensures { IfOk result (λ packets. packets.items ≡ to_user document.now.portfolio (messages.Acknow (acknow_of document.now)) ∷ []) }
 {

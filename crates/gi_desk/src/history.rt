@@ -148,7 +148,6 @@ fn record(contracts: &mut Contracts, calendar: &Calendar, fact: &Fact) -> Result
     }
 }
 
-/// The contracts and the notices that legal facts record.
 pub(crate) fn contracts_at(
     alloc: Global,
     calendar: &Calendar,
@@ -175,7 +174,6 @@ fn take(book: &mut Book, fact: &Fact) -> Result<(), AllocError>
     }
 }
 
-/// The book of the nominations that legal facts take.
 pub(crate) fn book_at(alloc: Global, point: Code, facts: &[Fact]) -> Result<Book, AllocError>
     requires legal { (side : Side) × (bad_fact side point facts.now ≡ None) }
     ensures { IfOk result (λ book. book ≡ record { point = point; documents = documents_of facts.now }) }

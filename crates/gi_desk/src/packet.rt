@@ -71,7 +71,6 @@ pub struct Packet {
 }
 
 impl Packet {
-    /// The packet that carries the message.
     pub(crate) fn of(alloc: Global, to: Recipient, message: &Message) -> Result<Packet, AllocError>
         ensures { IfOk result (λ packet. packet ≡ record { to = to; body = text_of message.now }) }
     {

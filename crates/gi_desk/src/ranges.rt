@@ -12,7 +12,6 @@ use gi_facts::Fact;
 use gi_messages::Line;
 use gi_processing::Contract;
 
-/// Every contract has a code, a gas day and quantities in range.
 fn contract_known(contract: &Contract)
     ensures { FitsContract contract.now }
 {
@@ -22,7 +21,6 @@ fn contract_known(contract: &Contract)
     contract.interruptible.known();
 }
 
-/// Every line has a code and quantities in range.
 fn lines_known(lines: &[Line])
     ensures { All FitsLine lines.now }
 {
@@ -32,7 +30,6 @@ fn lines_known(lines: &[Line])
     }
 }
 
-/// Every fact that a desk would record can be written.
 pub(crate) fn fact_known(fact: &Fact)
     requires { (side : Side) × (point : List ℕ) × (before : List Fact) × FitsDesk side point before × (would_record side point before fact.now ≡ true) }
     ensures { FitsFact fact.now }

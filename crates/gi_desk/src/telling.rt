@@ -105,7 +105,6 @@ pub(crate) fn packets_for(
     Ok(packets)
 }
 
-/// Puts the code before the first that is not below it, unless it stands there.
 fn insert(codes: &mut Vec<Code>, code: Code) -> Result<(), AllocError>
     ensures { OnOk result (codes.new.items ≡ with_code code codes.old.items) }
 {
@@ -127,7 +126,6 @@ fn portfolios_in(alloc: Global, side: Side, rows: &[Row]) -> Result<Vec<Code>, A
     Ok(codes)
 }
 
-/// The packets that tell each portfolio its confirmed rows.
 #[tactic(auto, unfolding(crate::specs::Messages::told_packets))]
 pub(crate) fn told_packets(
     alloc: Global,

@@ -29,14 +29,12 @@ use gi_processing::Contracts;
 use std::alloc::AllocError;
 
 impl<R: Role> Desk<R> {
-    /// The contracts and the notices recorded.
     pub(super) fn contracts(&self) -> Result<Contracts, AllocError>
         ensures { IfOk result (λ contracts. contracts ≡ capacity_of self.now.facts) }
     {
         contracts_at(self.alloc, &self.calendar, &self.facts)
     }
 
-    /// The book of the nominations taken.
     pub(super) fn book(&self) -> Result<Book, AllocError>
         ensures { IfOk result (λ book. book ≡ record { point = self.now.point; documents = documents_of self.now.facts }) }
     {
@@ -111,7 +109,6 @@ impl<R: Role> Desk<R> {
         }
     }
 
-    /// What it comes to: the first refusal whose condition holds, else what is accepted.
     pub(super) fn outcome(&self, call: &Call) -> Result<Outcome, AllocError>
         ensures value { IfOk result (λ outcome. outcome ≡ outcome_of R.SIDE self.now call.now) }
         ensures short { IfErr result (λ _. IsTrue (may_want R.SIDE self.now call.now)) }
@@ -122,7 +119,6 @@ impl<R: Role> Desk<R> {
         Ok(unless_full(&self.facts, self.comes_to(call)?))
     }
 
-    /// Whether some call would record the fact, were there room for it.
     pub(super) fn would_record(&self, fact: &Fact) -> Result<bool, AllocError>
         ensures { IfOk result (λ would. would ≡ would_record_of R.SIDE self.now.point self.now.facts fact.now) }
     {

@@ -57,7 +57,6 @@ impl<R: Role> Desk<R> {
         Ok(packets)
     }
 
-    /// What fact number `n` lets out to the peer.
     pub(super) fn for_peer(&self, n: u32) -> Result<Vec<Packet>, AllocError>
         requires from { 1 ≤ n }
         requires to { n ≤ length self.now.facts }
@@ -70,7 +69,6 @@ impl<R: Role> Desk<R> {
         }
     }
 
-    /// What fact number `n` lets out.
     pub(super) fn let_out(&self, n: u32) -> Result<Vec<Packet>, AllocError>
         requires from { 1 ≤ n }
         requires to { n ≤ length self.now.facts }
@@ -113,7 +111,6 @@ impl<R: Role> Desk<R> {
         Ok(packets)
     }
 
-    /// What a call lets out that comes to this.
     pub(super) fn out(&self, outcome: &Outcome) -> Result<Vec<Packet>, AllocError>
         requires { CanFollow R.SIDE self.now outcome.now }
         ensures value { IfOk result (λ packets. packets.items ≡ out_of R.SIDE self.now outcome.now) }

@@ -22,7 +22,6 @@ use gi_processing::processed;
 use std::alloc::AllocError;
 
 impl<R: Role> Desk<R> {
-    /// What is processed of the nominations in force, for a cycle of its gas day.
     fn processed(&self, id: &CycleId) -> Result<Table, AllocError>
         requires { IsCycle id.now.day id.now.cycle }
         ensures value { IfOk result (λ table. table ≡ processed_of (capacity_of self.now.facts) (documents_of self.now.facts) R.SIDE id.now.day id.now.cycle) }
@@ -94,7 +93,6 @@ impl<R: Role> Desk<R> {
         }
     }
 
-    /// Records a fact, which some call would record.
     pub(super) fn record(&mut self, fact: Fact) -> Result<(), AllocError>
         requires recorded { would_record R.SIDE self.now.point self.now.facts fact ≡ true }
         requires room { length self.now.facts < most_facts }
