@@ -1,6 +1,6 @@
 //! One desk of either side: what it answers to calls, and what it tells.
 
-pub mod calls;
+mod calls;
 mod facts;
 mod queries;
 mod steps;

@@ -6,7 +6,6 @@ mod deciding;
 mod sending;
 mod tables;
 
-use crate::desks::calls::cycle_of;
 use comparing::compared;
 use deciding::decided;
 use gi_calls::{Fault, Subject, Words};
@@ -46,7 +45,7 @@ impl Roles {
     /// The cycle collects nominations.
     fn collect(&mut self, words: Words<'_>, text: &mut String) -> Result<bool, Fault> {
         let mut words = words;
-        let Some(id) = cycle_of(&mut words) else {
+        let Some(id) = words.cycle() else {
             return Ok(false);
         };
         self.state = Some(CycleState::Collecting(Collecting::new(id)));

@@ -3,20 +3,12 @@
 use super::facts::fact_of;
 use gi_calls::Words;
 use gi_desk::{Body, Call, Desk, Role};
-use gi_pairs::{Code, CycleId};
+use gi_pairs::Code;
 use gi_processing::{Contract, Notice};
 use std::alloc::{AllocError, Global};
 
-/// The next words as a cycle.
-pub fn cycle_of(words: &mut Words<'_>) -> Option<CycleId> {
-    Some(CycleId {
-        day: words.day()?,
-        cycle: words.byte()?,
-    })
-}
-
 /// The words behind a portfolio as its contract.
-pub fn contract_of(portfolio: Code, words: Words<'_>) -> Option<Contract> {
+pub(crate) fn contract_of(portfolio: Code, words: Words<'_>) -> Option<Contract> {
     let mut words = words;
     Some(Contract {
         portfolio,
@@ -82,7 +74,7 @@ fn mark(alloc: Global, words: Words<'_>) -> Option<Call> {
 }
 
 /// The call that the line makes of the desk.
-pub fn call_of<R: Role>(
+pub(crate) fn call_of<R: Role>(
     alloc: Global,
     desk: &Desk<R>,
     line: &str,
@@ -92,9 +84,9 @@ pub fn call_of<R: Role>(
         "contract" => contract(words),
         "notice" => notice(words),
         "submit" => Some(Call::Submit(body(alloc, words.rest())?)),
-        "close" => cycle_of(&mut words).map(|id| Call::Close(id)),
+        "close" => words.cycle().map(|id| Call::Close(id)),
         "deliver" => Some(Call::Deliver(body(alloc, words.rest())?)),
-        "resend" => cycle_of(&mut words).map(|id| Call::Resend(id)),
+        "resend" => words.cycle().map(|id| Call::Resend(id)),
         "save" => save(desk)?,
         "mark" => mark(alloc, words),
         "halt" => Some(Call::Halt),

@@ -4,7 +4,7 @@ use gi_desk::{Fact, decode_fact};
 use std::alloc::{AllocError, Global};
 
 /// The fact that the text is.
-pub fn fact_of(alloc: Global, text: &str) -> Option<Fact> {
+pub(crate) fn fact_of(alloc: Global, text: &str) -> Option<Fact> {
     decode_fact(alloc, text.as_bytes()).ok()
 }
 
@@ -30,7 +30,11 @@ fn add(facts: &mut Vec<Fact>, fact: &Fact, times: u32) -> Result<(), AllocError>
 }
 
 /// The given facts that the words number.
-pub fn chosen(alloc: Global, given: &[Fact], words: &str) -> Result<Option<Vec<Fact>>, AllocError> {
+pub(crate) fn chosen(
+    alloc: Global,
+    given: &[Fact],
+    words: &str,
+) -> Result<Option<Vec<Fact>>, AllocError> {
     let mut facts = Vec::new(alloc);
     for word in words.split_whitespace() {
         let Some((number, times)) = number_and_times(word) else {

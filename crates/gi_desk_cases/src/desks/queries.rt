@@ -1,23 +1,18 @@
 //! What a desk tells without a step.
 
-use super::calls::cycle_of;
 use super::texts::{add_bytes, add_message, add_packet, add_table};
 use gi_calls::{Fault, Words};
 use gi_desk::{Desk, Fact, Role, encode_fact};
 use gi_messages::Message;
-use gi_pairs::{Pair, Table};
+use gi_pairs::Table;
 use std::alloc::Global;
 use std::fmt::Write;
 
 /// The quantity of a table, as the words say: the pair, the direction and the hour.
 fn reading(table: &Table, words: Words<'_>) -> Option<u64> {
     let mut words = words;
-    let pair = Pair {
-        initiating: words.code()?,
-        matching: words.code()?,
-    };
-    let direction = words.direction()?;
-    Some(table.at(pair, direction, words.byte()?))
+    let key = words.key()?;
+    Some(table.at(key.pair, key.direction, words.byte()?))
 }
 
 /// Adds a table, or where the words ask for it, what it has in an hour.
@@ -37,7 +32,7 @@ fn add_reading(table: &Table, words: Words<'_>, text: &mut String) -> Result<boo
 /// What is confirmed of a cycle.
 fn confirmed<R: Role>(desk: &Desk<R>, words: Words<'_>, text: &mut String) -> Result<bool, Fault> {
     let mut words = words;
-    let Some(id) = cycle_of(&mut words) else {
+    let Some(id) = words.cycle() else {
         return Ok(false);
     };
     match desk.confirmed(id) {
@@ -52,7 +47,7 @@ fn confirmed<R: Role>(desk: &Desk<R>, words: Words<'_>, text: &mut String) -> Re
 /// How far a cycle is.
 fn state<R: Role>(desk: &Desk<R>, words: Words<'_>, text: &mut String) -> Result<bool, Fault> {
     let mut words = words;
-    let Some(id) = cycle_of(&mut words) else {
+    let Some(id) = words.cycle() else {
         return Ok(false);
     };
     write!(text, "{:?}", desk.state(id))?;
@@ -67,7 +62,7 @@ fn portfolio_told<R: Role>(
     text: &mut String,
 ) -> Result<bool, Fault> {
     let mut words = words;
-    let (Some(portfolio), Some(id)) = (words.code(), cycle_of(&mut words)) else {
+    let (Some(portfolio), Some(id)) = (words.code(), words.cycle()) else {
         return Ok(false);
     };
     let message = desk.told(portfolio, id)?;
@@ -107,6 +102,15 @@ fn outgoing<R: Role>(desk: &Desk<R>, first: u32, text: &mut String) -> Result<()
     Ok(())
 }
 
+/// Copies of those packets, a line each.
+fn copies<R: Role>(desk: &Desk<R>, first: u32, text: &mut String) -> Result<(), Fault> {
+    for packet in desk.outgoing(first)?.as_slice() {
+        let copy = packet.copy()?;
+        add_packet(copy.to, copy.body.as_slice(), text)?;
+    }
+    Ok(())
+}
+
 /// How many hours the desk's calendar gives a gas day.
 fn hours<R: Role>(desk: &Desk<R>, words: Words<'_>, text: &mut String) -> Result<bool, Fault> {
     let mut words = words;
@@ -132,6 +136,7 @@ fn told_of<R: Role>(
         "fact" => add_fact(alloc, desk.fact(number), text)?,
         "acknowledged" => write!(text, "{}", desk.acknowledged(number))?,
         "outgoing" => outgoing(desk, number, text)?,
+        "copy_packets" => copies(desk, number, text)?,
         _ => return Ok(false),
     }
     Ok(true)
@@ -162,7 +167,7 @@ fn told_alone<R: Role>(
 }
 
 /// What the line asks, and what the desk tells.
-pub fn told<R: Role>(
+pub(crate) fn told<R: Role>(
     alloc: Global,
     desk: &Desk<R>,
     line: &str,

@@ -64,7 +64,7 @@ fn contracts<R: Role>(
 }
 
 /// Makes the call of the line, if it is one that changes the desk, or foresees it.
-pub fn stepped<R: Role>(
+pub(crate) fn stepped<R: Role>(
     alloc: Global,
     desk: &mut Desk<R>,
     line: &str,

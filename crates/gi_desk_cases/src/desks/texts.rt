@@ -8,7 +8,7 @@ use std::alloc::Global;
 use std::fmt::Write;
 
 /// Adds the bytes of a text.
-pub fn add_bytes(bytes: &[u8], text: &mut String) -> Result<(), Fault> {
+pub(crate) fn add_bytes(bytes: &[u8], text: &mut String) -> Result<(), Fault> {
     match std::str::from_utf8(bytes) {
         Ok(bytes) => text.push_str(bytes)?,
         Err(_) => text.push_str("not text")?,
@@ -31,7 +31,7 @@ fn add_answer(answer: Answer, text: &mut String) -> Result<(), Fault> {
 }
 
 /// Adds a line for a packet: `-> peer`, or the portfolio, and its bytes.
-pub fn add_packet(to: Recipient, body: &[u8], text: &mut String) -> Result<(), Fault> {
+pub(crate) fn add_packet(to: Recipient, body: &[u8], text: &mut String) -> Result<(), Fault> {
     match to {
         Recipient::Peer => text.push_str("-> peer ")?,
         Recipient::User(portfolio) => write!(text, "-> {portfolio} ")?,
@@ -42,7 +42,7 @@ pub fn add_packet(to: Recipient, body: &[u8], text: &mut String) -> Result<(), F
 }
 
 /// Adds a reply: its answer, and a line for each packet.
-pub fn add_reply(reply: &Reply, text: &mut String) -> Result<(), Fault> {
+pub(crate) fn add_reply(reply: &Reply, text: &mut String) -> Result<(), Fault> {
     add_answer(reply.answer, text)?;
     for packet in reply.out.as_slice() {
         add_packet(packet.to, packet.body.as_slice(), text)?;
@@ -51,7 +51,7 @@ pub fn add_reply(reply: &Reply, text: &mut String) -> Result<(), Fault> {
 }
 
 /// Adds a message as it is written, or that there is none.
-pub fn add_message(
+pub(crate) fn add_message(
     alloc: Global,
     message: Option<Message>,
     text: &mut String,
@@ -81,7 +81,7 @@ fn add_row(row: &Row, text: &mut String) -> Result<(), Fault> {
 }
 
 /// Adds a table: its first and last hour, and a line for each row.
-pub fn add_table(table: &Table, text: &mut String) -> Result<(), Fault> {
+pub(crate) fn add_table(table: &Table, text: &mut String) -> Result<(), Fault> {
     write!(text, "hours {} {}\n", table.first(), table.last())?;
     for row in table.rows() {
         add_row(row, text)?;

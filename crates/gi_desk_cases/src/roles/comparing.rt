@@ -8,7 +8,7 @@ use std::alloc::Global;
 use std::fmt::Write;
 
 /// Adds how the two tables of the line compare, by the function of that name.
-pub fn compared(alloc: Global, line: &str, text: &mut String) -> Result<bool, Fault> {
+pub(crate) fn compared(alloc: Global, line: &str, text: &mut String) -> Result<bool, Fault> {
     let mut words = Words::of(line);
     let function = words.next();
     let Some((one, other)) = two_tables(alloc, words.rest(), " and ")? else {

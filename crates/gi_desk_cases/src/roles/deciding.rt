@@ -13,7 +13,7 @@ use std::alloc::{AllocError, Global};
 use std::fmt::Write;
 
 /// Adds a decision: the table that is met, or the refusal.
-pub fn add_decision(decision: &Decision, text: &mut String) -> Result<(), Fault> {
+pub(crate) fn add_decision(decision: &Decision, text: &mut String) -> Result<(), Fault> {
     match decision {
         Decision::Meet(peer) => {
             text.push_str("Meet\n")?;
@@ -117,7 +117,7 @@ fn decide(
 }
 
 /// Adds what the line's call decides in that state.
-pub fn decided(
+pub(crate) fn decided(
     alloc: Global,
     state: &CycleState,
     line: &str,

@@ -81,7 +81,7 @@ fn response(state: &CycleState, words: Words<'_>) -> Result<Option<Option<Messag
 }
 
 /// Adds what the line's call sends in that state.
-pub fn sent(
+pub(crate) fn sent(
     alloc: Global,
     state: &CycleState,
     line: &str,

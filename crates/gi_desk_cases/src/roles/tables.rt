@@ -147,7 +147,7 @@ fn table_of_words(alloc: Global, words: &[&str]) -> Result<Option<Table>, AllocE
 }
 
 /// The table of a line.
-pub fn table_of(alloc: Global, line: &str) -> Result<Option<Table>, AllocError> {
+pub(crate) fn table_of(alloc: Global, line: &str) -> Result<Option<Table>, AllocError> {
     let mut words = Vec::new(alloc);
     for word in line.split_whitespace() {
         words.push(word)?;
@@ -156,7 +156,7 @@ pub fn table_of(alloc: Global, line: &str) -> Result<Option<Table>, AllocError> 
 }
 
 /// The two tables of a line, with a word between them.
-pub fn two_tables(
+pub(crate) fn two_tables(
     alloc: Global,
     line: &str,
     between: &str,
