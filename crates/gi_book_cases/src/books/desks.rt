@@ -3,18 +3,18 @@
 use gi_calls::{Fault, Words};
 use gi_desk::{Answer, Body, Call, Desk};
 use gi_initiator::Initiating;
-use gi_pairs::{CycleId, Direction, Pair};
+use gi_pairs::{CycleId, Key};
 use gi_processing::Contract;
 use std::alloc::{AllocError, Global};
 
 /// How many facts a desk has, and how many of them are saved.
-pub fn counts(alloc: Global, desk: &Desk<Initiating>) -> Result<String, AllocError> {
+pub(crate) fn counts(alloc: Global, desk: &Desk<Initiating>) -> Result<String, AllocError> {
     let (facts, saved) = (desk.len(), desk.saved());
     format!(in alloc; "facts {facts} saved {saved}")
 }
 
 /// A desk's answer.
-pub fn answer_text(alloc: Global, answer: Answer) -> Result<String, AllocError> {
+pub(crate) fn answer_text(alloc: Global, answer: Answer) -> Result<String, AllocError> {
     match answer {
         Answer::Recorded { n } => format!(in alloc; "recorded {n}"),
         Answer::Repeat { n } => format!(in alloc; "repeat {n}"),
@@ -23,13 +23,6 @@ pub fn answer_text(alloc: Global, answer: Answer) -> Result<String, AllocError> 
         Answer::Stopped => "stopped".to_string(alloc),
         Answer::Refused(refusal) => format!(in alloc; "refused {refusal}"),
     }
-}
-
-/// The next two words as a cycle of a day.
-fn cycle_of(words: &mut Words<'_>) -> Option<CycleId> {
-    let day = words.day()?;
-    let cycle = words.byte()?;
-    Some(CycleId { day, cycle })
 }
 
 /// The next words as a contract: its portfolio, day, direction, and firm and interruptible quantity.
@@ -59,24 +52,18 @@ fn step_of(alloc: Global, line: &str) -> Result<Option<Call>, AllocError> {
     Ok(match words.next() {
         "contract" => contract_of(&mut words).map(Call::Contract),
         "submit" => Some(Call::Submit(body_of(alloc, words.rest())?)),
-        "close" => cycle_of(&mut words).map(Call::Close),
+        "close" => words.cycle().map(Call::Close),
         "deliver" => Some(Call::Deliver(body_of(alloc, words.rest())?)),
         _ => None,
     })
 }
 
-/// The next words as the place of a quantity: a cycle, a pair, a direction and an hour.
-fn place_of(words: &mut Words<'_>) -> Option<(CycleId, Pair, Direction, u8)> {
-    let id = cycle_of(words)?;
-    let initiating = words.code()?;
-    let matching = words.code()?;
-    let pair = Pair {
-        initiating,
-        matching,
-    };
-    let direction = words.direction()?;
+/// The next words as the place of a quantity: a cycle, a key and an hour.
+fn place_of(words: &mut Words<'_>) -> Option<(CycleId, Key, u8)> {
+    let id = words.cycle()?;
+    let key = words.key()?;
     let hour = words.byte()?;
-    Some((id, pair, direction, hour))
+    Some((id, key, hour))
 }
 
 /// What is confirmed in a place, where its cycle is.
@@ -85,12 +72,12 @@ fn confirmed_text(
     desk: &Desk<Initiating>,
     words: &mut Words<'_>,
 ) -> Result<Option<String>, AllocError> {
-    let Some((id, pair, direction, hour)) = place_of(words) else {
+    let Some((id, key, hour)) = place_of(words) else {
         return Ok(None);
     };
     Ok(Some(match desk.confirmed(id) {
         Some(table) => {
-            let quantity = table.at(pair, direction, hour);
+            let quantity = table.at(key.pair, key.direction, hour);
             format!(in alloc; "{quantity}")?
         }
         None => "none".to_string(alloc)?,
@@ -98,7 +85,7 @@ fn confirmed_text(
 }
 
 /// What a call on the desk answers. `None` where it is no call.
-pub fn called(
+pub(crate) fn called(
     alloc: Global,
     desk: &mut Desk<Initiating>,
     line: &str,

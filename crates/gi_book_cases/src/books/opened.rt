@@ -67,7 +67,7 @@ fn known(alloc: Global, number: Option<u32>) -> Result<String, AllocError> {
 
 impl<S: Alter + Drop> Opened<S> {
     /// A database that is no book so far.
-    pub fn over(connection: Connection<S>) -> Opened<S> {
+    pub(crate) fn over(connection: Connection<S>) -> Opened<S> {
         Opened {
             connection: Some(connection),
             book: None,
@@ -220,7 +220,12 @@ impl<S: Alter> Opened<S> {
 
 impl<S: Alter + Drop> Opened<S> {
     /// Makes a call, and adds its answer. `false` where it is none.
-    pub fn answer(&mut self, alloc: Global, call: &str, text: &mut String) -> Result<bool, Fault> {
+    pub(crate) fn answer(
+        &mut self,
+        alloc: Global,
+        call: &str,
+        text: &mut String,
+    ) -> Result<bool, Fault> {
         let mut words = Words::of(call);
         let answer = match words.next() {
             "sql" => self.execute(alloc, words.rest())?,

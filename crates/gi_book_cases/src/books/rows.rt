@@ -14,7 +14,7 @@ fn value_text(alloc: Global, value: ValueRef<'_>) -> Result<String, AllocError> 
 }
 
 /// The values of a row, with one space between them.
-pub fn row_text(alloc: Global, row: &Row) -> Result<String, Fault> {
+pub(crate) fn row_text(alloc: Global, row: &Row) -> Result<String, Fault> {
     let mut text = String::new(alloc);
     for at in 0..row.column_count() {
         if at > 0 {
