@@ -5,7 +5,7 @@ use std::alloc::AllocError;
 use std::fmt::Write;
 
 /// Adds quantities in kWh/h, each behind a space; `10x24` stands for 24 times 10.
-pub fn add_hours(hours: &[Quantity], text: &mut String) -> Result<(), AllocError> {
+pub(crate) fn add_hours(hours: &[Quantity], text: &mut String) -> Result<(), AllocError> {
     for run in hours.chunk_by(|one, next| one == next) {
         if let Some(quantity) = run.first() {
             let quantity = quantity.value();
@@ -19,7 +19,7 @@ pub fn add_hours(hours: &[Quantity], text: &mut String) -> Result<(), AllocError
 }
 
 /// Adds a table: the hours that it covers, and then a line for each row.
-pub fn add_table(table: &Table, text: &mut String) -> Result<(), AllocError> {
+pub(crate) fn add_table(table: &Table, text: &mut String) -> Result<(), AllocError> {
     write!(text, "hours {} {}", table.first(), table.last())?;
     for row in table.rows() {
         let pair = row.pair;

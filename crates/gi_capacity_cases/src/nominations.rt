@@ -10,6 +10,7 @@ use gi_calls::{Fault, Subject, Words};
 use gi_day::Calendar;
 use gi_messages::Nomint;
 use gi_nominations::{Book, MOST_LINES, Setting, Verdict};
+use gi_pairs::Code;
 use std::alloc::{AllocError, Global};
 use std::fmt::Write;
 
@@ -85,7 +86,7 @@ fn take(book: &mut Book, offer: Offer) -> Result<Verdict, AllocError> {
 }
 
 /// Adds a verdict.
-pub fn add_verdict(verdict: Verdict, text: &mut String) -> Result<(), AllocError> {
+pub(crate) fn add_verdict(verdict: Verdict, text: &mut String) -> Result<(), AllocError> {
     match verdict {
         Verdict::Refused(fault) => write!(text, "{fault}"),
         other => write!(text, "{other:?}"),
@@ -108,15 +109,7 @@ impl Nominations {
     }
 
     /// Begins a book.
-    fn begin(
-        &mut self,
-        alloc: Global,
-        mut words: Words<'_>,
-        text: &mut String,
-    ) -> Result<bool, Fault> {
-        let Some(point) = words.code() else {
-            return Ok(false);
-        };
+    fn begin(&mut self, alloc: Global, point: Code, text: &mut String) -> Result<bool, Fault> {
         self.book = Some(Book::new(alloc, point));
         text.push_str("ok")?;
         Ok(true)
@@ -162,7 +155,10 @@ impl Subject for Nominations {
         let alloc = rt.alloc();
         let mut words = Words::of(call);
         match words.next() {
-            "new" => self.begin(alloc, words, text),
+            "new" => match words.code() {
+                Some(point) => self.begin(alloc, point, text),
+                None => Ok(false),
+            },
             "judge" => self.judge(alloc, words, text),
             "take" => self.take(alloc, words, text),
             "in_force" => self.in_force(words, text),

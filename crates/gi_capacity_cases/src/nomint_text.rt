@@ -98,7 +98,7 @@ fn with_quantities(alloc: Global, text: &str) -> Result<String, AllocError> {
 }
 
 /// The nomination that the text is.
-pub fn nomint(alloc: Global, text: &str) -> Result<Option<Nomint>, Fault> {
+pub(crate) fn nomint(alloc: Global, text: &str) -> Result<Option<Nomint>, Fault> {
     let lines = with_lines(alloc, text)?;
     let full = with_quantities(alloc, lines.as_str())?;
     match decode(alloc, full.as_bytes()) {

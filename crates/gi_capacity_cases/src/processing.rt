@@ -8,7 +8,7 @@ mod running_sums;
 
 use crate::hours_text::add_table;
 use gi_calls::{Fault, Subject, Words};
-use gi_pairs::Table;
+use gi_pairs::{Code, Table};
 use gi_processing::{ContractFault, MOST_PERMILLE, MOST_PORTFOLIOS, NoticeFault};
 use reading::notice;
 use recorded::answer_recorded;
@@ -85,15 +85,7 @@ impl Processing {
     }
 
     /// Begins a side.
-    fn begin(
-        &mut self,
-        alloc: Global,
-        mut words: Words<'_>,
-        text: &mut String,
-    ) -> Result<bool, Fault> {
-        let Some(point) = words.code() else {
-            return Ok(false);
-        };
+    fn begin(&mut self, alloc: Global, point: Code, text: &mut String) -> Result<bool, Fault> {
         self.records = Some(Records::new(alloc, point));
         self.table = None;
         text.push_str("ok")?;
@@ -140,7 +132,10 @@ impl Subject for Processing {
         let mut words = Words::of(call);
         let name = words.next();
         match name {
-            "new" => return self.begin(alloc, words, text),
+            "new" => match words.code() {
+                Some(point) => return self.begin(alloc, point, text),
+                None => return Ok(false),
+            },
             "processed" => return self.process(alloc, words, true, text),
             "row_count" => return self.process(alloc, words, false, text),
             "at" => return self.at(words, text),

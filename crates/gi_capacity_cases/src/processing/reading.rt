@@ -4,7 +4,7 @@ use gi_calls::Words;
 use gi_processing::{Contract, Notice};
 
 /// `PORTFOLIO DAY DIRECTION FIRM INTERRUPTIBLE`.
-pub fn contract(mut words: Words<'_>) -> Option<Contract> {
+pub(crate) fn contract(mut words: Words<'_>) -> Option<Contract> {
     Some(Contract {
         portfolio: words.code()?,
         day: words.day()?,
@@ -20,7 +20,7 @@ fn permille(words: &mut Words<'_>) -> Option<u16> {
 }
 
 /// `DAY DIRECTION FIRST LAST FIRM INTERRUPTIBLE`.
-pub fn notice(mut words: Words<'_>) -> Option<Notice> {
+pub(crate) fn notice(mut words: Words<'_>) -> Option<Notice> {
     Some(Notice {
         day: words.day()?,
         direction: words.direction()?,

@@ -73,7 +73,7 @@ fn nominate(
 }
 
 /// The answer of a call that the side's records are for.
-pub fn answer_recorded(
+pub(crate) fn answer_recorded(
     alloc: Global,
     records: &mut Records,
     name: &str,

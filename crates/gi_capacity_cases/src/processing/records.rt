@@ -31,33 +31,33 @@ fn frame(day: GasDay) -> DayFrame
 }
 
 /// Why a notice is refused, if it is.
-pub fn fault(notice: &Notice) -> Option<NoticeFault> {
+pub(crate) fn fault(notice: &Notice) -> Option<NoticeFault> {
     notice.fault(&frame(notice.day))
 }
 
 impl Records {
     /// No contracts, no notices and no nominations.
-    pub fn new(alloc: Global, point: Code) -> Records {
+    pub(crate) fn new(alloc: Global, point: Code) -> Records {
         Records {
             contracts: Contracts::new(alloc),
             book: Book::new(alloc, point),
         }
     }
 
-    pub fn contracts(&self) -> &Contracts {
+    pub(crate) fn contracts(&self) -> &Contracts {
         &self.contracts
     }
 
-    pub fn set(&mut self, contract: Contract) -> Result<(), ContractFault> {
+    pub(crate) fn set(&mut self, contract: Contract) -> Result<(), ContractFault> {
         self.contracts.set(contract)
     }
 
-    pub fn notice(&mut self, notice: Notice) -> Result<(), NoticeFault> {
+    pub(crate) fn notice(&mut self, notice: Notice) -> Result<(), NoticeFault> {
         self.contracts.notice(&frame(notice.day), notice)
     }
 
     /// The verdict on a nomination, by the contracts and before any cycle of its gas day is closed.
-    pub fn judge(&self, nomint: &Nomint) -> Verdict
+    pub(crate) fn judge(&self, nomint: &Nomint) -> Verdict
         ensures newer { result ≡ Verdict.Recordable → IsNewer self.now.book.documents nomint.now }
         ensures sound { result ≡ Verdict.Recordable → IsSound self.now.contracts nomint.now.day nomint.now.portfolio nomint.now }
     {
@@ -70,7 +70,7 @@ impl Records {
     }
 
     /// The verdict on a nomination, which is taken where it is recordable.
-    pub fn take(&mut self, nomint: Nomint) -> Result<Verdict, AllocError> {
+    pub(crate) fn take(&mut self, nomint: Nomint) -> Result<Verdict, AllocError> {
         let verdict = self.judge(&nomint);
         if let Verdict::Recordable = verdict {
             self.book.take(nomint)?;
@@ -79,7 +79,7 @@ impl Records {
     }
 
     /// The processed table of a cycle, or what the gas day's frame says of one that it has not.
-    pub fn processed(
+    pub(crate) fn processed(
         &self,
         alloc: Global,
         side: Side,

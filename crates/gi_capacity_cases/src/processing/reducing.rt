@@ -18,7 +18,7 @@ const NOMINT: &str =
     r#""kind":"NOMINT","point":"BORDER-1","portfolio":"A","day":"2026-01-15","version":1"#;
 
 /// Adds a line to lines that are written as JSON text, with hours as they are written in cases.
-pub fn add_line(
+pub(crate) fn add_line(
     counterparty: &str,
     direction: &str,
     hours: &str,
@@ -35,7 +35,7 @@ pub fn add_line(
 
 /// The processed table of cycle 0 at the initiating side, where the contract of A for `IM` has a
 /// firm and an interruptible quantity and A has these lines in force.
-pub fn processed_lines(
+pub(crate) fn processed_lines(
     alloc: Global,
     firm: u64,
     interruptible: u64,
@@ -101,7 +101,7 @@ fn words_of(alloc: Global, text: &str) -> Result<Vec<&str>, AllocError> {
 }
 
 /// Answers `AVAILABLE QUANTITY ..`: what is processed of the quantities.
-pub fn reduce(
+pub(crate) fn reduce(
     alloc: Global,
     mut words: Words<'_>,
     mixed: bool,

@@ -110,7 +110,7 @@ fn six_numbers(words: &mut Words<'_>) -> Option<[u64; 6]> {
 
 /// Answers `AVAILABLE VALUE VALUE VALUE VALUE VALUE VALUE`: whether each three of the values, 24
 /// threes in the hours of one day, are reduced as by running sums.
-pub fn reduce_triples(
+pub(crate) fn reduce_triples(
     alloc: Global,
     mut words: Words<'_>,
     text: &mut String,
