@@ -14,7 +14,7 @@ use Rattle.gi_desk.specs.Machine.{DeskState}
 use Rattle.gi_desk.specs.Queries.{confirmed}
 use Rattle.gi_desk.specs.Writable.{FitsDesk}
 use Rattle.gi_desk.proofs.Confirmed.{met_closed}
-use Rattle.gi_world.specs.Agreement.{FitsWorld, IsSound, saved_facts}
+use Rattle.gi_world.specs.Agreement.{FitsWorld, IsLegal, IsSound, MeetsFrozen, saved_facts}
 use Rattle.gi_world.specs.Confirming.{ConfirmsAtBoth, ConfirmsTheLower, IsLowerOfBoth, frozen_at}
 use Rattle.gi_world.specs.World.{WorldState, other, station_of}
 use Rattle.gi_world.proofs.Fronts.{front-closed, front-met, saved-front}
@@ -41,6 +41,14 @@ confirmed_some : (side : Side) (s : DeskState) (id : CycleId) → is_some (peer_
 unfolding confirmed
 confirmed_some side s id e = mapped_some (frozen_table side s.facts id) (peer_of id (saved_facts s)) e
 
+-- Both desks hold legal facts, and each met what the other one froze: on this alone rests what they confirm and tell.
+pub record HaveMetFrozen (w : WorldState) : Type 0 where
+  pub legal : (side : Side) → IsLegal side (station_of side w).desk
+  pub met : (side : Side) → MeetsFrozen side (station_of side w).desk (station_of (other side) w).desk
+
+pub sound-met : (w : WorldState) → IsSound w → HaveMetFrozen w
+sound-met w sound = record { legal = sound.legal; met = sound.met }
+
 -- ---- both frozen tables
 
 matched_by : (side peer : Side) (point of_peer : List ℕ) (s t : DeskState) (id : CycleId) → FitsDesk side point s.facts → FitsDesk peer of_peer t.facts
@@ -62,16 +70,16 @@ record IsLesserAt (w : WorldState) (side : Side) (id : CycleId) (table : TableCo
   there : is_closed id (station_of (other side) w).desk.facts ≡ true
   lesser : table ≡ lesser_of (frozen_table side (station_of side w).desk.facts id) (frozen_table (other side) (station_of (other side) w).desk.facts id)
 
-lesser_at : (w : WorldState) (side : Side) (id : CycleId) (table : TableContents) → IsSound w → confirmed side (station_of side w).desk id ≡ Some table
+lesser_at : (w : WorldState) (side : Side) (id : CycleId) (table : TableContents) → HaveMetFrozen w → confirmed side (station_of side w).desk id ≡ Some table
     → IsLesserAt w side id table
-lesser_at w side id table sound e =
+lesser_at w side id table have e =
     let s = (station_of side w).desk in
     let t = (station_of (other side) w).desk in
     let (peer, saved, is) = confirmed_from side s id table e in
     let met = front-met (saved_facts s) s.facts id peer (saved-front s) saved in
-    let frozen = sound.met side id peer met in
+    let frozen = have.met side id peer met in
     record {
-      here = met_closed side s.point s.facts id peer (sound.legal side).legal met;
+      here = met_closed side s.point s.facts id peer (have.legal side).legal met;
       there = front-closed (saved_facts t) t.facts id (saved-front t) frozen.0;
       lesser = is ∙ ap (lesser_of (frozen_table side s.facts id)) frozen.1;
     }
@@ -102,8 +110,8 @@ lower_at w M id table fits at = record {
       ∙ min_comm (frozen_at M w id pair direction hour) (frozen_at I w id pair direction hour);
 }
 
-pub confirms-lower : (w : WorldState) → IsSound w → FitsWorld w → ConfirmsTheLower w
-confirms-lower w sound fits = λ side id table e. lower_at w side id table fits (lesser_at w side id table sound e)
+pub confirms-lower : (w : WorldState) → HaveMetFrozen w → FitsWorld w → ConfirmsTheLower w
+confirms-lower w have fits = λ side id table e. lower_at w side id table fits (lesser_at w side id table have e)
 
 pub confirms-at-both : (w : WorldState) → IsSound w → ConfirmsAtBoth w
 confirms-at-both w sound =

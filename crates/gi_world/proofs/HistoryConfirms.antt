@@ -20,7 +20,7 @@ use Rattle.gi_world.specs.Agreement.{FitsWorld, IsSound}
 use Rattle.gi_world.specs.Confirming.{ConfirmsByHistory, IsLowerOfFrozen, closing_count, has_confirmed, table_confirmed}
 use Rattle.gi_world.specs.Histories.{History, held, held_by, history_of}
 use Rattle.gi_world.specs.World.{StationState, WorldState, station_of}
-use Rattle.gi_world.proofs.ConfirmedLaws.{confirms-at-both, confirms-lower}
+use Rattle.gi_world.proofs.ConfirmedLaws.{HaveMetFrozen, confirms-at-both, confirms-lower, sound-met}
 use Rattle.gi_world.proofs.Meetings.{some_in}
 
 -- ---- a closed cycle is closed exactly once
@@ -118,13 +118,13 @@ pub confirmed_at : (side : Side) (w : WorldState) (id : CycleId) → confirmed s
 confirmed_at I w id = desk_confirms I w.initiating id
 confirmed_at M w id = desk_confirms M w.matching id
 
-pub lower_at : (w : WorldState) → IsSound w → FitsWorld w → (side : Side) (id : CycleId) (table : TableContents) → table_confirmed side (history_of side (held w)) id ≡ Some table
+pub lower_at : (w : WorldState) → HaveMetFrozen w → FitsWorld w → (side : Side) (id : CycleId) (table : TableContents) → table_confirmed side (history_of side (held w)) id ≡ Some table
     → IsLowerOfFrozen (held w) id table
-lower_at w sound fits side id table e =
-    let lower = confirms-lower w sound fits side id table (confirmed_at side w id ∙ e) in
+lower_at w have fits side id table e =
+    let lower = confirms-lower w have fits side id table (confirmed_at side w id ∙ e) in
     record {
-      initiating = closed_once I w.initiating.desk.point w.initiating.desk.facts id (sound.legal I).legal lower.initiating;
-      matching = closed_once M w.matching.desk.point w.matching.desk.facts id (sound.legal M).legal lower.matching;
+      initiating = closed_once I w.initiating.desk.point w.initiating.desk.facts id (have.legal I).legal lower.initiating;
+      matching = closed_once M w.matching.desk.point w.matching.desk.facts id (have.legal M).legal lower.matching;
       reads = lower.reads;
     }
 
@@ -137,9 +137,9 @@ matching_at w sound id e =
 pub confirms-by-history : (w : WorldState) → IsSound w → FitsWorld w → ConfirmsByHistory (held w)
 confirms-by-history w sound fits = record {
   tables = λ side id. tables_at side w id;
-  lower = lower_at w sound fits;
+  lower = lower_at w (sound-met w sound) fits;
   matching_too = matching_at w sound;
   alike =
       λ id initiating matching ours theirs pair direction hour.
-      (lower_at w sound fits I id initiating ours).reads pair direction hour ∙ sym ((lower_at w sound fits M id matching theirs).reads pair direction hour);
+      (lower_at w (sound-met w sound) fits I id initiating ours).reads pair direction hour ∙ sym ((lower_at w (sound-met w sound) fits M id matching theirs).reads pair direction hour);
 }

@@ -1,21 +1,21 @@
 mod Agreeing
-mod ConfirmedLaws
-mod DeliveredPackets
+pub mod ConfirmedLaws
+pub mod DeliveredPackets
 mod FirstFacts
-mod Fronts
+pub mod Fronts
 mod FrozenTables
 mod Halted
-mod HistoryConfirms
+pub mod HistoryConfirms
 mod HistoryLaws
-mod Meetings
+pub mod Meetings
 mod MemoryWanted
 pub mod Numbers
-mod OneQuantity
+pub mod OneQuantity
 mod Opening
 mod Recorded
 mod RunLaws
 mod SameTables
-mod SentPackets
+pub mod SentPackets
 mod Soundness
 mod StationLemmas
 mod StepKeeping

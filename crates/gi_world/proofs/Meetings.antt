@@ -61,9 +61,9 @@ one_more facts fact id table e =
     ⊎_elim (λ old. inl old) (λ new. inr (meeting_is id fact table new)) (last_one (filter_map (peer_in id) facts) (peer_in id fact) table (sym parts ∙ e))
 
 -- A desk goes on to another state: what was saved stays so, and it meets no table but by the new fact.
-record IsMoved (s next : DeskState) (new : Option Fact) : Type 0 where
-  front : IsFront (saved_facts s) (saved_facts next)
-  meets : (id : CycleId) (table : TableContents) → peer_of id next.facts ≡ Some table → (peer_of id s.facts ≡ Some table) ⊎ (new ≡ Some (Met id table))
+pub record IsMoved (s next : DeskState) (new : Option Fact) : Type 0 where
+  pub front : IsFront (saved_facts s) (saved_facts next)
+  pub meets : (id : CycleId) (table : TableContents) → peer_of id next.facts ≡ Some table → (peer_of id s.facts ≡ Some table) ⊎ (new ≡ Some (Met id table))
 
 meets_by : (s : DeskState) (o : Outcome) (expected : Option Fact) (id : CycleId) (table : TableContents) → Names expected s.saved o → peer_of id (next_of s o).facts ≡ Some table
     → (peer_of id s.facts ≡ Some table) ⊎ (expected ≡ Some (Met id table))
@@ -75,7 +75,7 @@ meets_by s (Resends id') expected id table names met = inl met
 meets_by s Stops expected id table names met = inl met
 meets_by s (Refuses refusal) expected id table names met = inl met
 
-call_moved : (side : Side) (s : DeskState) (call : Call) → s.saved ≤ length s.facts → IsMoved s (desk_after side s call) (fact_named_by call)
+pub call_moved : (side : Side) (s : DeskState) (call : Call) → s.saved ≤ length s.facts → IsMoved s (desk_after side s call) (fact_named_by call)
 unfolding desk_after
 call_moved side s call within =
     let next = next_of s (desk_outcome side s call) in
@@ -85,7 +85,7 @@ call_moved side s call within =
       meets = λ id table met. meets_by s (desk_outcome side s call) (fact_named_by call) id table (records-named side s call) met;
     }
 
-restart_moved : (s : DeskState) (keep : ℕ) → s.saved ≤ keep → IsMoved s (started_again s keep) None
+pub restart_moved : (s : DeskState) (keep : ℕ) → s.saved ≤ keep → IsMoved s (started_again s keep) None
 restart_moved s keep above = record {
   front = subst (IsFront (saved_facts s)) (sym (take-take keep keep s.facts (omega arith))) (front-within s.facts s.saved keep above);
   meets = λ id table met. inl (front-met (take keep s.facts) s.facts id table (front-take s.facts keep) met);
@@ -93,10 +93,10 @@ restart_moved s keep above = record {
 
 -- ---- what holds between the two desks
 
-abbrev IsFrozenAt : Side → DeskState → CycleId → TableContents → Type 0
+abbrev pub IsFrozenAt : Side → DeskState → CycleId → TableContents → Type 0
 IsFrozenAt side s id table = (is_closed id (saved_facts s) ≡ true) × (table ≡ frozen_table side s.facts id)
 
-moved_met : (side : Side) (s next peer : DeskState) (new : Option Fact) → MeetsFrozen side s peer → IsMoved s next new
+pub moved_met : (side : Side) (s next peer : DeskState) (new : Option Fact) → MeetsFrozen side s peer → IsMoved s next new
     → ((id : CycleId) (table : TableContents) → new ≡ Some (Met id table) → IsFrozenAt (other side) peer id table) → MeetsFrozen side next peer
 moved_met side s next peer new met moved may = λ id table there. ⊎_elim (λ old. met id table old) (λ fresh. may id table fresh) (moved.meets id table there)
 
@@ -132,12 +132,12 @@ record AreMet (w : WorldState) : Type 0 where
   met : (side : Side) → MeetsFrozen side (station_of side w).desk (station_of (other side) w).desk
   after : MeetsAfter w.initiating.desk w.matching.desk
 
-abbrev IsMetAfter : Side → WorldState → CycleId → Type 0
+abbrev pub IsMetAfter : Side → WorldState → CycleId → Type 0
 IsMetAfter I w id = is_some (peer_of id (saved_facts w.matching.desk)) ≡ true
 IsMetAfter M w id = Unit {0}
 
 -- the new fact, where it meets a table, meets the one that the other side froze
-abbrev MayMeet : Side → WorldState → Option Fact → Type 0
+abbrev pub MayMeet : Side → WorldState → Option Fact → Type 0
 MayMeet side w new =
     (id : CycleId) (table : TableContents) → new ≡ Some (Met id table)
     → IsFrozenAt (other side) (station_of (other side) w).desk id table × IsMetAfter side w id
@@ -180,7 +180,7 @@ nominates (Ok (messages.Delord message)) id table e = absurd cc
 nominates (Ok (messages.Delres message)) id table e = absurd cc
 
 -- a call that is no delivery meets no table
-meets_none : (call : Call) (id : CycleId) (table : TableContents) → is_delivery call ≡ false → fact_named_by call ≡ Some (Met id table) → ⊥
+pub meets_none : (call : Call) (id : CycleId) (table : TableContents) → is_delivery call ≡ false → fact_named_by call ≡ Some (Met id table) → ⊥
 meets_none (calls.Contract contract) id table local e = absurd cc
 meets_none (calls.Notice notice) id table local e = absurd cc
 meets_none (calls.Submit body) id table local e = nominates (decoded body) id table e
@@ -201,13 +201,13 @@ same_one P id other peer table e holds =
     let met : peer ≡ table = cc in
     subst (P other) met (subst (λ (id : CycleId). P id peer) cycle holds)
 
-order_may : (w : WorldState) (packet : Packet) → IsOrdered w packet → MayMeet M w (meeting_in (decoded packet.body))
+pub order_may : (w : WorldState) (packet : Packet) → IsOrdered w packet → MayMeet M w (meeting_in (decoded packet.body))
 order_may w packet ordered =
     λ id table is.
     same_one (λ id table. IsFrozenAt I w.initiating.desk id table × IsMetAfter M w id) ordered.id id (frozen_table I w.initiating.desk.facts ordered.id) table
     (sym (ap meeting_in ordered.reads) ∙ is) ((ordered.closed, refl), tt)
 
-response_may : (w : WorldState) (packet : Packet) → IsResponded w packet → MayMeet I w (meeting_in (decoded packet.body))
+pub response_may : (w : WorldState) (packet : Packet) → IsResponded w packet → MayMeet I w (meeting_in (decoded packet.body))
 response_may w packet responded =
     λ id table is.
     same_one (λ id table. IsFrozenAt M w.matching.desk id table × IsMetAfter I w id) responded.id id (frozen_table M w.matching.desk.facts responded.id) table

@@ -17,6 +17,7 @@ use Rattle.gi_world.specs.Headline.{OneConfirmedQuantity}
 use Rattle.gi_world.specs.Histories.{held, history_of}
 use Rattle.gi_world.specs.Telling.{TellsTheLower}
 use Rattle.gi_world.specs.World.{WorldState, station_of}
+use Rattle.gi_world.proofs.ConfirmedLaws.{HaveMetFrozen, sound-met}
 use Rattle.gi_world.proofs.HistoryConfirms.{confirmed_at, confirms-by-history, lower_at}
 use Rattle.gi_world.proofs.ToldPackets.{IsTelling, lines-are, told-tells}
 
@@ -25,8 +26,8 @@ met_confirms : (side : Side) (s : DeskState) (id : CycleId) (peer : TableContent
 unfolding confirmed
 met_confirms side s id peer met = ap (option_map (lesser_of (frozen_table side s.facts id))) met
 
-tells_lower : (w : WorldState) → IsSound w → FitsWorld w → (side : Side) (packet : Packet) → IsTelling side (station_of side w).desk packet → TellsTheLower (held w) side packet
-tells_lower w sound fits side packet is =
+tells_lower : (w : WorldState) → HaveMetFrozen w → FitsWorld w → (side : Side) (packet : Packet) → IsTelling side (station_of side w).desk packet → TellsTheLower (held w) side packet
+tells_lower w have fits side packet is =
     let s = (station_of side w).desk in
     let id = is.id in
     let cycle = matched_of (frozen_cycle side s.facts id) is.peer in
@@ -36,17 +37,17 @@ tells_lower w sound fits side packet is =
       record {
         table = cycle.confirmed;
         confirmed = has;
-        lower = lower_at w sound fits side id cycle.confirmed has;
+        lower = lower_at w have fits side id cycle.confirmed has;
         lines = lines-are side s.point cycle is.portfolio is.table;
       },
     )
 
-told_lower : (w : WorldState) → IsSound w → FitsWorld w → (side : Side) (packet : Packet) → IsTold side (station_of side w).desk packet → TellsTheLower (held w) side packet
-told_lower w sound fits side packet is = tells_lower w sound fits side packet (told-tells side (station_of side w).desk packet (sound.legal side) (fits side) is)
+pub told-lower : (w : WorldState) → HaveMetFrozen w → FitsWorld w → (side : Side) (packet : Packet) → IsTold side (station_of side w).desk packet → TellsTheLower (held w) side packet
+told-lower w have fits side packet is = tells_lower w have fits side packet (told-tells side (station_of side w).desk packet (have.legal side) (fits side) is)
 
 pub all-tell : (w : WorldState) → IsSound w → FitsWorld w → (side : Side) → All (TellsTheLower (held w) side) (station_of side w).told
 all-tell w sound fits side =
-    All-weaker (IsTold side (station_of side w).desk) (TellsTheLower (held w) side) (told_lower w sound fits side) (station_of side w).told (sound.told side)
+    All-weaker (IsTold side (station_of side w).desk) (TellsTheLower (held w) side) (told-lower w (sound-met w sound) fits side) (station_of side w).told (sound.told side)
 
 pub one-confirmed-quantity : (w : WorldState) → IsSound w → FitsWorld w → OneConfirmedQuantity (held w)
 one-confirmed-quantity w sound fits = record { confirmed = confirms-by-history w sound fits; told = told }

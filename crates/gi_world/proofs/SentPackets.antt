@@ -49,7 +49,7 @@ kept_on_call : (side : Side) (s : DeskState) (call : Call) (n : ℕ) → n ≤ l
 unfolding desk_after
 kept_on_call side s call n within = kept_by side s (desk_outcome side s call) n within
 
-kept_on_restart : (side : Side) (point : List ℕ) (facts : List Fact) (n keep : ℕ) → n ≤ keep → let_out side point (take keep facts) n ≡ let_out side point facts n
+pub kept_on_restart : (side : Side) (point : List ℕ) (facts : List Fact) (n keep : ℕ) → n ≤ keep → let_out side point (take keep facts) n ≡ let_out side point facts n
 unfolding let_out
 kept_on_restart side point facts n keep below = ap (λ (up_to : List Fact). if_fact side point up_to (slice_get up_to (n - 1))) (take-take n keep facts below)
 
@@ -71,7 +71,7 @@ said_after : (side : Side) (s : DeskState) (call : Call) (n : ℕ) (packet : Pac
 unfolding desk_after reply
 said_after side s call n packet there = said_by side s (desk_outcome side s call) n packet there
 
-now : (is_so : Packet → Bool) (side : Side) (s : DeskState) (call : Call) (packet : Packet) → Contains (reply side s call).out packet → is_so packet ≡ true
+pub now : (is_so : Packet → Bool) (side : Side) (s : DeskState) (call : Call) (packet : Packet) → Contains (reply side s call).out packet → is_so packet ≡ true
     → IsLetOut is_so side (desk_after side s call) packet
 now is_so side s call packet there passes =
     let said = says-only-what-is-saved side s call packet there in

@@ -2,7 +2,7 @@ use Rattle.std.proofs.Common.{◌≡◌, subst}
 use Rattle.std.specs.Result.{OnErr}
 use Rattle.gi_world.specs.Keeping.{KeepsConfirmed, OnlyAppends}
 use Rattle.gi_world.specs.World.{WorldState}
-use Rattle.gi_world.proofs.ConfirmedLaws.{confirms-at-both, confirms-lower}
+use Rattle.gi_world.proofs.ConfirmedLaws.{confirms-at-both, confirms-lower, sound-met}
 use Rattle.gi_world.proofs.OneQuantity.{one-confirmed-quantity}
 use Rattle.gi_world.proofs.StepKeeping.{step-agrees-as, step-appends, step-confirms, step-keeps-sound, step-refused}
 use Rattle.gi_world.proofs.world.World.step.Goals as goal
@@ -30,7 +30,7 @@ returns-clause-agrees c =
     step-agrees-as c.lessens_both_ways.ensures c.self.inside.stations c.args.step.now c.step-outcome.result c.step-outcome.new.self c.self.invariant c.known.ensures c.step-outcome.ensures
 
 pub returns-clause-lower : goal.returns-clause-lower
-returns-clause-lower c = confirms-lower c.step-outcome.new.self (invariant_of-self c) c.known-2.ensures
+returns-clause-lower c = confirms-lower c.step-outcome.new.self (sound-met c.step-outcome.new.self (invariant_of-self c)) c.known-2.ensures
 
 pub returns-clause-both : goal.returns-clause-both
 returns-clause-both c = confirms-at-both c.step-outcome.new.self (invariant_of-self c)
