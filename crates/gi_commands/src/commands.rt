@@ -20,8 +20,10 @@ use gi_command_line::{BookFile, Report, ReportKind, Request};
 use gi_pairs::Side;
 use std::alloc::Global;
 use std::io::{Read, Write};
+use std::thread::Threads;
 
 fn match_tables<R: Read, W: Write>(
+    threads: &(impl Threads + Sync),
     alloc: Global,
     input: &mut R,
     output: &mut W,
@@ -33,7 +35,7 @@ fn match_tables<R: Read, W: Write>(
         IsFirstFault bytes fault)) }
 {
     let bytes = read_input(alloc, input, &mut Calls::none())?;
-    let text = answer(alloc, bytes.as_slice())?;
+    let text = answer(threads, alloc, bytes.as_slice())?;
     write_text(text.as_slice(), output)
 }
 
@@ -132,9 +134,10 @@ fn report<R: Read, W: Write>(
 
 /// Does what a request asks for, and answers the fault, if any: after a fault nothing is written,
 /// unless memory ran out in a script's step or the writer failed, and then perhaps a part. `Write`,
-/// where the writer fails, comes after every other fault.
+/// where the writer fails, comes after every other fault. `match` works in several threads.
 pub fn perform<R: Read, W: Write>(
     rt: &HostRuntime,
+    threads: &(impl Threads + Sync),
     request: Request<'_>,
     input: &mut R,
     output: &mut W,
@@ -147,7 +150,7 @@ pub fn perform<R: Read, W: Write>(
 {
     let alloc = rt.alloc();
     match request {
-        Request::Match => match_tables(alloc, input, output),
+        Request::Match => match_tables(threads, alloc, input, output),
         Request::Hours(day) => tell_hours(alloc, day, output),
         Request::Simulate => simulate_script(alloc, input, output),
         Request::Report(wanted) => report(rt, wanted, input, output),

@@ -8,10 +8,11 @@ ghost use Rattle.gi_commands.specs.Match.{IsAnswer, IsRefused, IsLineFault, Same
 
 use crate::fault::{Fault, Line};
 use crate::lines::{LINE_FEED, two_lines};
-use gi_lesser::lesser;
+use gi_lesser::lesser_parallel;
 use gi_messages::{Delord, Delres, Message, MessageFault, decode, encode};
 use gi_pairs::Table;
 use std::alloc::Global;
+use std::thread::Threads;
 
 fn table_on(alloc: Global, line: Line, bytes: &[u8]) -> Result<Delord, Fault>
     ensures spelled { IfOk result (λ table. Spells bytes.now (message.Delord table)) }
@@ -42,7 +43,7 @@ fn same_shape(order: &Delord, own: &Delord) -> bool
 
 /// What `match` writes for an input: the DELRES and a line feed. The fault is the first of the
 /// stated order; want of memory is answered where it stands in the way.
-pub fn answer(alloc: Global, input: &[u8]) -> Result<Vec<u8>, Fault>
+pub fn answer(rt: &(impl Threads + Sync), alloc: Global, input: &[u8]) -> Result<Vec<u8>, Fault>
     ensures text { IfOk result (λ text. IsAnswer input.now text.items) }
     ensures fault { IfErr result (IsRefused input.now) }
 
@@ -58,7 +59,7 @@ pub fn answer(alloc: Global, input: &[u8]) -> Result<Vec<u8>, Fault>
     if !same_shape(&order, &own) {
         return Err(Fault::ShapeDiffers);
     }
-    let Ok(confirmed) = lesser(alloc, &own.processed, &order.processed) else {
+    let Ok(confirmed) = lesser_parallel(rt, alloc, &own.processed, &order.processed) else {
         return Err(Fault::OutOfMemory);
     };
     let response = Message::Delres(Delres {

@@ -11,6 +11,7 @@ use gi_command_line::{Mistake, Request, requested};
 use gi_commands::{Fault, perform};
 use std::convert::AsStr;
 use std::io::{Read, Write};
+use std::thread::Threads;
 
 /// Writes the one line that names the fault, where there is one. A writer that fails leaves it at
 /// that.
@@ -65,6 +66,7 @@ fn point_out<E: Write>(mistake: Mistake<'_>, errors: &mut E) -> Result<(), Fault
 /// all other faults but that one.
 pub fn dispatch<S: AsStr, R: Read, W: Write, E: Write>(
     rt: &HostRuntime,
+    threads: &(impl Threads + Sync),
     words: &[S],
     input: &mut R,
     output: &mut W,
@@ -93,7 +95,7 @@ pub fn dispatch<S: AsStr, R: Read, W: Write, E: Write>(
 {
     match requested(rt.alloc(), words) {
         Ok(Request::Mistaken(mistake)) => point_out(mistake, errors),
-        Ok(request) => reported(perform(rt, request, input, output), errors),
+        Ok(request) => reported(perform(rt, threads, request, input, output), errors),
         Err(said) => explain(&said, output, errors),
     }
 }

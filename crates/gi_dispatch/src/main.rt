@@ -22,7 +22,14 @@ fn words<R: Env + AllocGlobal>(rt: &R) -> Result<Vec<String>, Fault> {
 fn main(rt: HostRuntime) -> ExitCode {
     let (mut input, mut output, mut errors) = (rt.stdin(), rt.stdout(), rt.stderr());
     let done = match words(&rt) {
-        Ok(words) => dispatch(&rt, words.as_slice(), &mut input, &mut output, &mut errors),
+        Ok(words) => dispatch(
+            &rt,
+            &rt,
+            words.as_slice(),
+            &mut input,
+            &mut output,
+            &mut errors,
+        ),
         Err(fault) => reported(Err(fault), &mut errors),
     };
     match done {

@@ -7,6 +7,7 @@ use gi_script::ScriptFault;
 use std::io;
 use std::io::{ErrorKind, Read, Write};
 use std::test::Fail;
+use std::thread::Threads;
 
 /// An order, the own table that it meets, and the response to both.
 const ORDER: &str =
@@ -109,11 +110,12 @@ impl Write for Narrow {
 /// What a request answers to a reader, and what it writes.
 fn told(
     rt: &HostRuntime,
+    threads: &(impl Threads + Sync),
     request: Request<'_>,
     input: &mut impl Read,
 ) -> (Result<(), Fault>, Vec<u8>) {
     let mut output = Vec::new(rt.alloc());
-    let result = perform(rt, request, input, &mut output);
+    let result = perform(rt, threads, request, input, &mut output);
     (result, output)
 }
 
@@ -127,7 +129,7 @@ fn reads_byte_by_byte(rt: HostRuntime) -> Result<(), Fail> {
         bytes,
         is_ready: false,
     };
-    let (result, output) = told(&rt, Request::Match, &mut input);
+    let (result, output) = told(&rt, &rt, Request::Match, &mut input);
     assert!(rt; result == Ok(()));
     assert!(rt; output.as_slice() == format!(in alloc; "{RESPONSE}\n")?.as_bytes());
     Ok(())
@@ -141,13 +143,13 @@ fn tells_that_a_reader_fails(rt: HostRuntime) -> Result<(), Fail> {
         (Request::Simulate, SCRIPT),
         (REPORT, SCRIPT),
     ] {
-        let (result, output) = told(&rt, request, &mut text.as_bytes().chain(Broken));
+        let (result, output) = told(&rt, &rt, request, &mut text.as_bytes().chain(Broken));
         assert!(rt; result == Err(Fault::Read));
         assert!(rt; output.is_empty());
     }
     let error = io::Error::from(ErrorKind::Interrupted);
     let mut reader = Interrupted { calls: 0, error };
-    let (result, output) = told(&rt, Request::Match, &mut reader);
+    let (result, output) = told(&rt, &rt, Request::Match, &mut reader);
     assert!(rt; result == Err(Fault::Read));
     assert!(rt; output.is_empty());
     assert!(rt; reader.calls == 134_217_728);
@@ -161,10 +163,10 @@ fn takes_input_up_to_the_limit(rt: HostRuntime) {
         (Request::Simulate, Fault::Script(ScriptFault::Point)),
         (REPORT, Fault::Script(ScriptFault::Point)),
     ] {
-        let (result, output) = told(&rt, request, &mut Long { left: 67_108_864 });
+        let (result, output) = told(&rt, &rt, request, &mut Long { left: 67_108_864 });
         assert!(rt; result == Err(fault));
         assert!(rt; output.is_empty());
-        let (result, output) = told(&rt, request, &mut Long { left: 67_108_865 });
+        let (result, output) = told(&rt, &rt, request, &mut Long { left: 67_108_865 });
         assert!(rt; result == Err(Fault::TooLarge));
         assert!(rt; output.is_empty());
     }
@@ -181,13 +183,13 @@ fn tells_that_a_writer_fails(rt: HostRuntime) -> Result<(), Fail> {
     ] {
         for room in [0, part] {
             let mut bytes = text.as_bytes();
-            let result = perform(&rt, request, &mut bytes, &mut Narrow { room });
+            let result = perform(&rt, &rt, request, &mut bytes, &mut Narrow { room });
             assert!(rt; result == Err(Fault::Write));
         }
     }
     // All other faults come first.
     let mut none = b"".as_slice();
-    let result = perform(&rt, Request::Match, &mut none, &mut Narrow { room: 0 });
+    let result = perform(&rt, &rt, Request::Match, &mut none, &mut Narrow { room: 0 });
     assert!(rt; result == Err(Fault::Lines));
     Ok(())
 }

@@ -4,13 +4,13 @@ use Rattle.gi_commands.proofs.MatchLemmas.{own_refused}
 use Rattle.gi_commands.proofs.matching.answer.Goals as goal
 
 pub returns-in_err-own-clause-fault : goal.returns-in_err-own-clause-fault
-returns-in_err-own-clause-fault c =
+returns-in_err-own-clause-fault g c =
     let left = err_from_is_err_and c.from_residual-in_err-own.result c.from_residual-in_err-own.ensures.1 in
     rw (left.1, left.2) (own_refused c.args.input.now _ _ c.in_ok-order.order c.in_err-own.field-0.0
     c.in_ok-order_line.ensures c.in_ok-order.ensures.spelled c.in_err-own.ensures.refused)
 
 pub returns-then-not-same_shape-clause-fault : goal.returns-then-not-same_shape-clause-fault
-returns-then-not-same_shape-clause-fault c = record {
+returns-then-not-same_shape-clause-fault g c = record {
   order = c.in_ok-order.order;
   own = c.in_ok-own.own;
   tables = record {
@@ -24,7 +24,7 @@ returns-then-not-same_shape-clause-fault c = record {
 }
 
 pub returns-clause-text : goal.returns-clause-text
-returns-clause-text c = record {
+returns-clause-text g c = record {
   order = c.in_ok-order.order;
   own = c.in_ok-own.own;
   confirmed = c.in-Ok.confirmed;
