@@ -1,6 +1,11 @@
+mod Breaking
+mod Kept
+mod Later
 mod Marking
 mod Noting
 mod Points
+mod Reconciled
 mod Runs
 mod Sames
+mod Sent
 mod Standing

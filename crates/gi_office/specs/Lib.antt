@@ -1,9 +1,11 @@
 pub mod Entering
 pub mod FaultText
+pub mod Joining
 pub mod Keeping
 pub mod Limits
 pub mod Lives
 pub mod Opening
+pub mod Reconciling
 pub mod Saving
 pub mod Settling
 pub mod Waiting

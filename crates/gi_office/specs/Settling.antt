@@ -1,6 +1,7 @@
 -- How the lists of the seats stand to the trail.
 use Rattle.std.specs.Prelude.{◌≡◌, ◌≢◌, ◌≤◌, ℕ, ◌+◌, ◌-◌, List, [], ◌∷◌, length, map, sum, take, slice_get, find, Bool, nat_eq, if◌then◌else◌, Option, None, Some, option_map, MatchOption, Result, Ok, Err}
 use Rattle.gi_pairs.specs.declared.side.Side.{Side}
+use Rattle.gi_facts.specs.declared.fact.Fact.{Fact}
 use Rattle.gi_desk.specs.Machine.{DeskState}
 use Rattle.gi_office.specs.Keeping.{HeldState, IsKept, SeatState, life_of}
 use Rattle.gi_office.specs.Lives.{IsLegal, Life}
@@ -50,11 +51,23 @@ pub record IsUnsettled (seats : ℕ) (trail : List Entry) (handed : List SeatSta
   pub before : AreSettled (fault.seat - 1) trail handed
   pub differs : Differs trail handed fault
 
--- Lives of one desk, one after the other: each is legal, and the desk is the end of the last one.
+-- A desk is opened again where another life of it ended: it is of the same point, and its facts are the first ones of that
+-- end, all that were saved there among them.
+pub record GoesOn (end : DeskState) (opened_at : List ℕ) (opening : List Fact) : Type 0 where
+  pub point : opened_at ≡ end.point
+  pub front : opening ≡ take (length opening) end.facts
+  pub saved : end.saved ≤ length opening
+
+-- from the end of a life the later ones, if any, go on one after the other, each of them legal, to this end
+abbrev pub GoOnTo : Side → DeskState → List Life → DeskState → Type 0
+GoOnTo side s [] end = s ≡ end
+GoOnTo side s (life ∷ later) end = GoesOn s life.point life.opening × ((t : DeskState) × IsLegal side life t × GoOnTo side t later end)
+
+-- Lives of one desk, one after the other: each is legal and goes on from the end of the one before, and the desk is the end
+-- of the last one.
 abbrev pub AreLegal : Side → List Life → DeskState → Type 0
 AreLegal side [] end = ⊥
-AreLegal side (life ∷ []) end = IsLegal side life end
-AreLegal side (life ∷ next ∷ later) end = ((s : DeskState) × IsLegal side life s) × AreLegal side (next ∷ later) end
+AreLegal side (life ∷ later) end = (t : DeskState) × IsLegal side life t × GoOnTo side t later end
 
 -- what is left of an office once all its seats came back: its lives, and its desk
 pub record SettledState : Type 0 where

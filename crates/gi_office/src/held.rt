@@ -211,7 +211,7 @@ impl<R: Role, L: Ledger> Held<R, L> {
     {
         let unsettled = first_fault(count, &seats, &self.trail);
         let Held {
-            alloc: _,
+            alloc,
             opening,
             seats: _,
             desk,
@@ -222,6 +222,8 @@ impl<R: Role, L: Ledger> Held<R, L> {
         match unsettled {
             Some(fault) => Err(fault),
             None => Ok(Settled {
+                earlier: Vec::new(alloc),
+                before: 0,
                 opening,
                 trail,
                 desk,

@@ -1,27 +1,38 @@
-ghost use Rattle.std.specs.Prelude.{◌≡◌, length};
+ghost use Rattle.std.specs.Prelude.{◌≡◌, ◌≤◌, None, length, take};
+ghost use Rattle.gi_desk.specs.Machine.{bad_fact};
+ghost use Rattle.gi_desk.specs.Writable.{FitsDesk};
+ghost use Rattle.gi_office.specs.Joining.{opening_of};
+ghost use Rattle.gi_office.specs.Reconciling.{entries_of};
 ghost use Rattle.gi_office.specs.Settling.{AreLegal};
 
 use crate::entry::Entry;
+use crate::stretch::Stretch;
 use gi_desk::{Desk, Role};
 use std::marker::Model;
 
-/// An office that is over, whose seats came back: its desk, and the trail of all calls to it.
+/// An office that is over, whose seats came back, with those before it that it joined: its desk, and
+/// the trail of all calls.
 #[derive(Drop)]
 pub struct Settled<R: Role> {
+    /// The lives before the last one, in order.
+    pub(crate) earlier: Vec<Stretch>,
+    /// How many entries those have in all.
+    pub(crate) before: usize,
+    /// How many facts the desk was opened with.
     pub(crate) opening: u32,
     pub(crate) trail: Vec<Entry>,
     pub(crate) desk: Desk<R>,
 }
 
 impl<R: Role> Model for Settled<R> {
-    ghost use Rattle.std.specs.Prelude.{[], ◌∷◌, take};
-    ghost use Rattle.gi_office.specs.Settling.{AreLegal, SettledState};
+    ghost use Rattle.gi_office.specs.Joining.{AreKept, lives_of};
+    ghost use Rattle.gi_office.specs.Settling.{SettledState};
 
     ghost Value = { SettledState };
 
-    ghost view = { λ s. record { lives = record { point = s.desk.point; opening = take s.opening s.desk.facts; trail = s.trail.items } ∷ []; desk = s.desk } };
+    ghost view = { λ s. record { lives = lives_of s.desk s.earlier.items s.opening s.trail.items; desk = s.desk } };
 
-    ghost invariant = { λ s. AreLegal R.SIDE (record { point = s.desk.point; opening = take s.opening s.desk.facts; trail = s.trail.items } ∷ []) s.desk };
+    ghost invariant = { λ s. AreKept R.SIDE s.desk s.earlier.items s.before s.opening s.trail.items };
 }
 
 impl<R: Role> Settled<R> {
@@ -31,5 +42,33 @@ impl<R: Role> Settled<R> {
         ensures legal { AreLegal R.SIDE self.now.lives self.now.desk }
     {
         &self.desk
+    }
+
+    /// All entries of its lives, those of the first life first.
+    pub(crate) fn entries(&self) -> &[Entry]
+        ensures { result.now ≡ entries_of self.now.lives }
+    {
+        &self.trail
+    }
+
+    /// With how many facts the first life was opened.
+    pub(crate) fn first_opening(&self) -> u32
+        ensures within { result ≤ length self.now.desk.facts }
+        ensures opening { opening_of self.now.lives ≡ take result self.now.desk.facts }
+    {
+        match self.earlier.first() {
+            Some(stretch) => stretch.opening,
+            None => self.opening,
+        }
+    }
+
+    /// The lives are legal, and the desk is the end of the last one; its facts are legal, and can be
+    /// written.
+    pub(crate) fn known(&self)
+        ensures lives { AreLegal R.SIDE self.now.lives self.now.desk }
+        ensures legal { bad_fact R.SIDE self.now.desk.point self.now.desk.facts ≡ None }
+        ensures fits { FitsDesk R.SIDE self.now.desk.point self.now.desk.facts }
+    {
+        self.desk.known();
     }
 }

@@ -1,0 +1,102 @@
+//! Two offices that are over, set against each other.
+
+ghost use Rattle.std.specs.Prelude.{◌≡◌, ◌&&◌, All, IfOk, MatchOption, IsTrue};
+ghost use Rattle.std.specs.List.{list_any};
+ghost use Rattle.gi_desk.specs.Machine.{is_for_peer};
+ghost use Rattle.gi_desk.specs.Queries.{outgoing};
+ghost use Rattle.gi_office.specs.Reconciling.{AgreeOnOneQuantity, AreFrom, IsStranger, Reconciles, carries, entries_of, is_from};
+
+use crate::entry::Entry;
+use crate::settled::Settled;
+use crate::unreconciled::Unreconciled;
+use gi_desk::{Call, Packet, Recipient, Role};
+use gi_initiator::Initiating;
+use gi_matcher::Matching;
+use gi_pairs::Side;
+use std::alloc::AllocError;
+
+/// Whether it is for the other operator, with these bytes.
+fn does_carry(bytes: &[u8], packet: &Packet) -> bool
+    ensures { result ≡ carries bytes.now packet.now }
+{
+    packet.to == Recipient::Peer && packet.body.as_slice() == bytes
+}
+
+/// Whether one of the packets is.
+fn is_sent(bytes: &[u8], packets: &[Packet]) -> bool
+    ensures { result ≡ list_any (carries bytes.now) packets.now }
+{
+    packets.iter().any(|packet| does_carry(bytes, packet))
+}
+
+/// Whether what the entry delivers, if anything, is among the packets.
+fn is_among(packets: &[Packet], entry: &Entry) -> bool
+    ensures { result ≡ is_from packets.now entry.now.call }
+{
+    match &entry.call {
+        Call::Deliver(body) => is_sent(body.as_slice(), packets),
+        _ => true,
+    }
+}
+
+/// The place of the first entry, from 1, that delivers what the side of this desk did not send, whose
+/// outgoing packets these are.
+fn stranger_among<R: Role>(
+    sender: &Settled<R>,
+    packets: &[Packet],
+    entries: &[Entry],
+) -> Option<u64>
+    requires { packets.now ≡ outgoing R.SIDE sender.now.desk 1 }
+    ensures { MatchOption result (AreFrom R.SIDE sender.now.desk entries.now) (λ place. IsStranger R.SIDE sender.now.desk entries.now place) }
+{
+    for i in 0..entries.len() {
+        if !is_among(packets, &entries[i]) {
+            return Some(i as u64 + 1);
+        }
+    }
+    None
+}
+
+/// The place of the first delivery to the receiver's office, in all its lives, that the sender's did
+/// not send.
+fn stranger<R: Role, S: Role>(
+    receiver: &Settled<R>,
+    sender: &Settled<S>,
+) -> Result<Option<u64>, AllocError>
+    ensures { IfOk result (λ found. MatchOption found (AreFrom S.SIDE sender.now.desk (entries_of receiver.now.lives)) (λ place. IsStranger S.SIDE sender.now.desk (entries_of receiver.now.lives) place)) }
+{
+    let packets = sender.desk().outgoing(1)?;
+    Ok(stranger_among(sender, packets.as_slice(), receiver.entries()))
+}
+
+/// Sets the offices of the two operators against each other: whether both are of one point, else
+/// `NotAPair`, and what was delivered to each, accepted or not, is what a saved fact of the other
+/// lets out to its peer, else `Stranger`, the first; `OutOfMemory`. Where it answers `Ok`, and what
+/// each first life opened with agrees with the other side, every quantity that either side has
+/// confirmed, or told in any reply, is the lower of the two that both froze.
+pub fn reconcile(
+    initiating: &Settled<Initiating>,
+    matching: &Settled<Matching>,
+) -> Result<(), Unreconciled>
+    ensures first { Reconciles initiating.now matching.now result }
+    ensures one_quantity { IfOk result (λ done. AgreeOnOneQuantity initiating.now matching.now) }
+{
+    initiating.known();
+    matching.known();
+    if initiating.desk().point() != matching.desk().point() {
+        return Err(Unreconciled::NotAPair);
+    }
+    if let Some(place) = stranger(initiating, matching)? {
+        return Err(Unreconciled::Stranger {
+            side: Side::I,
+            place,
+        });
+    }
+    if let Some(place) = stranger(matching, initiating)? {
+        return Err(Unreconciled::Stranger {
+            side: Side::M,
+            place,
+        });
+    }
+    Ok(())
+}
