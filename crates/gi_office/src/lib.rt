@@ -32,28 +32,31 @@
 //! Begin with [`Held`], which says what one call does, then [`Office`], which takes the lock for it;
 //! [`Seat`], [`Entry`], [`Note`] and [`Receipt`] are what a call leaves. [`Unsettled`] tells where a
 //! seat and the trail differ.
+//!
+//! Of offices that are over, those of one operator are put together by [`join_lives`], and those of the
+//! two operators set against each other by [`reconcile`]: what both confirmed and told is then one.
 #![tactic(auto)]
 
 mod comparing;
 mod copying;
 mod entry;
 mod held;
-mod look;
 mod joining;
 mod life_fault;
+mod look;
 mod note;
 mod office;
 mod office_fault;
 mod open_fault;
 mod receipt;
-mod save_fault;
 mod reconciling;
+mod save_fault;
 mod seat;
 mod seating;
 mod settled;
 mod settling;
-mod turn;
 mod stretch;
+mod turn;
 mod unreconciled;
 mod unsettled;
 mod waited;
@@ -61,21 +64,19 @@ mod writing;
 
 pub use entry::Entry;
 pub use held::{Held, MOST_SEATS};
-pub use look::Look;
 pub use joining::join_lives;
 pub use life_fault::LifeFault;
+pub use look::Look;
 pub use note::Note;
 pub use office::Office;
 pub use office_fault::OfficeFault;
 pub use open_fault::OpenFault;
 pub use receipt::Receipt;
+pub use reconciling::reconcile;
 pub use save_fault::SaveFault;
 pub use seat::{MOST_NOTES, Seat};
 pub use settled::Settled;
 pub use turn::Turn;
-pub use reconciling::reconcile;
-pub use seat::{MOST_NOTES, Seat};
-pub use settled::Settled;
 pub use unreconciled::Unreconciled;
 pub use unsettled::Unsettled;
 pub use waited::Waited;
