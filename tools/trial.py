@@ -9,10 +9,10 @@ from edits import placed, text_of
 
 
 class Trial:
-    """A copy of a crate in which edits are put in place and checked, over what the checks before proved."""
+    """A copy of a crate in which edits are put in place and checked by so many jobs, over what the checks before proved."""
 
-    def __init__(self, crate, room):
-        self.crate, self.room = crate, room
+    def __init__(self, crate, room, jobs=1):
+        self.crate, self.room, self.jobs = crate, room, jobs
 
     def said(self, changes, functions, copies=()):
         """What a check of these functions says where the crate has these changes, and for the functions of which there is a copy
@@ -29,7 +29,7 @@ class Trial:
         for parts, name in copies:
             self.copy_proof(parts, name)
         only = [word for it in sorted(functions) for word in ("--only", it)]
-        words = [kit.rtlib.RATTLE, "check", *self.crate.words(["--jobs", "1"], keeps=False)]
+        words = [kit.rtlib.RATTLE, "check", *self.crate.words(["--jobs", str(self.jobs)], keeps=False)]
         how = {"stdin": subprocess.DEVNULL, "capture_output": True, "text": True, "errors": "replace"}
         ran = subprocess.run([*kit.rtlib.guarded(), *words, "--incremental", f"{self.room}/kept", *only], cwd=self.room, **how)
         printed = ran.stdout + ran.stderr
