@@ -8,10 +8,10 @@ use Rattle.std.proofs.Math.Seq.{drop-append_seam, take-append_seam}
 use Rattle.gi_pairs.specs.declared.side.Side.{Side}
 use Rattle.gi_facts.specs.declared.fact.Fact.{Fact}
 use Rattle.gi_desk.specs.Machine.{DeskState}
-use Rattle.gi_office.specs.Joining.{AreKept, joined_of, life_from, lives_of, opening_of}
-use Rattle.gi_office.specs.Lives.{IsLegal, Life, opened}
+use Rattle.gi_office.specs.Joining.{AreKept, life_from, lives_of, opening_of}
+use Rattle.gi_office.specs.Lives.{Life, opened}
 use Rattle.gi_office.specs.Reconciling.{entries_of}
-use Rattle.gi_office.specs.Settling.{AreLegal, GoOnTo, GoesOn, SettledState}
+use Rattle.gi_office.specs.Settling.{AreLegal, GoOnTo, GoesOn}
 use Rattle.gi_office.specs.declared.entry.Entry.{Entry}
 use Rattle.gi_office.specs.declared.stretch.Stretch.{Stretch}
 use Rattle.gi_office.proofs.Later.{lives_later, opened_within, saved_grows}

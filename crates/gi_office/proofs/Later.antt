@@ -1,5 +1,5 @@
 -- A desk's state comes later than another: through calls, and from the end of a life to the opening of the next.
-use Rattle.std.proofs.Common.{append-nil, arith, ◌≡◌, ◌≤◌, ℕ, List, [], ◌∷◌, ◌++◌, length, take, Bool, Contains, true, refl, sym, ap, ◌∙◌, subst}
+use Rattle.std.proofs.Common.{append-nil, arith, ◌≡◌, ◌≤◌, ℕ, List, [], ◌∷◌, length, take, Bool, Contains, refl, sym, ap, ◌∙◌, subst}
 use Rattle.std.proofs.lemmas.List.{length-append, length-take-le}
 use Rattle.gi_pairs.specs.declared.side.Side.{Side}
 use Rattle.gi_facts.specs.declared.fact.Fact.{Fact}

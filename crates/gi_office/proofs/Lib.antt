@@ -8,4 +8,5 @@ mod Reconciled
 mod Runs
 mod Sames
 mod Sent
+mod Sessions
 mod Standing

@@ -5,21 +5,19 @@ use Rattle.gi_facts.specs.Same.{same_fact}
 use Rattle.gi_facts.specs.declared.fact.Fact.{Fact}
 use Rattle.gi_desk.specs.Judging.{if_same, marked}
 use Rattle.gi_desk.specs.Machine.{DeskState, answer_of, outcome, reply, unless_full}
-use Rattle.gi_desk.specs.declared.call.Call.TheVariants.{Halt, MarkSaved}
+use Rattle.gi_desk.specs.declared.call.Call.TheVariants.{MarkSaved}
 use Rattle.gi_desk.specs.declared.outcome.Outcome.{Outcome}
 use Rattle.gi_desk.specs.declared.outcome.Outcome.TheVariants.{Records, RepeatsNomination, RepeatsMeeting, Saves, Resends, Stops, Refuses}
 use Rattle.gi_desk.specs.declared.refusal.Refusal.{Refusal}
 use Rattle.gi_desk.specs.declared.refusal.Refusal.TheVariants as refusals
 use Rattle.gi_desk.specs.declared.reply.Answer.{Answer}
 use Rattle.gi_desk.specs.declared.reply.Answer.TheVariants as answers
-use Rattle.gi_store.specs.declared.store_fault.StoreFault.{StoreFault}
 use Rattle.gi_office.specs.Entering.{IsAnswered}
 use Rattle.gi_office.specs.Keeping.{IsFull, SeatState}
-use Rattle.gi_office.specs.Saving.{Halts, IsRefused, Marks, by_answer, turn_of}
+use Rattle.gi_office.specs.Saving.{IsRefused, Marks, by_answer, turn_of}
 use Rattle.gi_office.specs.declared.office_fault.OfficeFault.{OfficeFault}
 use Rattle.gi_office.specs.declared.office_fault.OfficeFault.TheVariants.{SeatFull}
 use Rattle.gi_office.specs.declared.receipt.Receipt.{Receipt}
-use Rattle.gi_office.specs.declared.save_fault.SaveFault.TheVariants as faults
 
 -- the fact of this number is saved, or the call is refused
 abbrev IsMark : ℕ → Outcome → Type 0
@@ -87,9 +85,3 @@ marks side n fact old (Ok receipt) new is =
       | inl saved ↦ subst (λ a. Marks side n fact old (by_answer receipt a) new) (sym saved) (from, is.gives.1, saved)
       | inr other ↦ subst (λ a. Marks side n fact old (by_answer receipt a) new) (sym other.1) (receipt, from, is.gives.1, other.1)
     ]
-
-pub halts : (side : Side) (fault : StoreFault) (old : SeatState) (receipt : Receipt) (new : SeatState) → IsAnswered side old Halt (Ok receipt) new → Halts side fault old (Err (faults.Store fault)) new
-halts side fault old receipt new is = (refl, receipt, is.gives.0, is.gives.1)
-
-pub halts_not : (side : Side) (fault : StoreFault) (old : SeatState) (by : OfficeFault) (new : SeatState) → IsAnswered side old Halt (Err by) new → Halts side fault old (Err (faults.Office by)) new
-halts_not side fault old by new is = refused old by new is.full is.gives

@@ -1,11 +1,8 @@
 -- Where each delivery was sent, both last desks met what the other one froze; so what they confirm and told is the lower.
-use Rattle.std.proofs.Common.{arith, ◌≡◌, ◌≤◌, ◌⊎◌, inl, inr, ⊎_elim, ℕ, List, [], ◌∷◌, ◌++◌, length, take, filter, All, Bool, Contains, None, Option, Some, true, refl, sym, ap, ◌∙◌, subst}
+use Rattle.std.proofs.Common.{arith, ◌≡◌, ◌≤◌, ◌⊎◌, ⊎_elim, ℕ, List, [], ◌∷◌, ◌++◌, length, take, filter, All, Contains, None, Option, Some, true, refl, sym, ◌∙◌, subst}
 use Rattle.std.specs.Prelude.{MatchOption}
-use Rattle.std.specs.List.{flat_map}
 use Rattle.std.proofs.lemmas.Grind.{flat_map-append}
 use Rattle.std.proofs.lemmas.List.Elements.{All-contains, All-contains_itself, All-weaker}
-use Rattle.gi_pairs.specs.Table.{TableContents}
-use Rattle.gi_pairs.specs.declared.cycle_id.CycleId.{CycleId}
 use Rattle.gi_pairs.specs.declared.side.Side.{Side}
 use Rattle.gi_pairs.specs.declared.side.Side.TheVariants.{I, M}
 use Rattle.gi_pairs.proofs.Building.{In, contains_from_in, in_from_contains}
@@ -14,14 +11,12 @@ use Rattle.gi_messages.specs.Decoding.{decoded}
 use Rattle.gi_facts.specs.declared.fact.Fact.{Fact}
 use Rattle.gi_desk.specs.History.{peer_of}
 use Rattle.gi_desk.specs.Machine.{DeskState, after, bad_fact, reply}
-use Rattle.gi_desk.specs.Queries.{confirmed}
 use Rattle.gi_desk.specs.Writable.{FitsDesk}
 use Rattle.gi_desk.specs.declared.call.Call.{Call}
 use Rattle.gi_desk.specs.declared.call.Call.TheVariants as calls
 use Rattle.gi_desk.specs.declared.packet.Packet.{Packet}
 use Rattle.gi_desk.specs.declared.reply.Reply.{Reply}
-use Rattle.gi_world.specs.Agreement.{FitsWorld, IsLegal as IsLegalDesk, IsLetOut, IsTold, MeetsFrozen}
-use Rattle.gi_world.specs.Confirming.{IsLowerOfFrozen}
+use Rattle.gi_world.specs.Agreement.{FitsWorld, IsLegal as IsLegalDesk, IsTold, MeetsFrozen}
 use Rattle.gi_world.specs.Histories.{fact_named_by, held, meeting_in}
 use Rattle.gi_world.specs.Telling.{TellsTheLower}
 use Rattle.gi_world.specs.World.{WorldState, other, station_of, tells}
@@ -33,10 +28,10 @@ use Rattle.gi_world.proofs.Meetings.{MayMeet, call_moved, meets_none, moved_met,
 use Rattle.gi_world.proofs.OneQuantity.{told-lower}
 use Rattle.gi_world.proofs.SentPackets.{all_kept, now}
 use Rattle.gi_office.specs.Lives.{IsLegal, IsRun, Life, opened}
-use Rattle.gi_office.specs.Reconciling.{AgreeOnOneQuantity, AreFrom, DeliveredIsSent, IsFrom, OneReconciledQuantity, OpensWithFrozen, WasSent, both_of, entries_of, said_in}
+use Rattle.gi_office.specs.Reconciling.{AgreeOnOneQuantity, DeliveredIsSent, IsFrom, OpensWithFrozen, WasSent, both_of, entries_of, said_in}
 use Rattle.gi_office.specs.Settling.{AreLegal, GoOnTo, GoesOn, SettledState}
 use Rattle.gi_office.specs.declared.entry.Entry.{Entry}
-use Rattle.gi_office.proofs.Later.{IsLater, life_later, lives_later, on_later, opened_within, run_later, still_let_out}
+use Rattle.gi_office.proofs.Later.{life_later, lives_later, on_later, opened_within, run_later, still_let_out}
 
 -- ---- what a delivery meets
 

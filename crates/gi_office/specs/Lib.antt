@@ -7,5 +7,7 @@ pub mod Lives
 pub mod Opening
 pub mod Reconciling
 pub mod Saving
+pub mod Serving
 pub mod Settling
 pub mod Waiting
+pub mod Working

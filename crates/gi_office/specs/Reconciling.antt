@@ -1,6 +1,6 @@
 -- Two offices that are over, set against each other: whether what each was delivered was sent by the other, and what both
 -- then agree on.
-use Rattle.std.specs.Prelude.{◌≡◌, ◌≤◌, ℕ, ◌-◌, List, [], ◌∷◌, filter, take, slice_get, All, Bool, true, ◌&&◌, Some, Result, Ok, Err}
+use Rattle.std.specs.Prelude.{◌≡◌, ◌≤◌, ℕ, ◌-◌, List, [], ◌∷◌, filter, take, slice_get, All, Bool, true, ◌&&◌, nat_eq, if◌then◌else◌, Option, None, Some, Result, Ok, Err}
 use Rattle.std.specs.List.{flat_map, list_any}
 use Rattle.std.specs.Str.{bytes_eq}
 use Rattle.gi_pairs.specs.Table.{TableContents}
@@ -40,6 +40,10 @@ AreFrom side s entries = All (λ (entry : Entry). IsFrom side s entry.call) entr
 -- all entries of lives, those of the first life first
 abbrev pub entries_of : List Life → List Entry
 entries_of lives = flat_map (λ (life : Life). life.trail) lives
+
+-- the one at a place, from 1
+abbrev pub entry_at : List Entry → ℕ → Option Entry
+entry_at entries place = if nat_eq place 0 then None else slice_get entries (place - 1)
 
 -- whatever was delivered to either side was sent by the other
 pub record DeliveredIsSent (ours theirs : SettledState) : Type 0 where

@@ -1,5 +1,5 @@
 -- How the lists of the seats stand to the trail.
-use Rattle.std.specs.Prelude.{◌≡◌, ◌≢◌, ◌≤◌, ℕ, ◌+◌, ◌-◌, List, [], ◌∷◌, length, map, sum, take, slice_get, find, Bool, nat_eq, if◌then◌else◌, Option, None, Some, option_map, MatchOption, Result, Ok, Err}
+use Rattle.std.specs.Prelude.{◌≡◌, ◌≢◌, ◌≤◌, ℕ, ◌+◌, ◌-◌, List, [], ◌∷◌, length, map, sum, take, slice_get, find, Bool, nat_eq, if◌then◌else◌, Option, Some, option_map, MatchOption, Result, Ok, Err}
 use Rattle.gi_pairs.specs.declared.side.Side.{Side}
 use Rattle.gi_facts.specs.declared.fact.Fact.{Fact}
 use Rattle.gi_desk.specs.Machine.{DeskState}

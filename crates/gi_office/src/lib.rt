@@ -12,7 +12,13 @@
 //!
 //! Whoever drives an office has these duties: to keep each seat to one thread at a time (a call takes
 //! it and gives it back); to send what a reply lets out, and nothing else; and at the end to hand all
-//! seats back to [`Office::settle`].
+//! seats back to [`Office::settle`]. Who makes turns that save ([`Office::save_turn`]) does so from a
+//! seat of its own, in one thread, always with the desk's own book, which is loaded: a fact is saved
+//! and lets out what it has by such a turn alone. It goes on until there is nothing to save, the desk
+//! is halted, or a turn answers a fault. Who serves sessions ([`Office::serve`]) gives each a seat of
+//! its own, and all submissions whose order matters to one session, since nothing is said of the order
+//! between two; it takes the seats back from what is served, after a fault too ([`Session::into_parts`],
+//! [`Served::into_parts`]).
 //!
 //! ```text
 //! let (office, mut seats) = Office::new(alloc, blank, desk, 2)?;
@@ -31,7 +37,7 @@
 //!
 //! Begin with [`Held`], which says what one call does, then [`Office`], which takes the lock for it;
 //! [`Seat`], [`Entry`], [`Note`] and [`Receipt`] are what a call leaves. [`Unsettled`] tells where a
-//! seat and the trail differ.
+//! seat and the trail differ. [`Session`], [`Gate`] and [`Served`] are for workers, one a seat.
 //!
 //! Of offices that are over, those of one operator are put together by [`join_lives`], and those of the
 //! two operators set against each other by [`reconcile`]: what both confirmed and told is then one.
@@ -40,6 +46,7 @@
 mod comparing;
 mod copying;
 mod entry;
+mod gate;
 mod held;
 mod joining;
 mod life_fault;
@@ -53,6 +60,7 @@ mod reconciling;
 mod save_fault;
 mod seat;
 mod seating;
+mod session;
 mod settled;
 mod settling;
 mod stretch;
@@ -60,9 +68,11 @@ mod turn;
 mod unreconciled;
 mod unsettled;
 mod waited;
+mod work;
 mod writing;
 
 pub use entry::Entry;
+pub use gate::Gate;
 pub use held::{Held, MOST_SEATS};
 pub use joining::join_lives;
 pub use life_fault::LifeFault;
@@ -75,6 +85,7 @@ pub use receipt::Receipt;
 pub use reconciling::reconcile;
 pub use save_fault::SaveFault;
 pub use seat::{MOST_NOTES, Seat};
+pub use session::{Served, Session};
 pub use settled::Settled;
 pub use turn::Turn;
 pub use unreconciled::Unreconciled;

@@ -7,6 +7,7 @@ ghost use Rattle.gi_office.specs.Waiting.{number_in};
 ghost use Rattle.gi_desk.specs.declared.call.Call.TheVariants as calls;
 
 mod saving;
+mod serving;
 
 use crate::held::Held;
 use crate::office_fault::OfficeFault;
@@ -91,7 +92,19 @@ impl<R: Role, L: Ledger> Office<R, L> {
         Ok((office, places))
     }
 
-    /// Takes the lock and makes one call, which `Held::enter` answers.
+    /// Takes the lock and makes one call from the seat, which `Held::enter` answers.
+    fn ask_from<W: Wait>(
+        &self,
+        rt: &W,
+        seat: &mut Seat<L>,
+        call: Call,
+    ) -> Result<Receipt, OfficeFault>
+        ensures { IsAnswered R.SIDE seat.old call result seat.new }
+    {
+        asked(&mut *self.held.lock(rt), seat, call)
+    }
+
+    /// The same, from a seat that is handed over and given back.
     fn ask<W: Wait>(
         &self,
         rt: &W,
@@ -101,7 +114,7 @@ impl<R: Role, L: Ledger> Office<R, L> {
         ensures { IsAnswered R.SIDE seat call result.1 result.0 }
     {
         let mut seat = seat;
-        let answer = asked(&mut *self.held.lock(rt), &mut seat, call);
+        let answer = self.ask_from(rt, &mut seat, call);
         (seat, answer)
     }
 

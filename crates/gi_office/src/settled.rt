@@ -1,8 +1,9 @@
 ghost use Rattle.std.specs.Prelude.{◌≡◌, ◌≤◌, None, length, take};
+ghost use Rattle.std.specs.Option.{option_map};
 ghost use Rattle.gi_desk.specs.Machine.{bad_fact};
 ghost use Rattle.gi_desk.specs.Writable.{FitsDesk};
 ghost use Rattle.gi_office.specs.Joining.{opening_of};
-ghost use Rattle.gi_office.specs.Reconciling.{entries_of};
+ghost use Rattle.gi_office.specs.Reconciling.{entries_of, entry_at};
 ghost use Rattle.gi_office.specs.Settling.{AreLegal};
 
 use crate::entry::Entry;
@@ -42,6 +43,23 @@ impl<R: Role> Settled<R> {
         ensures legal { AreLegal R.SIDE self.now.lives self.now.desk }
     {
         &self.desk
+    }
+
+    /// How many entries its lives have, all together.
+    pub fn len(&self) -> u64
+        ensures { result ≡ length (entries_of self.now.lives) }
+    {
+        self.entries().len() as u64
+    }
+
+    /// The entry at this place, from 1 through all its lives, those of the first life first.
+    pub fn entry(&self, place: u64) -> Option<&Entry>
+        ensures { option_map (λ entry. entry.now) result ≡ entry_at (entries_of self.now.lives) place }
+    {
+        if place == 0 {
+            return None;
+        }
+        self.entries().get(place as usize - 1)
     }
 
     /// All entries of its lives, those of the first life first.

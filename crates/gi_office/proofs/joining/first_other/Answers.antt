@@ -1,4 +1,4 @@
-use Rattle.std.proofs.Common.{◌≡◌, ◌+◌, ◌<◌, length, sym, ◌∙◌, arith}
+use Rattle.std.proofs.Common.{◌≡◌, ◌+◌, sym, ◌∙◌, arith}
 use Rattle.gi_desk.specs.Queries.{fact_at}
 use Rattle.gi_office.proofs.Breaking.{one_same}
 use Rattle.gi_office.proofs.joining.first_other.Goals as goal

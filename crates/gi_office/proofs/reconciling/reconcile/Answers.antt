@@ -1,4 +1,4 @@
-use Rattle.std.proofs.Common.{rules, ◌≡◌, ℕ, Option, None}
+use Rattle.std.proofs.Common.{rules, ◌≡◌, ℕ, None}
 use Rattle.gi_pairs.specs.declared.side.Side.TheVariants.{I, M}
 use Rattle.gi_office.specs.Reconciling.{AreFrom, IsStranger, entries_of}
 use Rattle.gi_office.proofs.Reconciled.{none-there, reconciled}
