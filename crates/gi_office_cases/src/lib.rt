@@ -1,0 +1,7 @@
+//! Offices that are called from their seats, one call after the other, the books that their facts are
+//! saved in, and what is left of them: what the cases about them call.
+#![tactic(auto)]
+
+mod offices;
+
+pub use offices::office_answers;

@@ -1,0 +1,114 @@
+//! The offices of a file of cases: `I` and `later` are of the initiating side, `M` is of the matching
+//! side.
+
+ghost use Rattle.std.specs.Prelude.{◌≡◌};
+
+mod calls;
+mod opened;
+mod opening;
+mod saving;
+mod seats;
+mod texts;
+
+use crate::offices::opened::Opened;
+use gi_calls::{Fault, Subject, Words, answered};
+use gi_initiator::Initiating;
+use gi_matcher::Matching;
+use gi_office::{join_lives, reconcile};
+use std::fmt::Write;
+use std::marker::Brand;
+use std::sync::Wait;
+use std::sync::ledger::{Blank, Ledger};
+
+/// The calls of the subject `offices`.
+#[derive(Drop)]
+struct Offices<'a, A: Ledger, B: Ledger, C: Ledger, W: Wait> {
+    handle: &'a W,
+    former: Opened<Initiating, A>,
+    later: Opened<Initiating, B>,
+    matching: Opened<Matching, C>,
+}
+
+impl<'a, A: Ledger, B: Ledger, C: Ledger, W: Wait> Offices<'a, A, B, C, W> {
+    /// Joins the lives of `I` and of `later`, once both are settled; they are those of `I` then.
+    fn join_lives(&mut self, text: &mut String) -> Result<bool, Fault> {
+        let (Some(former), Some(later)) = (self.former.settled.take(), self.later.settled.take())
+        else {
+            return Ok(false);
+        };
+        match join_lives(former, later) {
+            Ok(joined) => {
+                self.former.settled = Some(joined);
+                text.push_str("ok")?;
+            }
+            Err(fault) => write!(text, "{fault}")?,
+        }
+        Ok(true)
+    }
+
+    /// Sets `I` and `M` against each other, once both are settled.
+    fn reconcile(&self, text: &mut String) -> Result<bool, Fault> {
+        let (Some(initiating), Some(matching)) = (&self.former.settled, &self.matching.settled)
+        else {
+            return Ok(false);
+        };
+        match reconcile(initiating, matching) {
+            Ok(()) => text.push_str("ok")?,
+            Err(fault) => write!(text, "{fault}")?,
+        }
+        Ok(true)
+    }
+}
+
+impl<'a, A: Ledger, B: Ledger, C: Ledger, W: Wait> Subject for Offices<'a, A, B, C, W> {
+    fn answer(&mut self, rt: &HostRuntime, call: &str, text: &mut String) -> Result<bool, Fault> {
+        let alloc = rt.alloc();
+        let handle = self.handle;
+        let mut words = Words::of(call);
+        match words.next() {
+            "I" => self.former.answer(handle, alloc, words.rest(), text),
+            "later" => self.later.answer(handle, alloc, words.rest(), text),
+            "M" => self.matching.answer(handle, alloc, words.rest(), text),
+            "join_lives" => self.join_lives(text),
+            "reconcile" => self.reconcile(text),
+            _ => Ok(false),
+        }
+    }
+}
+
+/// The cases with their answers, of offices of these ledgers.
+fn answers_of<A: Ledger, B: Ledger, C: Ledger, W: Wait>(
+    rt: &HostRuntime,
+    handle: &W,
+    former: Blank,
+    later: Blank,
+    matching: Blank,
+    cases: &String,
+) -> Result<String, Fault>
+    requires former { (former.name ≡ A.name) × (former.parts ≡ A.parts) × (former.parts ≡ 16) }
+    requires later { (later.name ≡ B.name) × (later.parts ≡ B.parts) × (later.parts ≡ 16) }
+    requires matching { (matching.name ≡ C.name) × (matching.parts ≡ C.parts) × (matching.parts ≡ 16) }
+{
+    let alloc = rt.alloc();
+    let subject = Offices {
+        handle,
+        former: Opened::<Initiating, A>::of(alloc, former),
+        later: Opened::<Initiating, B>::of(alloc, later),
+        matching: Opened::<Matching, C>::of(alloc, matching),
+    };
+    answered(rt, subject, cases.as_str())
+}
+
+/// The cases with their answers.
+pub fn office_answers<W: Wait>(rt: &HostRuntime, handle: &W, cases: &str) -> Result<String, Fault> {
+    // (the ledgers are picked at a call without a `&str`)
+    let cases = cases.to_string(rt.alloc())?;
+    answers_of::<Brand, Brand, Brand, W>(
+        rt,
+        handle,
+        Blank::new(16),
+        Blank::new(16),
+        Blank::new(16),
+        &cases,
+    )
+}

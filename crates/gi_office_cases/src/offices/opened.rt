@@ -1,0 +1,221 @@
+//! One office: its seats, the receipts that they were given, the book that its facts are saved in,
+//! and what is left of it.
+
+ghost use Rattle.std.specs.Prelude.{◌≡◌};
+
+use super::calls::call_of;
+use super::opening::{Unopened, opened};
+use super::saving::{book_call, fact_of, new_book, turn_text};
+use super::seats::{asked, taken};
+use super::texts::{add_answered, add_settled};
+use gi_calls::{Fault, Words};
+use gi_desk::{Fact, Role};
+use gi_office::{Office, Receipt, Seat, Settled};
+use gi_store::BookStore;
+use sqlite::MemStore;
+use std::alloc::Global;
+use std::fmt::Write;
+use std::sync::Wait;
+use std::sync::ledger::{Blank, Ledger};
+
+/// An office as far as it is.
+#[derive(Drop)]
+pub struct Opened<R: Role, L: Ledger> {
+    unopened: Option<Unopened<L>>,
+    /// What its desk is opened with.
+    facts: Vec<Fact>,
+    office: Option<Office<R, L>>,
+    seats: Vec<Seat<L>>,
+    /// All that its calls were given, in their order.
+    receipts: Vec<Receipt>,
+    book: Option<BookStore<MemStore>>,
+    pub settled: Option<Settled<R>>,
+}
+
+impl<R: Role, L: Ledger> Opened<R, L> {
+    pub fn of(alloc: Global, blank: Blank) -> Opened<R, L>
+        requires name { blank.name ≡ L.name }
+        requires whole { blank.parts ≡ L.parts }
+        requires parts { blank.parts ≡ 16 }
+    {
+        Opened {
+            unopened: Some(Unopened::of(blank)),
+            facts: Vec::new(alloc),
+            office: None,
+            seats: Vec::new(alloc),
+            receipts: Vec::new(alloc),
+            book: None,
+            settled: None,
+        }
+    }
+
+    /// Adds a fact to what the desk is opened with.
+    fn add_fact(&mut self, alloc: Global, fact: &str, text: &mut String) -> Result<bool, Fault> {
+        let Ok(fact) = fact_of(alloc, fact) else {
+            return Ok(false);
+        };
+        self.facts.push(fact)?;
+        text.push_str("ok")?;
+        Ok(true)
+    }
+
+    /// Opens it, once: the words are its point and how many seats it has.
+    fn open(&mut self, alloc: Global, words: Words<'_>, text: &mut String) -> Result<bool, Fault> {
+        let mut words = words;
+        let (Some(point), Some(count)) = (words.code(), words.number()) else {
+            return Ok(false);
+        };
+        let Some(unopened) = self.unopened.take() else {
+            return Ok(false);
+        };
+        let facts = std::mem::replace(&mut self.facts, Vec::new(alloc));
+        match opened(alloc, unopened, point, facts, count as usize, text)? {
+            Some((office, seats)) => {
+                self.office = Some(office);
+                self.seats = seats;
+                text.push_str("ok")?;
+            }
+            None => {}
+        }
+        Ok(true)
+    }
+
+    /// Makes a call from a seat.
+    fn call<W: Wait>(
+        &mut self,
+        handle: &W,
+        alloc: Global,
+        line: &str,
+        text: &mut String,
+    ) -> Result<bool, Fault> {
+        let Some((number, call)) = call_of(alloc, line)? else {
+            return Ok(false);
+        };
+        let (Some(office), Some(seat)) = (&self.office, taken(&mut self.seats, number)) else {
+            return Ok(false);
+        };
+        let (seat, answer) = asked(handle, office, seat, call);
+        self.seats.push(seat)?;
+        add_answered(&answer, text)?;
+        if let Ok(receipt) = answer {
+            self.receipts.push(receipt)?;
+        }
+        Ok(true)
+    }
+
+    /// Makes a turn that saves from a seat.
+    fn save<W: Wait>(
+        &mut self,
+        handle: &W,
+        alloc: Global,
+        number: u8,
+        text: &mut String,
+    ) -> Result<bool, Fault> {
+        let (Some(office), Some(book)) = (&self.office, &mut self.book) else {
+            return Ok(false);
+        };
+        let Some(seat) = taken(&mut self.seats, number) else {
+            return Ok(false);
+        };
+        let (seat, turn) = office.save_turn(handle, seat, book);
+        self.seats.push(seat)?;
+        text.push_str(turn_text(alloc, turn)?.as_str())?;
+        Ok(true)
+    }
+
+    /// Waits for the fact of the receipt of this place.
+    fn wait<W: Wait>(&self, handle: &W, place: u64, text: &mut String) -> Result<bool, Fault> {
+        let receipt = self.receipts.iter().find(|it| it.place == place);
+        let (Some(office), Some(receipt)) = (&self.office, receipt) else {
+            return Ok(false);
+        };
+        write!(text, "{:?}", office.wait_saved(handle, receipt))?;
+        Ok(true)
+    }
+
+    /// How many calls a seat noted.
+    fn count_notes(&self, number: u8, text: &mut String) -> Result<bool, Fault> {
+        let Some(seat) = self.seats.iter().find(|it| it.number() == number) else {
+            return Ok(false);
+        };
+        write!(text, "{}", seat.notes().len())?;
+        Ok(true)
+    }
+
+    /// Loses a seat.
+    fn lose(&mut self, number: u8, text: &mut String) -> Result<bool, Fault> {
+        let seat = taken(&mut self.seats, number);
+        if seat.is_none() {
+            return Ok(false);
+        }
+        text.push_str("ok")?;
+        Ok(true)
+    }
+
+    /// Settles it with the seats that are here.
+    fn settle(&mut self, alloc: Global, text: &mut String) -> Result<bool, Fault> {
+        let Some(office) = self.office.take() else {
+            return Ok(false);
+        };
+        let seats = std::mem::replace(&mut self.seats, Vec::new(alloc));
+        let settled = office.settle(seats);
+        add_settled(&settled, text)?;
+        self.settled = settled.ok();
+        Ok(true)
+    }
+
+    /// Makes a call whose word a number follows.
+    fn numbered<W: Wait>(
+        &mut self,
+        handle: &W,
+        alloc: Global,
+        word: &str,
+        number: u8,
+        text: &mut String,
+    ) -> Result<bool, Fault> {
+        match word {
+            "save_turn" => self.save(handle, alloc, number, text),
+            "wait_saved" => self.wait(handle, u64::from(number), text),
+            "notes" => self.count_notes(number, text),
+            "lose" => self.lose(number, text),
+            _ => Ok(false),
+        }
+    }
+
+    /// Opens a book in memory, or makes a call on it.
+    fn call_book(&mut self, alloc: Global, line: &str, text: &mut String) -> Result<bool, Fault> {
+        if line == "book" {
+            self.book = new_book(alloc);
+            text.push_str("ok")?;
+            return Ok(true);
+        }
+        match &mut self.book {
+            Some(book) => book_call(alloc, book, line, text),
+            None => Ok(false),
+        }
+    }
+
+    /// Makes the call of a line and adds its answer. `false` where it is none.
+    pub fn answer<W: Wait>(
+        &mut self,
+        handle: &W,
+        alloc: Global,
+        line: &str,
+        text: &mut String,
+    ) -> Result<bool, Fault> {
+        let mut words = Words::of(line);
+        let word = words.next();
+        match word {
+            "fact" => return self.add_fact(alloc, words.rest(), text),
+            "open" => return self.open(alloc, words, text),
+            "settle" => return self.settle(alloc, text),
+            _ => {}
+        }
+        if let Some(number) = words.byte() {
+            if self.numbered(handle, alloc, word, number, text)? {
+                return Ok(true);
+            }
+        }
+        Ok(self.call(handle, alloc, line, text)? || self.call_book(alloc, line, text)?)
+    }
+}

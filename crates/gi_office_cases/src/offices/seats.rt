@@ -1,0 +1,34 @@
+//! Calls from the seats.
+
+use gi_desk::{Call, Role};
+use gi_office::{Office, OfficeFault, Receipt, Seat};
+use std::sync::Wait;
+use std::sync::ledger::Ledger;
+
+/// Takes the seat of this number.
+pub fn taken<L: Ledger>(seats: &mut Vec<Seat<L>>, number: u8) -> Option<Seat<L>> {
+    let place = seats.iter().position(|it| it.number() == number)?;
+    if place < seats.len() {
+        Some(seats.swap_remove(place))
+    } else {
+        None
+    }
+}
+
+/// Makes the call from the seat.
+pub fn asked<R: Role, L: Ledger, W: Wait>(
+    handle: &W,
+    office: &Office<R, L>,
+    seat: Seat<L>,
+    call: Call,
+) -> (Seat<L>, Result<Receipt, OfficeFault>) {
+    match call {
+        Call::Contract(contract) => office.contract(handle, seat, contract),
+        Call::Notice(notice) => office.notice(handle, seat, notice),
+        Call::Submit(body) => office.submit(handle, seat, body),
+        Call::Close(id) => office.close_cycle(handle, seat, id),
+        Call::Deliver(body) => office.deliver(handle, seat, body),
+        Call::Resend(id) => office.resend(handle, seat, id),
+        _ => office.halt(handle, seat),
+    }
+}
