@@ -8,15 +8,22 @@ use gi_calls::{Fault, answered};
 use gi_capacity_cases::{Nominations, Processing, Repeated};
 use gi_desk_cases::{Desks, Roles};
 use gi_message_cases::{Facts, Messages};
+use gi_office_cases::office_answers;
 use gi_script_cases::{Carriers, Reports, Scripts};
 use gi_table_cases::{Cycles, Days, Tables};
 use gi_world_cases::{Simulations, Worlds};
 use std::env;
 use std::io::{self, Write};
 use std::process::ExitCode;
+use std::sync::Wait;
 
-/// The cases with their answers, of the subject that the word names.
-fn answers(rt: &HostRuntime, subject: &str, cases: &str) -> Result<String, Fault> {
+/// The cases with their answers, of the subject that the word names. Offices may wait.
+fn answers<W: Wait>(
+    rt: &HostRuntime,
+    handle: &W,
+    subject: &str,
+    cases: &str,
+) -> Result<String, Fault> {
     let alloc = rt.alloc();
     match subject {
         "books" => answered(rt, Books::new(), cases),
@@ -27,6 +34,7 @@ fn answers(rt: &HostRuntime, subject: &str, cases: &str) -> Result<String, Fault
         "facts" => answered(rt, Facts::new(), cases),
         "messages" => answered(rt, Messages::new(), cases),
         "nominations" => answered(rt, Repeated::of(Nominations::new()), cases),
+        "offices" => office_answers(rt, handle, cases),
         "processing" => answered(rt, Repeated::of(Processing::new()), cases),
         "reports" => answered(rt, Reports::new(alloc), cases),
         "roles" => answered(rt, Roles::new(), cases),
@@ -48,17 +56,17 @@ fn subject_named(rt: &HostRuntime) -> Result<String, Fault> {
 }
 
 /// Reads the cases and prints them with their answers.
-fn run(rt: &HostRuntime) -> Result<(), Fault> {
+fn run<W: Wait>(rt: &HostRuntime, handle: &W) -> Result<(), Fault> {
     let subject = subject_named(rt)?;
     let cases = io::read_to_string(rt.alloc(), rt.stdin()).map_err(|_| Fault::Read)?;
-    let text = answers(rt, subject.as_str(), cases.as_str())?;
+    let text = answers(rt, handle, subject.as_str(), cases.as_str())?;
     rt.stdout()
         .write_all(text.as_bytes())
         .map_err(|_| Fault::Write)
 }
 
 fn main(rt: HostRuntime) -> ExitCode {
-    match run(&rt) {
+    match run(&rt, &rt) {
         Ok(()) => ExitCode::SUCCESS,
         Err(fault) => {
             let _ = writeln!(rt.stderr(), "gi_cases: {fault:?}");
