@@ -3,6 +3,10 @@
 #![tactic(auto)]
 
 #[cfg(test)]
+mod gates;
+#[cfg(test)]
 mod making;
+#[cfg(test)]
+mod sessions;
 #[cfg(test)]
 mod threads;

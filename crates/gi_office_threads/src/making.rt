@@ -55,3 +55,16 @@ pub fn new_book(alloc: Global) -> Option<BookStore<MemStore>> {
     book.load().ok()?;
     Some(book)
 }
+
+/// A book in memory that has all facts of the desk.
+pub fn book_of<R: Role>(alloc: Global, desk: &Desk<R>) -> Option<BookStore<MemStore>> {
+    let mut book = new_book(alloc)?;
+    for before in 0..desk.len() {
+        let n = before.wrapping_add(1);
+        let Some(fact) = desk.fact(n) else {
+            return None;
+        };
+        book.save_next(n, fact).ok()?;
+    }
+    Some(book)
+}
