@@ -1,20 +1,20 @@
 //! What is available to a portfolio, and what of its nomination is processed.
 
+mod one_by_one;
 mod reading;
 mod recorded;
 mod records;
 mod reducing;
-mod running_sums;
 
 use crate::hours_text::add_table;
 use gi_calls::{Fault, Subject, Words};
 use gi_pairs::{Code, Table};
 use gi_processing::{ContractFault, MOST_PERMILLE, MOST_PORTFOLIOS, NoticeFault};
+use one_by_one::reduce_triples;
 use reading::notice;
 use recorded::answer_recorded;
 use records::{Records, fault};
 use reducing::reduce;
-use running_sums::reduce_triples;
 use std::alloc::{AllocError, Global};
 use std::fmt::Write;
 

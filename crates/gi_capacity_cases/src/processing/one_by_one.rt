@@ -1,5 +1,5 @@
-//! Quantities in order of counterparty, reduced by running sums: a second program, which answers
-//! the same.
+//! Quantities in order of counterparty, reduced one by one, each from the sums of all quantities,
+//! of those before it and of those up to it: a second program, which answers the same.
 
 ghost use Rattle.std.specs.Prelude.{◌<◌};
 
@@ -9,23 +9,34 @@ use gi_pairs::Table;
 use std::alloc::{AllocError, Global};
 use std::fmt::Write;
 
-/// The quantities reduced to what is available.
-fn by_running_sums(quantities: [u64; 3], available: u64) -> [u64; 3] {
-    let mut total = 0u64;
-    for quantity in quantities {
+/// A sum scaled to what is available in place of the total, rounded down.
+fn scaled(available: u64, sum: u64, total: u64) -> u64 {
+    let whole = u128::from(available).wrapping_mul(u128::from(sum)) / u128::from(total).max(1);
+    u64::try_from(whole).unwrap_or(u64::MAX)
+}
+
+/// The quantity at a place, reduced to what is available.
+fn part_of(quantities: [u64; 3], place: usize, available: u64) -> u64
+    requires { place < 3 }
+{
+    let (mut total, mut before, mut up_to) = (0u64, 0u64, 0u64);
+    for other in 0..3 {
+        let quantity = quantities[other];
         total = total.wrapping_add(quantity);
+        before = before.wrapping_add(if other < place { quantity } else { 0 });
+        up_to = up_to.wrapping_add(if other <= place { quantity } else { 0 });
     }
     if total <= available {
-        return quantities;
+        return quantities[place];
     }
-    let (mut asked, mut given) = (0u64, 0u64);
+    scaled(available, up_to, total).wrapping_sub(scaled(available, before, total))
+}
+
+/// The quantities reduced to what is available.
+fn one_by_one(quantities: [u64; 3], available: u64) -> [u64; 3] {
     let mut parts = [0; 3];
     for place in 0..3 {
-        asked = asked.wrapping_add(quantities[place]);
-        let so_far = u128::from(available).wrapping_mul(u128::from(asked))
-            / u128::from(total).max(1);
-        parts[place] = (so_far as u64).wrapping_sub(given);
-        given = given.wrapping_add(parts[place]);
+        parts[place] = part_of(quantities, place, available);
     }
     parts
 }
@@ -86,13 +97,13 @@ fn has_parts(table: &Table, hour: usize, parts: [u64; 3]) -> bool {
     true
 }
 
-/// The first quantities of a day of which the table has other parts than running sums give.
+/// The first quantities of a day of which the table has other parts than they have one by one.
 fn other_parts(table: &Table, values: [u64; 6], day: usize, available: u64) -> Option<[u64; 3]>
     requires { day < 9 }
 {
     for hour in 0..24 {
         let quantities = three(values, day * 24 + hour);
-        if !has_parts(table, hour, by_running_sums(quantities, available)) {
+        if !has_parts(table, hour, one_by_one(quantities, available)) {
             return Some(quantities);
         }
     }
@@ -109,7 +120,7 @@ fn six_numbers(words: &mut Words<'_>) -> Option<[u64; 6]> {
 }
 
 /// Answers `AVAILABLE VALUE VALUE VALUE VALUE VALUE VALUE`: whether each three of the values, 24
-/// threes in the hours of one day, are reduced as by running sums.
+/// threes in the hours of one day, are reduced as one by one.
 pub(crate) fn reduce_triples(
     alloc: Global,
     mut words: Words<'_>,
@@ -128,10 +139,10 @@ pub(crate) fn reduce_triples(
             return Ok(false);
         };
         if let Some(quantities) = other_parts(&table, values, day, available) {
-            write!(text, "{quantities:?} not as by running sums")?;
+            write!(text, "{quantities:?} not as one by one")?;
             return Ok(true);
         }
     }
-    text.push_str("216 as by running sums")?;
+    text.push_str("216 as one by one")?;
     Ok(true)
 }
