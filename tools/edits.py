@@ -1,5 +1,6 @@
 """The edits of wrong bodies: what each changes, and the functions in which that stands. Each text that an edit looks for stands once
 in the file as it is, before any change."""
+import functools
 import os
 import re
 
@@ -19,7 +20,8 @@ def module_of(path):
 
 class Function:
     """A function of a crate's file: its name as a check prints it, and where in the file it starts and ends. A copy of it can stand
-    under it where it is no trait's and has no attribute, since what is proved of it is then of its own text alone."""
+    under it, with its lines `#[tactic(..)]`, where it is no trait's and has no other attribute, since what is proved of it is then of
+    its own text alone."""
 
     def __init__(self, crate, path, text, at):
         lines = text[:at].split("\n")
@@ -33,13 +35,14 @@ class Function:
             owner = owner_of(crate, path, header[1])
         self.parts = [*(owner or module_of(path)), self.own_name]
         self.name = "::".join([crate.name, *self.parts])
-        self.start = sum(len(it) + 1 for it in lines[:row])
+        first = next(it for it in range(row, -1, -1) if it == 0 or not lines[it - 1].strip().startswith("#[tactic("))
+        self.start = sum(len(it) + 1 for it in lines[:first])
         self.end = text.find(f"\n{found[1]}}}\n", self.start) + len(f"\n{found[1]}}}\n")
-        is_of_trait = header is not None and (" for " in header[1] or "trait " in header[0])
-        has_attribute = row > 0 and lines[row - 1].strip().startswith("#[")
-        has_one_line = text[self.start :].split("\n", 1)[0].endswith("}")
+        self.is_of_trait = header is not None and (" for " in header[1] or "trait " in header[0])
+        has_attribute = first > 0 and lines[first - 1].strip().startswith("#[")
+        has_one_line = text[len("\n".join(lines[:row])) :].lstrip("\n").split("\n", 1)[0].endswith("}")
         has_own_theorem = os.path.exists(f"{crate.folder}/proofs/{'/'.join(self.parts)}/Proof.antt")
-        self.can_be_copied = not (is_of_trait or has_attribute or has_one_line or has_own_theorem)
+        self.can_be_copied = not (self.is_of_trait or has_attribute or has_one_line or has_own_theorem)
 
     def copy(self, text, name, changes):
         """What puts a copy of the function of that name and with these changes under it: a change, and the copy's name."""
@@ -47,6 +50,18 @@ class Function:
         return (self.path, self.end, self.end, f"\n{copied}"), "::".join([*self.name.split("::")[:-1], name])
 
 
+def functions_of(crate):
+    """The functions of a crate's files."""
+    found = []
+    for at, _, names in os.walk(f"{crate.folder}/src"):
+        for name in names:
+            text, path = text_of(f"{at}/{name}"), os.path.relpath(f"{at}/{name}", crate.folder)
+            starts = re.finditer(FUNCTION.pattern, text, re.M)
+            found += [Function(crate, path, text, it.end()) for it in starts if name.endswith(".rt")]
+    return found
+
+
+@functools.cache
 def owner_of(crate, path, owner):
     """The path of an impl: its type's own for methods, and for a trait's the module's, with the trait's name at the type's."""
     plain = lambda it: "".join(word[0].upper() + word[1:] for word in re.findall(r"\w+", re.sub(r"'\w+|\w+::", "", it)))
@@ -64,11 +79,12 @@ def owner_of(crate, path, owner):
 
 class Edit:
     """A wrong body: in each place the file, where its text starts and ends, and the new text; the functions whose contracts have to
-    refuse it; and whether it reaches outside of their bodies, where it could break other functions too."""
+    refuse it; whether it reaches outside of their bodies, where it could break other functions too, and so is tried alone; and whether
+    what these functions call is to be proved in its trial."""
 
     def __init__(self, crate, folder, name):
         self.crate, self.name, self.changes, self.functions = crate, name.removesuffix(".edit"), [], {}
-        self.is_alone, by, path, old, text = False, None, "", "", ""
+        self.is_alone, self.is_whole, by, path, old, text = False, False, None, "", "", ""
         for line in text_of(f"{folder}/{name}").split("\n"):
             word, _, rest = line.partition(":")
             rest = rest.removeprefix(" ")

@@ -3,21 +3,25 @@ import os
 import re
 import shutil
 import subprocess
+import tempfile
+import time
 
 import kit
-from edits import placed, text_of
+from edits import functions_of, placed, text_of
 
 
 class Trial:
-    """A copy of a crate in which edits are put in place and checked by so many jobs, over what the checks before proved."""
+    """A copy of a crate in which edits are put in place and checked by so many jobs."""
 
     def __init__(self, crate, room, jobs=1):
         self.crate, self.room, self.jobs = crate, room, jobs
+        self.parts = {it.name: it.parts for it in functions_of(crate) if not it.is_of_trait}
 
-    def said(self, changes, functions, copies=()):
+    def said(self, changes, functions, copies=(), is_whole=True):
         """What a check of these functions says where the crate has these changes, and for the functions of which there is a copy
         also a copy of what helps to prove them: each function's verdict, or None where the check did not come to any, and what it
-        printed."""
+        printed. Where it is not whole all others have an empty proof, so that what these call costs nothing: they see its contract
+        alone, but the check may leave goals untried of a function that calls what is not proved."""
         for part in kit.rtlib.PARTS:
             shutil.rmtree(f"{self.room}/{part}", ignore_errors=True)
             if os.path.isdir(f"{self.crate.folder}/{part}"):
@@ -28,15 +32,43 @@ class Trial:
                 file.write(text)
         for parts, name in copies:
             self.copy_proof(parts, name)
+        others = {} if is_whole else {name: parts for name, parts in self.parts.items() if name not in functions}
+        folders = ["/".join(["proofs", *it, ""]) for it in others.values()]
+        for it in folders:
+            os.makedirs(f"{self.room}/{it}", exist_ok=True)
+            for file in os.listdir(f"{self.room}/{it}"):
+                if file in ("Answers.antt", "Invariants.antt"):
+                    os.remove(f"{self.room}/{it}{file}")
+            open(f"{self.room}/{it}Proof.antt", "w").close()
         only = [word for it in sorted(functions) for word in ("--only", it)]
         words = [kit.rtlib.RATTLE, "check", *self.crate.words(["--jobs", str(self.jobs)], keeps=False)]
-        how = {"stdin": subprocess.DEVNULL, "capture_output": True, "text": True, "errors": "replace"}
-        ran = subprocess.run([*kit.rtlib.guarded(), *words, "--incremental", f"{self.room}/kept", *only], cwd=self.room, **how)
-        printed = ran.stdout + ran.stderr
+        printed = self.printed([*kit.rtlib.guarded(), *words, *only])
+        printed = "\n".join(it for it in printed.split("\n") if not it.removeprefix("./").startswith(tuple(f"{at}Proof.antt" for at in folders)))
         # without that last line the check did not reach the proofs
         if not re.search(r"^only=\d+ proved=\d+$", printed, re.M) or kit.rtlib.STALE.search(printed):
             return None, printed
-        return dict(re.findall(r"^fn (\S+): (.*)", printed, re.M)), printed
+        return {name: verdict for name, verdict in re.findall(r"^fn (\S+): (.*)", printed, re.M) if name not in others}, printed
+
+    def printed(self, words):
+        """What the check prints. Where a function is not proved the checker would run once more, about as long as the proofs took, to
+        offer the goals that are left. For that it makes a folder in TMPDIR, and without one it gives up: so a file stands there as
+        soon as the check writes that the proofs were tried."""
+        folder, times = f"{self.room}/scratch", f"{self.room}/times"
+        os.makedirs(folder)
+        open(times, "w").close()
+        with tempfile.TemporaryFile("w+", errors="replace") as out, tempfile.TemporaryFile("w+", errors="replace") as faults:
+            how = {"stdin": subprocess.DEVNULL, "stdout": out, "stderr": faults, "cwd": self.room}
+            check = subprocess.Popen([*words, "--stage-times", times], env={**os.environ, "TMPDIR": folder}, **how)
+            while check.poll() is None and "stage session " not in (kit.rtlib.text_of(times) or ""):
+                time.sleep(0.02)
+            os.rename(folder, f"{folder}-aside")
+            open(folder, "w").close()
+            check.wait()
+            os.remove(folder)
+            shutil.rmtree(f"{folder}-aside")
+            for it in out, faults:
+                it.seek(0)
+            return out.read() + faults.read()
 
     def copy_proof(self, parts, name):
         """Copies the files that help to prove a function, for the copy of it under that name."""
