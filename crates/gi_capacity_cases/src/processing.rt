@@ -20,8 +20,8 @@ use std::fmt::Write;
 
 /// The calls of the subject `processing`.
 ///
-/// Of one side, which `new POINT` begins: `set` and a contract, `notice` and a notice, `knows
-/// PORTFOLIO DAY`, `available PORTFOLIO DAY DIRECTION HOUR`; `judge NOMINT`, and `take NOMINT`,
+/// Of one side, which `new POINT` begins: `set` and `refuses` with a contract, `notice` and a notice,
+/// `knows PORTFOLIO DAY`, `available PORTFOLIO DAY DIRECTION HOUR`; `judge NOMINT`, and `take NOMINT`,
 /// which takes what is recordable; `processed SIDE DAY CYCLE`, `row_count` with the same words, and
 /// then `at INITIATING MATCHING DIRECTION HOUR` in that table.
 ///

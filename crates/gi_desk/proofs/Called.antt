@@ -79,9 +79,9 @@ unmet-unclosed side facts id peer e =
 -- ---- want of memory
 
 pub learnt-wants : (o : Outcome) (call : Call) → IsTrue (learns_with_memory call) → wants_memory o call ≡ true
-learnt-wants o (Contract contract) learns = refl
 learnt-wants o (Submit body) learns = learns
 learnt-wants o (Deliver body) learns = learns
+learnt-wants o (Contract contract) learns = absurd cc
 learnt-wants o (Notice notice) learns = absurd cc
 learnt-wants o (Close id) learns = absurd cc
 learnt-wants o (Resend id) learns = absurd cc

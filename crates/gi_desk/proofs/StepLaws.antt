@@ -51,7 +51,7 @@ sized side s (MarkSaved n fact) e = tt
 sized side s Halt e = tt
 
 wants_by : (o : Outcome) (call : Call) → grows o ≡ true → (call ≡ Halt → ⊥) → IsSized call → wants_memory o call ≡ true
-wants_by o (Contract contract) e other size = refl
+wants_by o (Contract contract) e other size = e
 wants_by o (Notice notice) e other size = e
 wants_by o (Submit body) e other size = size
 wants_by o (Close id) e other size = e

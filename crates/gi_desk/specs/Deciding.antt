@@ -1,5 +1,5 @@
 -- What a desk makes of its peer's message, by the state of the cycle.
-use Rattle.std.specs.Prelude.{◌≡◌, ◌≤◌, ◌⊎◌, ℕ, ◌+◌, List, [], ◌∷◌, length, Bool, false, ◌&&◌, if◌then◌else◌, Option, Some, None, IsTrue}
+use Rattle.std.specs.Prelude.{◌≡◌, ◌≤◌, ◌⊎◌, ℕ, ◌+◌, List, [], ◌∷◌, length, Bool, false, if◌then◌else◌, Option, Some, None, IsTrue}
 use Rattle.jiff_core.specs.declared.civil.date.Date.{Date}
 use Rattle.gi_pairs.specs.Limits.{most_processed_rows}
 use Rattle.gi_pairs.specs.Row.{row_eq}
@@ -81,15 +81,22 @@ HasFewRows (Nomint message) = Unit {0}
 HasFewRows (Acknow message) = Unit {0}
 HasFewRows (Nomres message) = Unit {0}
 
--- to decide may want memory only once the cycle is closed, and for a table of its hours
-abbrev pub may_want : TableContents → CycleState → Bool
-may_want peer (Collecting id) = false
-may_want peer (Frozen cycle) = same_hours cycle.own peer
-may_want peer (Matched cycle) = same_hours cycle.own peer
+-- To decide on an order may want memory only where a frozen cycle meets a table of its hours, of which it takes a copy: what a
+-- cycle met is compared without any.
+abbrev pub order_may_want : TableContents → CycleState → Bool
+order_may_want peer (Collecting id) = false
+order_may_want peer (Frozen cycle) = same_hours cycle.own peer
+order_may_want peer (Matched cycle) = false
+
+-- to decide on a response may want it only once the cycle is closed, and for a table of its hours, whose lesser is taken
+abbrev pub response_may_want : TableContents → CycleState → Bool
+response_may_want peer (Collecting id) = false
+response_may_want peer (Frozen cycle) = same_hours cycle.own peer
+response_may_want peer (Matched cycle) = same_hours cycle.own peer
 
 abbrev pub may_want_at : CycleState → Message → Bool
-may_want_at state (Delord message) = may_want message.processed state
-may_want_at state (Delres message) = may_want message.processed state
+may_want_at state (Delord message) = order_may_want message.processed state
+may_want_at state (Delres message) = response_may_want message.processed state
 may_want_at state (Nomint message) = false
 may_want_at state (Acknow message) = false
 may_want_at state (Nomres message) = false

@@ -41,9 +41,9 @@ CanFollow side s (Resends id) = Unit {0}
 CanFollow side s Stops = Unit {0}
 CanFollow side s (Refuses refusal) = Unit {0}
 
--- the calls whose refusals may want memory to be learnt: of the contracts, of the book, or of a message
+-- the calls whose refusals may want memory to be learnt: those of a message, which has to be read
 abbrev pub learns_with_memory : Call → Bool
-learns_with_memory (Contract contract) = true
+learns_with_memory (Contract contract) = false
 learns_with_memory (Notice notice) = false
 learns_with_memory (Submit body) = can_be_read body
 learns_with_memory (Close id) = false

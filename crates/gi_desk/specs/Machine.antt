@@ -120,10 +120,10 @@ grows (Refuses refusal) = false
 abbrev pub can_be_read : List ℕ → Bool
 can_be_read body = nat_le (length body) most_bytes
 
--- A step may want memory on no halted desk, for no halt, for no message that is too large, and for no refused notice,
--- closing, resending or mark.
+-- A step may want memory on no halted desk, for no halt, for no message that is too large, and for no refused contract,
+-- notice, closing, resending or mark.
 abbrev pub wants_memory : Outcome → Call → Bool
-wants_memory o (Contract contract) = true
+wants_memory o (Contract contract) = grows o
 wants_memory o (Notice notice) = grows o
 wants_memory o (Submit body) = can_be_read body
 wants_memory o (Close id) = grows o

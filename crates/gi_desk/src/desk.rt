@@ -13,7 +13,9 @@ use crate::role::Role;
 use gi_cycles::CycleState;
 use gi_day::Calendar;
 use gi_facts::Fact;
+use gi_nominations::Book;
 use gi_pairs::Code;
+use gi_processing::Contracts;
 use std::alloc::Global;
 use std::marker::{Model, PhantomData};
 
@@ -24,6 +26,10 @@ pub struct Desk<R: Role> {
     calendar: Calendar,
     point: Code,
     facts: Vec<Fact>,
+    /// The nominations that the facts record.
+    book: Book,
+    /// The contracts and the notices that they record.
+    contracts: Contracts,
     /// How far each closed cycle is, in the order of their closings.
     states: Vec<CycleState>,
     /// How many facts stand on the store.
@@ -40,7 +46,7 @@ impl<R: Role> Model for Desk<R> {
 
     ghost view = { λ d. record { point = d.point; facts = d.facts.items; saved = d.saved; halted = d.halted } };
 
-    ghost invariant = { λ d. IsKept R.SIDE d.point d.facts.items d.states.items d.saved };
+    ghost invariant = { λ d. IsKept R.SIDE d.point d.facts.items d.states.items d.book d.contracts d.saved };
 }
 
 impl<R: Role> Desk<R> {

@@ -1,23 +1,16 @@
 //! What a list of facts says.
 
-ghost use Rattle.std.specs.Prelude.{length, ◌≤◌, ◌+◌, ◌≡◌, ◌++◌, ℕ, List, [], ◌∷◌, false, None, IfOk, OnOk};
-ghost use Rattle.gi_pairs.specs.declared.side.Side.{Side};
+ghost use Rattle.std.specs.Prelude.{length, ◌≤◌, ◌+◌, ◌≡◌, [], ◌∷◌, false, None, OnErr, OnOk};
 ghost use Rattle.gi_messages.specs.declared.message.Nomint.{Nomint};
-ghost use Rattle.gi_nominations.specs.Book.{IsNewer};
 ghost use Rattle.gi_processing.specs.Recording.{is_refused, notice_refusal, with_contract, with_notice};
-ghost use Rattle.gi_processing.specs.declared.contract.Contract.{Contract};
-ghost use Rattle.gi_processing.specs.declared.notice.Notice.{Notice};
-ghost use Rattle.gi_desk.specs.Machine.{bad_fact};
-ghost use Rattle.gi_facts.specs.declared.fact.Fact.TheVariants.{Contracted, Noticed, Nominated};
-ghost use Rattle.gi_desk.specs.History.{capacity_of, documents_of, is_closed as is_closed_in, is_closing, is_meeting, is_taking, last_closed as last_closed_of, number_of};
+ghost use Rattle.gi_desk.specs.History.{is_closed as is_closed_in, is_closing, is_meeting, is_taking, last_closed as last_closed_of, number_of};
 
 use gi_day::{Calendar, GasDay};
 use gi_facts::Fact;
 use gi_messages::Nomint;
-use gi_nominations::Book;
-use gi_pairs::{Code, CycleId};
+use gi_pairs::CycleId;
 use gi_processing::{Contract, ContractFault, Contracts, Notice, NoticeFault};
-use std::alloc::{AllocError, Global};
+use std::alloc::AllocError;
 
 fn closes(fact: &Fact, id: CycleId) -> bool
     ensures { result ≡ is_closing id fact.now }
@@ -106,9 +99,13 @@ pub(crate) fn last_closed(facts: &[Fact], day: GasDay) -> Option<u8>
     last
 }
 
-fn record_contract(contracts: &mut Contracts, contract: Contract) -> Result<(), AllocError>
+pub(crate) fn record_contract(
+    contracts: &mut Contracts,
+    contract: Contract,
+) -> Result<(), AllocError>
     requires { is_refused contract contracts.now.contracts ≡ false }
-    ensures { OnOk result (contracts.new ≡ with_contract contracts.old contract) }
+    ensures added { OnOk result (contracts.new ≡ with_contract contracts.old contract) }
+    ensures kept { OnErr result (contracts.new ≡ contracts.old) }
 {
     match contracts.set(contract) {
         Ok(()) => Ok(()),
@@ -117,13 +114,14 @@ fn record_contract(contracts: &mut Contracts, contract: Contract) -> Result<(), 
     }
 }
 
-fn record_notice(
+pub(crate) fn record_notice(
     contracts: &mut Contracts,
     calendar: &Calendar,
     notice: Notice,
 ) -> Result<(), AllocError>
     requires { notice_refusal notice ≡ None }
-    ensures { OnOk result (contracts.new ≡ with_notice contracts.old notice) }
+    ensures added { OnOk result (contracts.new ≡ with_notice contracts.old notice) }
+    ensures kept { OnErr result (contracts.new ≡ contracts.old) }
 {
     let Ok(frame) = calendar.frame(notice.day) else {
         unreachable!()
@@ -133,54 +131,4 @@ fn record_notice(
         Err(NoticeFault::OutOfMemory) => Err(AllocError),
         Err(NoticeFault::NoticeRange | NoticeFault::PermilleRange) => unreachable!(),
     }
-}
-
-fn record(contracts: &mut Contracts, calendar: &Calendar, fact: &Fact) -> Result<(), AllocError>
-    requires contract { (contract : Contract) → fact.now ≡ Contracted contract → is_refused contract contracts.now.contracts ≡ false }
-    requires notice { (notice : Notice) → fact.now ≡ Noticed notice → notice_refusal notice ≡ None }
-    ensures contracts { OnOk result (contracts.new.contracts ≡ contracts.old.contracts ++ (capacity_of (fact.now ∷ [])).contracts) }
-    ensures notices { OnOk result (contracts.new.notices ≡ contracts.old.notices ++ (capacity_of (fact.now ∷ [])).notices) }
-{
-    match fact {
-        Fact::Contracted(contract) => record_contract(contracts, *contract),
-        Fact::Noticed(notice) => record_notice(contracts, calendar, *notice),
-        _ => Ok(()),
-    }
-}
-
-pub(crate) fn contracts_at(
-    alloc: Global,
-    calendar: &Calendar,
-    facts: &[Fact],
-) -> Result<Contracts, AllocError>
-    requires legal { (side : Side) × (point : List ℕ) × (bad_fact side point facts.now ≡ None) }
-    ensures { IfOk result (λ contracts. contracts ≡ capacity_of facts.now) }
-{
-    let mut contracts = Contracts::new(alloc);
-    for fact in facts {
-        record(&mut contracts, calendar, fact)?;
-    }
-    Ok(contracts)
-}
-
-fn take(book: &mut Book, fact: &Fact) -> Result<(), AllocError>
-    requires { (document : Nomint) → fact.now ≡ Nominated document → IsNewer book.now.documents document }
-    ensures point { OnOk result (book.new.point ≡ book.old.point) }
-    ensures documents { OnOk result (book.new.documents ≡ book.old.documents ++ documents_of (fact.now ∷ [])) }
-{
-    match fact {
-        Fact::Nominated(document) => book.take(document.copy()?),
-        _ => Ok(()),
-    }
-}
-
-pub(crate) fn book_at(alloc: Global, point: Code, facts: &[Fact]) -> Result<Book, AllocError>
-    requires legal { (side : Side) × (bad_fact side point facts.now ≡ None) }
-    ensures { IfOk result (λ book. book ≡ record { point = point; documents = documents_of facts.now }) }
-{
-    let mut book = Book::new(alloc, point);
-    for fact in facts {
-        take(&mut book, fact)?;
-    }
-    Ok(book)
 }

@@ -1,6 +1,6 @@
 //! What each call comes to, by the facts of a desk.
 
-ghost use Rattle.std.specs.Prelude.{◌≡◌, ◌≤◌, ◌&&◌, ◌↔◌, IfOk, IfSome, IsTrue, List, Some, length, nat_le};
+ghost use Rattle.std.specs.Prelude.{◌≡◌, ◌≤◌, ◌&&◌, ◌↔◌, IfSome, IsTrue, List, Some, length, nat_le};
 ghost use Rattle.gi_desk.specs.History.{capacity_of, documents_of};
 ghost use Rattle.gi_desk.specs.Judging.{by_decision, by_verdict as by_verdict_of, closed as closed_of, contracted as contracted_of, if_same as if_same_fact, marked as marked_of, nominated as nominated_of, noticed as noticed_of, resent as resent_of, verdict_on};
 ghost use Rattle.gi_pairs.specs.Limits.{most_processed_rows};
@@ -23,21 +23,18 @@ use gi_facts::Fact;
 use gi_messages::{Message, Nomint};
 use gi_nominations::{Book, Setting, Verdict};
 use gi_pairs::{Code, CycleId, MOST_PROCESSED_ROWS, Side, Table};
-use gi_processing::{Contract, ContractFault, Contracts, Notice, NoticeFault};
-use std::alloc::{AllocError, Global};
+use gi_processing::{Contract, Contracts, Notice, NoticeFault};
 
 /// How many facts a desk has at most.
 pub const MOST_FACTS: usize = 1_000_000;
 
-pub(crate) fn contracted(contracts: Contracts, contract: &Contract) -> Result<Outcome, AllocError>
-    ensures { IfOk result (λ outcome. (facts : List Fact) → contracts ≡ capacity_of facts → outcome ≡ contracted_of facts contract.now) }
+pub(crate) fn contracted(contracts: &Contracts, contract: &Contract) -> Outcome
+    ensures { (facts : List Fact) → contracts.now ≡ capacity_of facts → result ≡ contracted_of facts contract.now }
 {
-    let mut contracts = contracts;
-    match contracts.set(*contract) {
-        Ok(()) => Ok(Outcome::Records(Fact::Contracted(*contract))),
-        Err(ContractFault::TooManyPortfolios) => Ok(Outcome::Refuses(Refusal::TooManyPortfolios)),
-        Err(ContractFault::OutOfMemory) => Err(AllocError),
+    if contracts.refuses(contract) {
+        return Outcome::Refuses(Refusal::TooManyPortfolios);
     }
+    Outcome::Records(Fact::Contracted(*contract))
 }
 
 pub(crate) fn noticed(calendar: &Calendar, notice: &Notice) -> Outcome

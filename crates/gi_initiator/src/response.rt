@@ -2,7 +2,7 @@ ghost use Rattle.std.specs.Prelude.{◌≡◌, ◌≤◌, IfErr, IfOk, IsTrue, l
 ghost use Rattle.std.specs.Option.{option_copied};
 ghost use Rattle.gi_pairs.specs.Limits.{most_processed_rows};
 ghost use Rattle.gi_pairs.specs.Table.{same_hours};
-ghost use Rattle.gi_desk.specs.Deciding.{IsUnlessShort, by_response, compared, may_want};
+ghost use Rattle.gi_desk.specs.Deciding.{IsUnlessShort, by_response, compared, response_may_want};
 ghost use Rattle.gi_initiator.specs.Taking.{taking};
 
 use gi_cycles::CycleState;
@@ -47,7 +47,7 @@ fn taken(
 /// are the same.
 pub fn take_response(alloc: Global, state: &CycleState, response: &Delres) -> Decision
     requires { length response.now.processed.rows ≤ most_processed_rows }
-    ensures { IsUnlessShort (may_want response.now.processed state.now) (by_response response.now.processed response.now.confirmed state.now) result }
+    ensures { IsUnlessShort (response_may_want response.now.processed state.now) (by_response response.now.processed response.now.confirmed state.now) result }
 {
     let decision = match state {
         CycleState::Collecting(_) => Ok(Decision::Refused(Refusal::NotClosed)),

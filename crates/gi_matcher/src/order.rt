@@ -1,4 +1,4 @@
-ghost use Rattle.gi_desk.specs.Deciding.{IsUnlessShort, by_order, may_want};
+ghost use Rattle.gi_desk.specs.Deciding.{IsUnlessShort, by_order, order_may_want};
 
 use gi_cycles::CycleState;
 use gi_desk::{Decision, Refusal, met_again};
@@ -7,9 +7,9 @@ use gi_messages::Delord;
 /// What comes of an order in a state of its cycle: `NotClosed` while nominations are collected;
 /// `ShapeDiffers` where its table is for other hours than the frozen one. A frozen cycle meets the
 /// table; a matched one has met it already, or answers `Conflict`. `OutOfMemory` comes only where
-/// the cycle is closed and the hours are the same.
+/// a frozen cycle would meet the table, which it copies.
 pub fn take_order(state: &CycleState, order: &Delord) -> Decision
-    ensures { IsUnlessShort (may_want order.now.processed state.now) (by_order order.now.processed state.now) result }
+    ensures { IsUnlessShort (order_may_want order.now.processed state.now) (by_order order.now.processed state.now) result }
 {
     let peer = &order.processed;
     match state {

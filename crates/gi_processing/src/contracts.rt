@@ -151,6 +151,14 @@ impl Contracts {
         Ok(())
     }
 
+    /// Whether a contract would be refused: its portfolio has none yet, on any day, and 64 portfolios
+    /// have one. It takes no memory.
+    pub fn refuses(&self, contract: &Contract) -> bool
+        ensures { result ≡ is_refused contract.now self.now.contracts }
+    {
+        is_too_many(&self.portfolios, contract.portfolio)
+    }
+
     /// Records a notice, under the frame of its day. The refusals, in their order, are `NoticeRange`,
     /// `PermilleRange` and `OutOfMemory`; after each nothing is changed.
     pub fn notice(&mut self, frame: &DayFrame, notice: Notice) -> Result<(), NoticeFault>

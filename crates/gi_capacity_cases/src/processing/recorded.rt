@@ -24,6 +24,14 @@ fn set(records: &mut Records, words: Words<'_>, text: &mut String) -> Result<boo
     }
 }
 
+fn refuses(records: &Records, words: Words<'_>, text: &mut String) -> Result<bool, Fault> {
+    match contract(words) {
+        Some(contract) => write!(text, "{}", records.contracts().refuses(&contract))?,
+        None => return Ok(false),
+    }
+    Ok(true)
+}
+
 fn give(records: &mut Records, words: Words<'_>, text: &mut String) -> Result<bool, Fault> {
     match notice(words) {
         Some(notice) => add_done(records.notice(notice), text),
@@ -82,6 +90,7 @@ pub(crate) fn answer_recorded(
 ) -> Result<bool, Fault> {
     match name {
         "set" => set(records, words, text),
+        "refuses" => refuses(records, words, text),
         "notice" => give(records, words, text),
         "knows" => knows(records, words, text),
         "available" => available(records, words, text),

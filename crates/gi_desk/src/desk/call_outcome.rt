@@ -11,7 +11,6 @@ ghost use Rattle.gi_facts.specs.declared.fact.Fact.TheVariants.{Met, Nominated};
 
 use crate::call::Call;
 use crate::desk::Desk;
-use crate::history::{book_at, contracts_at};
 use crate::judging::{
     addressed, can_meet, closed, contracted, decided, is_record, is_short, marked, nominated,
     noticed, resent, unless_full, verdict,
@@ -29,24 +28,24 @@ use gi_processing::Contracts;
 use std::alloc::AllocError;
 
 impl<R: Role> Desk<R> {
-    pub(super) fn contracts(&self) -> Result<Contracts, AllocError>
-        ensures { IfOk result (λ contracts. contracts ≡ capacity_of self.now.facts) }
+    pub(super) fn contracts(&self) -> &Contracts
+        ensures { result.now ≡ capacity_of self.now.facts }
     {
-        contracts_at(self.alloc, &self.calendar, &self.facts)
+        &self.contracts
     }
 
-    pub(super) fn book(&self) -> Result<Book, AllocError>
-        ensures { IfOk result (λ book. book ≡ record { point = self.now.point; documents = documents_of self.now.facts }) }
+    pub(super) fn book(&self) -> &Book
+        ensures { result.now ≡ record { point = self.now.point; documents = documents_of self.now.facts } }
     {
-        book_at(self.alloc, self.point, &self.facts)
+        &self.book
     }
 
-    fn nominated(&self, document: Nomint) -> Result<Outcome, AllocError>
-        ensures { IfOk result (λ outcome. outcome ≡ nominated_of self.now.point self.now.facts document) }
+    fn nominated(&self, document: Nomint) -> Outcome
+        ensures { result ≡ nominated_of self.now.point self.now.facts document }
     {
-        let book = self.book()?;
-        let contracts = self.contracts()?;
-        Ok(nominated(&self.calendar, &self.facts, &book, &contracts, document))
+        let book = self.book();
+        let contracts = self.contracts();
+        nominated(&self.calendar, &self.facts, book, contracts, document)
     }
 
     fn submitted(&self, bytes: &[u8]) -> Result<Outcome, AllocError>
@@ -54,7 +53,7 @@ impl<R: Role> Desk<R> {
         ensures short { IfErr result (λ _. IsTrue (can_be_read bytes.now)) }
     {
         match decode(self.alloc, bytes) {
-            Ok(Message::Nomint(document)) => self.nominated(document),
+            Ok(Message::Nomint(document)) => Ok(self.nominated(document)),
             Ok(_) => Ok(Outcome::Refuses(Refusal::WrongKind)),
             Err(MessageFault::OutOfMemory) => Err(AllocError),
             Err(fault) => Ok(Outcome::Refuses(Refusal::Message(fault))),
@@ -98,7 +97,7 @@ impl<R: Role> Desk<R> {
         ensures short { IfErr result (λ _. IsTrue (learns_with_memory call.now)) }
     {
         match call {
-            Call::Contract(contract) => contracted(self.contracts()?, contract),
+            Call::Contract(contract) => Ok(contracted(self.contracts(), contract)),
             Call::Notice(notice) => Ok(noticed(&self.calendar, notice)),
             Call::Submit(body) => self.submitted(body.as_slice()),
             Call::Close(id) => Ok(closed(&self.calendar, &self.facts, id)),
@@ -119,29 +118,25 @@ impl<R: Role> Desk<R> {
         Ok(unless_full(&self.facts, self.comes_to(call)?))
     }
 
-    pub(super) fn would_record(&self, fact: &Fact) -> Result<bool, AllocError>
-        ensures { IfOk result (λ would. would ≡ would_record_of R.SIDE self.now.point self.now.facts fact.now) }
+    pub(super) fn would_record(&self, fact: &Fact) -> bool
+        ensures { result ≡ would_record_of R.SIDE self.now.point self.now.facts fact.now }
     {
         match fact {
-            Fact::Contracted(contract) => Ok(is_record(&contracted(self.contracts()?, contract)?)),
-            Fact::Noticed(notice) => Ok(is_record(&noticed(&self.calendar, notice))),
+            Fact::Contracted(contract) => is_record(&contracted(self.contracts(), contract)),
+            Fact::Noticed(notice) => is_record(&noticed(&self.calendar, notice)),
             Fact::Nominated(document) => self.would_take(document),
-            Fact::Closed(id) => Ok(is_record(&closed(&self.calendar, &self.facts, id))),
-            Fact::Met { id, peer } => Ok(self.would_meet(id, peer)),
+            Fact::Closed(id) => is_record(&closed(&self.calendar, &self.facts, id)),
+            Fact::Met { id, peer } => self.would_meet(id, peer),
         }
     }
 
-    fn would_take(&self, document: &Nomint) -> Result<bool, AllocError>
-        ensures { IfOk result (λ would. would ≡ would_record_of R.SIDE self.now.point self.now.facts (Nominated document.now)) }
+    fn would_take(&self, document: &Nomint) -> bool
+        ensures { result ≡ would_record_of R.SIDE self.now.point self.now.facts (Nominated document.now) }
     {
-        let book = self.book()?;
-        let contracts = self.contracts()?;
-        let verdict = verdict(&self.calendar, &self.facts, &book, &contracts, document);
-        Ok(
-            verdict == Verdict::Recordable
-                && 1 <= document.version
-                && document.version <= LAST_VERSION,
-        )
+        let book = self.book();
+        let contracts = self.contracts();
+        let verdict = verdict(&self.calendar, &self.facts, book, contracts, document);
+        verdict == Verdict::Recordable && 1 <= document.version && document.version <= LAST_VERSION
     }
 
     fn would_meet(&self, id: &CycleId, peer: &Table) -> bool

@@ -1,24 +1,25 @@
 //! How a fact is recorded: what belongs together is grown before any of it is changed.
 
-ghost use Rattle.std.specs.Prelude.{◌≡◌, ◌<◌, ◌≤◌, ◌++◌, ◌∷◌, [], IfOk, OnErr, OnOk, false, length, true};
+ghost use Rattle.std.specs.Prelude.{◌≡◌, ◌<◌, ◌≤◌, ◌++◌, ◌∷◌, [], IfOk, OnErr, OnOk, length, true};
 ghost use Rattle.gi_day.specs.Cycles.{IsCycle};
 ghost use Rattle.gi_pairs.specs.Limits.{most_processed_rows};
 ghost use Rattle.gi_pairs.specs.Table.{IsTable};
 ghost use Rattle.gi_processing.specs.Processing.{processed as processed_of};
 ghost use Rattle.gi_desk.specs.History.{capacity_of, documents_of};
-ghost use Rattle.gi_desk.specs.Kept.{changes_cycle};
 ghost use Rattle.gi_desk.specs.Machine.{most_facts, would_record};
 ghost use Rattle.gi_facts.specs.Writable.{FitsFact};
-ghost use Rattle.gi_facts.specs.declared.fact.Fact.TheVariants.{Closed, Met};
+ghost use Rattle.gi_facts.specs.declared.fact.Fact.TheVariants.{Closed, Contracted, Met, Nominated, Noticed};
 
 use crate::desk::Desk;
+use crate::history::{record_contract, record_notice};
 use crate::ranges::fact_known;
 use crate::role::Role;
 use crate::stages::meet;
 use gi_cycles::{Collecting, CycleState};
 use gi_facts::Fact;
+use gi_messages::Nomint;
 use gi_pairs::{CycleId, Table};
-use gi_processing::processed;
+use gi_processing::{Contract, Notice, processed};
 use std::alloc::AllocError;
 
 impl<R: Role> Desk<R> {
@@ -29,9 +30,14 @@ impl<R: Role> Desk<R> {
         ensures table { IfOk result IsTable }
     {
         let frame = self.calendar.frame(id.day).unwrap();
-        let book = self.book()?;
-        let contracts = self.contracts()?;
-        processed(self.alloc, &book, &contracts, R::SIDE, &frame, id.cycle)
+        processed(
+            self.alloc,
+            self.book(),
+            self.contracts(),
+            R::SIDE,
+            &frame,
+            id.cycle,
+        )
     }
 
     fn freeze(&mut self, id: &CycleId) -> Result<(), AllocError>
@@ -67,15 +73,43 @@ impl<R: Role> Desk<R> {
         Ok(())
     }
 
-    fn add(&mut self, fact: Fact) -> Result<(), AllocError>
-        requires recorded { would_record R.SIDE self.now.point self.now.facts fact ≡ true }
+    fn contract(&mut self, contract: &Contract) -> Result<(), AllocError>
+        requires recorded { would_record R.SIDE self.now.point self.now.facts (Contracted contract.now) ≡ true }
         requires room { length self.now.facts < most_facts }
-        requires other { changes_cycle fact ≡ false }
-        requires fits { FitsFact fact }
-        ensures next { OnOk result (self.new ≡ record self.old { facts = self.old.facts ++ fact ∷ [] }) }
+        requires fits { FitsFact (Contracted contract.now) }
+        ensures next { OnOk result (self.new ≡ record self.old { facts = self.old.facts ++ Contracted contract.now ∷ [] }) }
         ensures kept { OnErr result (self.new ≡ self.old) }
     {
-        self.facts.push(fact)?;
+        self.facts.reserve(1)?;
+        record_contract(&mut self.contracts, *contract)?;
+        self.facts.push_reserved(Fact::Contracted(*contract));
+        Ok(())
+    }
+
+    fn notice(&mut self, notice: &Notice) -> Result<(), AllocError>
+        requires recorded { would_record R.SIDE self.now.point self.now.facts (Noticed notice.now) ≡ true }
+        requires room { length self.now.facts < most_facts }
+        requires fits { FitsFact (Noticed notice.now) }
+        ensures next { OnOk result (self.new ≡ record self.old { facts = self.old.facts ++ Noticed notice.now ∷ [] }) }
+        ensures kept { OnErr result (self.new ≡ self.old) }
+    {
+        self.facts.reserve(1)?;
+        record_notice(&mut self.contracts, &self.calendar, *notice)?;
+        self.facts.push_reserved(Fact::Noticed(*notice));
+        Ok(())
+    }
+
+    fn take(&mut self, document: Nomint) -> Result<(), AllocError>
+        requires recorded { would_record R.SIDE self.now.point self.now.facts (Nominated document) ≡ true }
+        requires room { length self.now.facts < most_facts }
+        requires fits { FitsFact (Nominated document) }
+        ensures next { OnOk result (self.new ≡ record self.old { facts = self.old.facts ++ Nominated document ∷ [] }) }
+        ensures kept { OnErr result (self.new ≡ self.old) }
+    {
+        let taken = document.copy()?;
+        self.facts.reserve(1)?;
+        self.book.take(taken)?;
+        self.facts.push_reserved(Fact::Nominated(document));
         Ok(())
     }
 
@@ -89,7 +123,9 @@ impl<R: Role> Desk<R> {
         match fact {
             Fact::Closed(id) => self.freeze(&id),
             Fact::Met { id, peer } => self.meet(&id, peer),
-            other => self.add(other),
+            Fact::Contracted(contract) => self.contract(&contract),
+            Fact::Noticed(notice) => self.notice(&notice),
+            Fact::Nominated(document) => self.take(document),
         }
     }
 

@@ -10,7 +10,9 @@ use crate::replay_fault::ReplayFault;
 use crate::role::Role;
 use gi_day::Calendar;
 use gi_facts::Fact;
+use gi_nominations::Book;
 use gi_pairs::Code;
+use gi_processing::Contracts;
 use std::alloc::Global;
 use std::marker::PhantomData;
 
@@ -23,6 +25,8 @@ impl<R: Role> Desk<R> {
             alloc,
             calendar,
             point,
+            book: Book::new(alloc, point),
+            contracts: Contracts::new(alloc),
             facts: Vec::new(alloc),
             states: Vec::new(alloc),
             saved: 0,
@@ -36,7 +40,7 @@ impl<R: Role> Desk<R> {
         ensures next { OnOk result (self.new ≡ record self.old { facts = self.old.facts ++ fact ∷ [] }) }
         ensures refused { (n : ℕ) → result ≡ Err (BadFact n) → (n ≡ length self.old.facts + 1) × (may_follow R.SIDE self.old.point self.old.facts fact ≡ false) }
     {
-        if self.facts.len() >= MOST_FACTS || !self.would_record(&fact)? {
+        if self.facts.len() >= MOST_FACTS || !self.would_record(&fact) {
             return Err(ReplayFault::BadFact(self.len() + 1));
         }
         Ok(self.record(fact)?)

@@ -24,6 +24,6 @@ invariant_of-self-2 g c =
     c.push_reserved.ensures.items ∙ ap (λ (ss : List CycleState). ss ++ Frozen c.close.result ∷ []) c.in_ok-reserve.ensures.items in
     let table = subst IsTable (sym c.close.ensures.own) c.in_ok-own.ensures.table in
     let few = subst (λ (t : TableContents). length t.rows ≤ most_processed_rows) (sym c.close.ensures.own) c.in_ok-own.ensures.few in
-    kept-closed side inside.point inside.facts.items inside.states.items inside.saved c.args.self.now id c.close.result c.push_reserved-2.new.self.items c.push_reserved.new.self.items
+    kept-closed side inside.point inside.facts.items inside.states.items inside.book inside.contracts inside.saved c.args.self.now id c.close.result c.push_reserved-2.new.self.items c.push_reserved.new.self.items
     c.self.invariant (ap (λ (s : DeskState). s.point) view) (ap (λ (s : DeskState). s.facts) view) c.requires.recorded c.requires.room
     c.requires.fits (record { table = table; few = few }) (c.close.ensures.id ∙ c.new.ensures) (c.close.ensures.own ∙ c.in_ok-own.ensures.value) facts states

@@ -4,7 +4,7 @@ use Rattle.gi_desk.specs.Machine.{DeskState}
 use Rattle.gi_facts.specs.declared.fact.Fact.{Fact}
 use Rattle.gi_facts.specs.declared.fact.Fact.TheVariants.{Met}
 use Rattle.gi_desk.proofs.Fitting.{states_fit-met}
-use Rattle.gi_desk.proofs.KeptLaws.{kept-legal, kept-more}
+use Rattle.gi_desk.proofs.KeptLaws.{kept-legal, kept-more, running-met}
 use Rattle.gi_desk.proofs.desk.Desk.meet.Goals as goal
 
 pub meet-requires : goal.meet-requires
@@ -29,6 +29,7 @@ invariant_of-self-2 g c =
     c.in_ok-meet.ensures.met side inside.point inside.facts.items c.self.invariant.stages legal in
     let facts : c.push_reserved.new.self.items ≡ inside.facts.items ++ fact ∷ [] =
     c.push_reserved.ensures.items ∙ (λ t. c.in_ok-reserve.ensures.items t ++ Met c.args.id.now (c.in_ok-copy.ensures t) ∷ []) in
-    kept-more side inside.point inside.facts.items inside.states.items inside.saved c.args.self.now fact c.push_reserved.new.self.items c.meet.new.states.items
+    kept-more side inside.point inside.facts.items inside.states.items inside.book inside.book inside.contracts inside.contracts inside.saved c.args.self.now fact c.push_reserved.new.self.items c.meet.new.states.items
     c.self.invariant point_is facts_is c.requires.recorded c.requires.room
     c.requires.fits (states_fit-met side inside.point inside.facts.items c.args.id.now c.args.peer legal c.self.invariant.fits.states c.requires.fits) facts stages
+    (running-met inside.point inside.facts.items inside.book inside.contracts c.args.id.now c.args.peer c.self.invariant.running)

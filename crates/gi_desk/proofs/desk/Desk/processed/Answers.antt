@@ -7,5 +7,5 @@ use Rattle.gi_desk.proofs.desk.Desk.processed.Goals as goal
 pub processed-requires-clause-sound : goal.processed-requires-clause-sound
 processed-requires-clause-sound g c =
     let inside = c.self.inside in
-    kept-sound g.R.Role.SIDE inside.point inside.facts.items c.args.self.now c.in_ok-contracts.contracts c.in_ok-book.book.documents c.unwrap-frame.result
-    c.self.invariant.legal (ap (λ (s : DeskState). s.facts) (sym c.self.view_is)) c.in_ok-contracts.ensures (ap (λ (d : Documents). d.documents) c.in_ok-book.ensures)
+    kept-sound g.R.Role.SIDE inside.point inside.facts.items c.args.self.now c.contracts.result.now c.book.result.now.documents c.unwrap-frame.result
+    c.self.invariant.legal (ap (λ (s : DeskState). s.facts) (sym c.self.view_is)) c.contracts.ensures (ap (λ (d : Documents). d.documents) c.book.ensures)
