@@ -1,5 +1,5 @@
 -- A turn that saves a fact: what it looks at, what it does to the book, and what its seat notes.
-use Rattle.std.specs.Prelude.{◌≡◌, ◌≢◌, ◌↔◌, ◌⊎◌, ℕ, ◌+◌, List, length, Option, None, Some, if◌then◌else◌, Result, Ok, Err, IsTrue, Contains}
+use Rattle.std.specs.Prelude.{◌≡◌, ◌≢◌, ◌↔◌, ◌⊎◌, ℕ, ◌+◌, ◌-◌, List, length, Option, None, Some, if◌then◌else◌, Result, Ok, Err, IsTrue, Contains}
 use Rattle.sqlite_value.specs.Order.{Row}
 use Rattle.sqlite_trees.specs.declared.store.Store.{Ghosts}
 use Rattle.sqlite.specs.State.{State}
@@ -116,9 +116,10 @@ turn_of (Err fault) = Err (faults.Office fault)
 
 -- ---- the turn
 
--- it stands in the book, and was to be marked
-pub record StandsMarked {S : Type 0} (side : Side) (store : Ghosts S) (after : BookState S) (n : ℕ) (fact : Fact) (old : SeatState) (result : Result Turn SaveFault) (new : SeatState) : Type 0 where
+-- It stands in the book, and was to be marked. A book that was not one fact ahead was one behind: it was saved as the next row.
+pub record StandsMarked {S : Type 0} (side : Side) (store : Ghosts S) (before after : BookState S) (n : ℕ) (fact : Fact) (old : SeatState) (result : Result Turn SaveFault) (new : SeatState) : Type 0 where
   pub stands : IsClean store after.connection → Stands n fact (state store after.connection)
+  pub behind : before.loaded ≢ Some n → before.loaded ≡ Some (n - 1)
   pub marks : Marks side n fact old result new
 
 -- the book refused it, or has another one there, and the desk was to be halted
@@ -131,7 +132,7 @@ pub record StandsNot {S : Type 0} (side : Side) (store : Ghosts S) (before after
 pub record Saves {S : Type 0} (side : Side) (store : Ghosts S) (before after : BookState S) (n : ℕ) (fact : Fact) (old : SeatState) (result : Result Turn SaveFault) (new : SeatState) : Type 0 where
   pub early : IsClean store after.connection → IsClean store before.connection
   pub writes : IsClean store after.connection → WritesAtMost n fact (state store before.connection) (state store after.connection)
-  pub told : StandsMarked side store after n fact old result new ⊎ StandsNot side store before after n fact old result new
+  pub told : StandsMarked side store before after n fact old result new ⊎ StandsNot side store before after n fact old result new
 
 -- what comes of what was seen
 abbrev pub Follows : {S : Type 0} → Side → Ghosts S → BookState S → BookState S → Look → SeatState → Result Turn SaveFault → SeatState → Type 0

@@ -22,11 +22,16 @@
 //!
 //! ```text
 //! let (office, mut seats) = Office::new(alloc, blank, desk, 2)?;
-//! let seat = seats.pop().unwrap();
+//! let (saver, seat) = (seats.pop().unwrap(), seats.pop().unwrap());
 //! let (seat, answer) = office.submit(&rt, seat, body);
 //! let receipt = answer?;                       // its place in the trail, and the desk's reply
-//! send(receipt.reply.out);
+//! send(receipt.reply.out);                     // a repeat of what is saved is answered at once
+//! let (saver, turn) = office.save_turn(&rt, saver, &mut book);
+//! if let Turn::Saved(receipt) = turn? {
+//!     send(receipt.reply.out);                 // what was saved is told, and not before
+//! }
 //! seats.push(seat)?;
+//! seats.push(saver)?;
 //! let settled = office.settle(seats)?;         // each reply is the desk's at its place in one life
 //! report(settled.desk());
 //! ```

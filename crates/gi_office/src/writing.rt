@@ -1,6 +1,6 @@
 //! What a turn does to the book, with no lock held: one call besides `count`.
 
-ghost use Rattle.std.specs.Prelude.{◌≡◌, ◌⊎◌, ◌↔◌, IfErr, IsTrue, OnOk, Some};
+ghost use Rattle.std.specs.Prelude.{◌≡◌, ◌≢◌, ◌⊎◌, ◌↔◌, ◌-◌, IfErr, IsTrue, OnOk, Some};
 ghost use Rattle.std.specs.Option.{option_copied};
 ghost use Rattle.sqlite.specs.Held.{state};
 ghost use Rattle.gi_facts.specs.Grammar.{IsWritable};
@@ -70,6 +70,7 @@ fn save<S: Alter>(book: &mut BookStore<S>, n: u32, fact: &Fact) -> Result<(), St
     ensures early { IsClean S.Store book.new.connection → IsClean S.Store book.old.connection }
     ensures stands { IsClean S.Store book.new.connection → OnOk result (Stands n fact.now (state S.Store book.new.connection)) }
     ensures answer { AnswersSave n book.old.loaded result }
+    ensures next { OnOk result (book.old.loaded ≡ Some (n - 1)) }
     ensures writes { IsClean S.Store book.new.connection → WritesAtMost n fact.now (state S.Store book.old.connection) (state S.Store book.new.connection) }
 {
     fact_round_trip();
@@ -86,6 +87,7 @@ pub(crate) fn write<S: Alter>(
     requires { IsWritable fact.now }
     ensures early { IsClean S.Store book.new.connection → IsClean S.Store book.old.connection }
     ensures stands { IsClean S.Store book.new.connection → OnOk result (Stands n fact.now (state S.Store book.new.connection)) }
+    ensures behind { book.old.loaded ≢ Some n → OnOk result (book.old.loaded ≡ Some (n - 1)) }
     ensures refused { IfErr result (IsWriteFault S.Store book.old book.new n fact.now) }
     ensures writes { IsClean S.Store book.new.connection → WritesAtMost n fact.now (state S.Store book.old.connection) (state S.Store book.new.connection) }
 {

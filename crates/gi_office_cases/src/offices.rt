@@ -38,7 +38,7 @@ impl<'a, A: Ledger, B: Ledger, C: Ledger, W: Wait> Offices<'a, A, B, C, W> {
         };
         match join_lives(former, later) {
             Ok(joined) => {
-                self.former.settled = Some(joined);
+                self.former.keep_settled(Some(joined));
                 text.push_str("ok")?;
             }
             Err(fault) => write!(text, "{fault}")?,

@@ -48,10 +48,15 @@ pub fn documents(alloc: Global, portfolio: &str, count: u32) -> Option<Vec<Body>
     Some(bodies)
 }
 
+/// A new book in memory, which is not loaded, so that it refuses each fact.
+pub fn opened_book(alloc: Global) -> Option<BookStore<MemStore>> {
+    let connection = Connection::open_in_memory(alloc).ok()?;
+    BookStore::open(alloc, connection).ok()
+}
+
 /// A new book in memory, which is loaded.
 pub fn new_book(alloc: Global) -> Option<BookStore<MemStore>> {
-    let connection = Connection::open_in_memory(alloc).ok()?;
-    let mut book = BookStore::open(alloc, connection).ok()?;
+    let mut book = opened_book(alloc)?;
     book.load().ok()?;
     Some(book)
 }

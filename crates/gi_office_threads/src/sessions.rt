@@ -197,11 +197,33 @@ fn first_once<L: Ledger + Send + Sync, R: Threads + Wait + Sync>(
     Some((first, settled.desk().len()))
 }
 
+/// Sessions without a document, and then no session: how many receipts the former got, and how many facts
+/// there are once the office is settled.
+fn idle<L: Ledger + Send + Sync, R: Threads + Wait + Sync>(
+    rt: &R,
+    alloc: Global,
+    office: Office<Initiating, L>,
+    seats: Vec<Seat<L>>,
+) -> Option<(u32, u32)> {
+    let (seats, receipts) = served(rt, alloc, &office, &FirstOnce, seats, 0)?;
+    let mut count: u32 = 0;
+    for given in &receipts {
+        count = count.checked_add(count_of(given.as_slice())?)?;
+    }
+    let (nobody, nothing) = served(rt, alloc, &office, &FirstOnce, Vec::new(alloc), 1)?;
+    if !nobody.is_empty() || !nothing.is_empty() {
+        return None;
+    }
+    let settled = office.settle(seats).ok()?;
+    Some((count, settled.desk().len()))
+}
+
 /// What sessions are tried.
 #[derive(Clone, Copy)]
 enum Trial {
     SecondFirst,
     FirstOnce,
+    Idle,
 }
 
 /// Serves sessions in one office, whose portfolios have contracts, which are saved.
@@ -218,6 +240,7 @@ fn done<L: Ledger + Send + Sync, R: Threads + Wait + Clock + Sync>(
     let (portfolios, count) = match trial {
         Trial::SecondFirst => (2, 3),
         Trial::FirstOnce => (16, 16),
+        Trial::Idle => (2, 3),
     };
     let desk = desk_of(alloc, contracts(alloc, portfolios)?)?;
     let book = book_of(alloc, &desk)?;
@@ -225,6 +248,7 @@ fn done<L: Ledger + Send + Sync, R: Threads + Wait + Clock + Sync>(
     match trial {
         Trial::SecondFirst => second_first(rt, alloc, office, seats, book),
         Trial::FirstOnce => first_once(rt, alloc, office, seats),
+        Trial::Idle => idle(rt, alloc, office, seats),
     }
 }
 
@@ -255,4 +279,10 @@ fn a_session_is_ended_by_its_gate(rt: HostRuntime) {
         in_an_office(&rt, rt.alloc(), Trial::FirstOnce),
         Some((1, 92))
     );
+}
+
+// Sessions that have nothing to submit, and no session at all, are served at once.
+#[test]
+fn sessions_without_a_document_are_served(rt: HostRuntime) {
+    assert_eq!(rt; in_an_office(&rt, rt.alloc(), Trial::Idle), Some((0, 2)));
 }

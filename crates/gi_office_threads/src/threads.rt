@@ -2,10 +2,12 @@
 
 ghost use Rattle.std.specs.Prelude.{◌≡◌};
 
-use crate::making::{contract_of, desk_of, documents, new_book};
+use crate::making::{contract_of, desk_of, documents, new_book, opened_book};
 use gi_desk::Answer;
 use gi_initiator::Initiating;
-use gi_office::{Office, Seat, Turn, Waited};
+use gi_office::{Office, SaveFault, Seat, Turn, Waited};
+use gi_store::{BookStore, StoreFault};
+use sqlite::MemStore;
 use std::alloc::Global;
 use std::marker::Brand;
 use std::rt::Clock;
@@ -51,15 +53,25 @@ fn both_submit<L: Ledger + Send + Sync, R: Threads + Wait + Sync>(
     Some((first?, second?))
 }
 
-/// One thread waits for a fact, until the other one saves it in a book, a while after.
-fn one_saves<L: Ledger + Send + Sync, R: Threads + Wait + Clock + Sync>(
+/// Whether a turn saved its fact; or was refused by a book that is not loaded.
+fn came_to(turn: &Result<Turn, SaveFault>, is_saved: bool) -> bool {
+    match turn {
+        Ok(Turn::Saved(_)) => is_saved,
+        Err(SaveFault::Store(StoreFault::NotLoaded)) => !is_saved,
+        _ => false,
+    }
+}
+
+/// One thread waits for a fact, until the other one makes a turn, a while after: it saves the fact in a
+/// book; or the book refuses it, and the desk is halted.
+fn one_turns<L: Ledger + Send + Sync, R: Threads + Wait + Clock + Sync>(
     rt: &R,
-    alloc: Global,
     office: &Office<Initiating, L>,
     first: Seat<L>,
     second: Seat<L>,
+    book: BookStore<MemStore>,
+    is_saved: bool,
 ) -> Option<(Seat<L>, Seat<L>)> {
-    let book = new_book(alloc)?;
     let (first, answer) = office.contract(rt, first, contract_of("A")?);
     let receipt = answer.ok()?;
     let (waited, (second, turn)) = thread::join(
@@ -71,7 +83,12 @@ fn one_saves<L: Ledger + Send + Sync, R: Threads + Wait + Clock + Sync>(
             office.save_turn(rt, second, &mut book)
         },
     );
-    if waited != Waited::Saved || !matches!(turn, Ok(Turn::Saved(_))) {
+    let awaited = if is_saved {
+        Waited::Saved
+    } else {
+        Waited::Stopped
+    };
+    if waited != awaited || !came_to(&turn, is_saved) {
         return None;
     }
     Some((first, second))
@@ -105,6 +122,7 @@ fn one_halts<L: Ledger + Send + Sync, R: Threads + Wait + Clock + Sync>(
 enum Work {
     BothSubmit,
     OneHalts,
+    OneIsRefused,
     OneSaves,
 }
 
@@ -127,7 +145,8 @@ fn done<L: Ledger + Send + Sync, R: Threads + Wait + Clock + Sync>(
     let (first, second) = match work {
         Work::BothSubmit => both_submit(rt, alloc, &office, first, second)?,
         Work::OneHalts => one_halts(rt, &office, first, second)?,
-        Work::OneSaves => one_saves(rt, alloc, &office, first, second)?,
+        Work::OneIsRefused => one_turns(rt, &office, first, second, opened_book(alloc)?, false)?,
+        Work::OneSaves => one_turns(rt, &office, first, second, new_book(alloc)?, true)?,
     };
     seats.push(second).ok()?;
     seats.push(first).ok()?;
@@ -161,4 +180,12 @@ fn a_halt_wakes_who_waits(rt: HostRuntime) {
 #[test]
 fn a_turn_wakes_who_waits(rt: HostRuntime) {
     assert_eq!(rt; in_an_office(&rt, rt.alloc(), Work::OneSaves), Some((1, 1)));
+}
+
+#[test]
+fn a_turn_that_its_book_refuses_wakes_who_waits(rt: HostRuntime) {
+    assert_eq!(rt;
+        in_an_office(&rt, rt.alloc(), Work::OneIsRefused),
+        Some((1, 0))
+    );
 }

@@ -7,7 +7,7 @@ use super::calls::call_of;
 use super::opening::{Unopened, opened};
 use super::saving::{book_call, fact_of, new_book, turn_text};
 use super::seats::{asked, taken};
-use super::texts::{add_answered, add_settled};
+use super::texts::{add_answered, add_entry, add_settled};
 use gi_calls::{Fault, Words};
 use gi_desk::{Fact, Role};
 use gi_office::{Office, Receipt, Seat, Settled};
@@ -49,6 +49,22 @@ impl<R: Role, L: Ledger> Opened<R, L> {
         }
     }
 
+    /// Keeps an office and its seats in the place of those before, which are let go here alone.
+    fn keep(&mut self, office: Office<R, L>, seats: Vec<Seat<L>>) {
+        let _former = self.office.replace(office);
+        let _seats = std::mem::replace(&mut self.seats, seats);
+    }
+
+    /// Keeps what is left of an office, in the same way.
+    pub fn keep_settled(&mut self, settled: Option<Settled<R>>) {
+        let _former = std::mem::replace(&mut self.settled, settled);
+    }
+
+    /// Keeps a book, in the same way.
+    fn keep_book(&mut self, book: Option<BookStore<MemStore>>) {
+        let _former = std::mem::replace(&mut self.book, book);
+    }
+
     /// Adds a fact to what the desk is opened with.
     fn add_fact(&mut self, alloc: Global, fact: &str, text: &mut String) -> Result<bool, Fault> {
         let Ok(fact) = fact_of(alloc, fact) else {
@@ -71,8 +87,7 @@ impl<R: Role, L: Ledger> Opened<R, L> {
         let facts = std::mem::replace(&mut self.facts, Vec::new(alloc));
         match opened(alloc, unopened, point, facts, count as usize, text)? {
             Some((office, seats)) => {
-                self.office = Some(office);
-                self.seats = seats;
+                self.keep(office, seats);
                 text.push_str("ok")?;
             }
             None => {}
@@ -159,8 +174,30 @@ impl<R: Role, L: Ledger> Opened<R, L> {
         };
         let seats = std::mem::replace(&mut self.seats, Vec::new(alloc));
         let settled = office.settle(seats);
-        add_settled(&settled, text)?;
-        self.settled = settled.ok();
+        let added = add_settled(&settled, text);
+        self.keep_settled(settled.ok());
+        added?;
+        Ok(true)
+    }
+
+    /// How many entries there are, once it is settled.
+    fn count_entries(&self, text: &mut String) -> Result<bool, Fault> {
+        let Some(settled) = &self.settled else {
+            return Ok(false);
+        };
+        write!(text, "{}", settled.len())?;
+        Ok(true)
+    }
+
+    /// The entry of this place, once it is settled.
+    fn entry(&self, place: u64, text: &mut String) -> Result<bool, Fault> {
+        let Some(settled) = &self.settled else {
+            return Ok(false);
+        };
+        match settled.entry(place) {
+            Some(entry) => add_entry(entry, text)?,
+            None => text.push_str("none")?,
+        }
         Ok(true)
     }
 
@@ -178,6 +215,7 @@ impl<R: Role, L: Ledger> Opened<R, L> {
             "wait_saved" => self.wait(handle, u64::from(number), text),
             "notes" => self.count_notes(number, text),
             "lose" => self.lose(number, text),
+            "entry" => self.entry(u64::from(number), text),
             _ => Ok(false),
         }
     }
@@ -185,7 +223,7 @@ impl<R: Role, L: Ledger> Opened<R, L> {
     /// Opens a book in memory, or makes a call on it.
     fn call_book(&mut self, alloc: Global, line: &str, text: &mut String) -> Result<bool, Fault> {
         if line == "book" {
-            self.book = new_book(alloc);
+            self.keep_book(new_book(alloc));
             text.push_str("ok")?;
             return Ok(true);
         }
@@ -209,6 +247,7 @@ impl<R: Role, L: Ledger> Opened<R, L> {
             "fact" => return self.add_fact(alloc, words.rest(), text),
             "open" => return self.open(alloc, words, text),
             "settle" => return self.settle(alloc, text),
+            "entries" => return self.count_entries(text),
             _ => {}
         }
         if let Some(number) = words.byte() {

@@ -1,8 +1,8 @@
 //! Receipts, and what is left of an office, as text.
 
 use gi_calls::Fault;
-use gi_desk::{Answer, Packet, Recipient, Role};
-use gi_office::{OfficeFault, Receipt, Settled, Unsettled};
+use gi_desk::{Answer, Packet, Recipient, Reply, Role};
+use gi_office::{Entry, OfficeFault, Receipt, Settled, Unsettled};
 use std::fmt::Write;
 
 /// Adds `Recorded 4`, or the refusal.
@@ -29,15 +29,26 @@ fn add_packet(packet: &Packet, text: &mut String) -> Result<(), Fault> {
     Ok(())
 }
 
-/// Adds a receipt: its place in the trail, the answer, and a line for each packet.
-pub fn add_receipt(receipt: &Receipt, text: &mut String) -> Result<(), Fault> {
-    write!(text, "{} ", receipt.place)?;
-    add_answer(receipt.reply.answer, text)?;
+/// Adds the answer, and a line for each packet.
+fn add_reply(reply: &Reply, text: &mut String) -> Result<(), Fault> {
+    add_answer(reply.answer, text)?;
     text.push_str("\n")?;
-    for packet in receipt.reply.out.as_slice() {
+    for packet in reply.out.as_slice() {
         add_packet(packet, text)?;
     }
     Ok(())
+}
+
+/// Adds a receipt: its place in the trail, and the reply.
+pub fn add_receipt(receipt: &Receipt, text: &mut String) -> Result<(), Fault> {
+    write!(text, "{} ", receipt.place)?;
+    add_reply(&receipt.reply, text)
+}
+
+/// Adds an entry of the trail: its seat, and the reply.
+pub fn add_entry(entry: &Entry, text: &mut String) -> Result<(), Fault> {
+    write!(text, "seat {} ", entry.seat)?;
+    add_reply(&entry.reply, text)
 }
 
 /// Adds the receipt, or why there is none.
