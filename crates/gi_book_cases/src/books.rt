@@ -39,19 +39,24 @@ impl Books {
         }
     }
 
+    /// Puts a database in the place of the one before, which is let go here alone.
+    fn put(&mut self, place: Place) {
+        let _former = std::mem::replace(&mut self.place, place);
+    }
+
     /// Takes a new database in memory.
     fn take_memory(&mut self, rt: &HostRuntime) -> Result<&'static str, Fault> {
         let connection = Connection::open_in_memory(rt.alloc())?;
-        self.place = Place::Memory(Opened::over(connection));
+        self.put(Place::Memory(Opened::over(connection)));
         Ok("ok")
     }
 
     /// Takes the database in a file, once the one before is let go.
     fn take_file(&mut self, rt: &HostRuntime, name: &str, text: &mut String) -> Result<(), Fault> {
-        self.place = Place::Nowhere;
+        self.put(Place::Nowhere);
         match Connection::open(rt, name) {
             Ok(connection) => {
-                self.place = Place::File(Opened::over(connection));
+                self.put(Place::File(Opened::over(connection)));
                 text.push_str("ok")?;
             }
             Err(error) => {
@@ -70,7 +75,7 @@ impl Books {
 
     /// Removes a folder with its files, once the database is let go.
     fn remove_folder(&mut self, rt: &HostRuntime, name: &str) -> &'static str {
-        self.place = Place::Nowhere;
+        self.put(Place::Nowhere);
         done(fs::remove_dir_all(rt, name))
     }
 

@@ -42,13 +42,18 @@ impl Roles {
         Roles { state: None }
     }
 
+    /// Keeps a cycle in the place of the one before, which is let go here alone.
+    fn keep(&mut self, state: CycleState) {
+        let _former = self.state.replace(state);
+    }
+
     /// The cycle collects nominations.
     fn collect(&mut self, words: Words<'_>, text: &mut String) -> Result<bool, Fault> {
         let mut words = words;
         let Some(id) = words.cycle() else {
             return Ok(false);
         };
-        self.state = Some(CycleState::Collecting(Collecting::new(id)));
+        self.keep(CycleState::Collecting(Collecting::new(id)));
         text.push_str("ok")?;
         Ok(true)
     }
@@ -65,7 +70,7 @@ impl Roles {
             return Ok(false);
         }
         let cycle = Collecting::new(cycle.id());
-        self.state = Some(CycleState::Frozen(cycle.close(own)));
+        self.keep(CycleState::Frozen(cycle.close(own)));
         text.push_str("ok")?;
         Ok(true)
     }
@@ -83,11 +88,11 @@ impl Roles {
         }
         match cycle.meet(alloc, peer) {
             Ok(cycle) => {
-                self.state = Some(CycleState::Matched(cycle));
+                self.keep(CycleState::Matched(cycle));
                 text.push_str("ok")?;
             }
             Err((cycle, fault)) => {
-                self.state = Some(CycleState::Frozen(cycle));
+                self.keep(CycleState::Frozen(cycle));
                 write!(text, "{fault}")?;
             }
         }

@@ -103,6 +103,11 @@ impl Reports {
         Ok(true)
     }
 
+    /// Keeps a desk in the place of the one before, which is let go here alone.
+    fn keep_office(&mut self, office: Office) {
+        let _former = self.office.replace(office);
+    }
+
     /// `replay SIDE POINT`: the desk of the facts.
     fn replay(&mut self, mut words: Words<'_>, text: &mut String) -> Result<bool, Fault> {
         let (Some(side), Some(point)) = (words.side(), words.code()) else {
@@ -111,7 +116,7 @@ impl Reports {
         let facts = self.copy_facts()?;
         match Office::replay(self.alloc, side, point, facts)? {
             Ok(office) => {
-                self.office = Some(office);
+                self.keep_office(office);
                 text.push_str("ok")?;
             }
             Err(fault) => write!(text, "{fault}")?,

@@ -114,6 +114,11 @@ impl Simulations {
         }
     }
 
+    /// Keeps a simulation in the place of the one before, which is let go here alone.
+    fn take(&mut self, simulation: Simulation) {
+        let _former = self.simulation.replace(simulation);
+    }
+
     /// Adds a line to the script, so many times.
     fn add_line(&mut self, alloc: Global, line: &str, times: u32) -> Result<bool, Fault> {
         let line = script_line(alloc, line)?;
@@ -163,8 +168,9 @@ impl Simulations {
         };
         match simulate(alloc, &script) {
             Ok(simulated) => {
-                add_simulated(&simulated, first, text)?;
-                self.simulation = Some(simulated.simulation);
+                let added = add_simulated(&simulated, first, text);
+                self.take(simulated.simulation);
+                added?;
             }
             Err(fault) => write!(text, "{fault}\n")?,
         }
@@ -182,8 +188,8 @@ impl Simulations {
         };
         match refused_submissions(alloc, side, &script) {
             Ok((simulation, portfolios)) => {
+                self.take(simulation);
                 write!(text, "{portfolios:?}\n")?;
-                self.simulation = Some(simulation);
             }
             Err(fault) => write!(text, "{fault}\n")?,
         }
@@ -202,7 +208,7 @@ impl Simulations {
         };
         match Simulation::new(alloc, point) {
             Ok(simulation) => {
-                self.simulation = Some(simulation);
+                self.take(simulation);
                 text.push_str("ok\n")?;
             }
             Err(fault) => write!(text, "{fault}\n")?,

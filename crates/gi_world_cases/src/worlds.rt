@@ -54,6 +54,11 @@ impl Worlds {
         }
     }
 
+    /// Keeps a world in the place of the one before, which is let go here alone.
+    fn take(&mut self, world: World) {
+        let _former = self.world.replace(world);
+    }
+
     /// A world at the interconnection point, of which no step is made.
     fn begin(
         &mut self,
@@ -66,7 +71,7 @@ impl Worlds {
         };
         match World::new(alloc, point) {
             Ok(world) => {
-                self.world = Some(world);
+                self.take(world);
                 self.point = Some(point);
                 self.steps = Vec::new(alloc);
                 text.push_str("ok\n")?;
@@ -103,8 +108,9 @@ impl Worlds {
         };
         match run_world(alloc, point, &self.steps) {
             Ok(run) => {
-                add_run(&run, text)?;
-                self.world = Some(run.world);
+                let added = add_run(&run, text);
+                self.take(run.world);
+                added?;
             }
             Err(fault) => write!(text, "{fault}\n")?,
         }

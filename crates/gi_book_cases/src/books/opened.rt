@@ -75,6 +75,11 @@ impl<S: Alter + Drop> Opened<S> {
         }
     }
 
+    /// Keeps a book in the place of the one before, which is let go here alone.
+    fn keep(&mut self, book: BookStore<S>) {
+        let _former = self.book.replace(book);
+    }
+
     /// Opens the database as a book.
     fn open(&mut self, alloc: Global) -> Result<Option<String>, Fault> {
         let Some(connection) = self.connection.take() else {
@@ -82,7 +87,7 @@ impl<S: Alter + Drop> Opened<S> {
         };
         match BookStore::open(alloc, connection) {
             Ok(book) => {
-                self.book = Some(book);
+                self.keep(book);
                 Ok(Some("ok".to_string(alloc)?))
             }
             Err(fault) => Ok(Some(format!(in alloc; "{fault}")?)),
@@ -152,6 +157,18 @@ impl<S: Alter> Opened<S> {
         Ok(Some(known(alloc, book.count())?))
     }
 
+    /// Keeps a desk in the place of the one before, which is let go here alone, and says how many
+    /// facts it has.
+    fn keep_desk(
+        &mut self,
+        alloc: Global,
+        desk: Desk<Initiating>,
+    ) -> Result<Option<String>, Fault> {
+        let counts = desks::counts(alloc, &desk);
+        let _former = self.desk.replace(desk);
+        Ok(Some(counts?))
+    }
+
     /// Loads the book and replays the desk of its facts.
     fn replay(&mut self, alloc: Global, point: Code) -> Result<Option<String>, Fault> {
         let Some(book) = &mut self.book else {
@@ -165,11 +182,7 @@ impl<S: Alter> Opened<S> {
             return Ok(None);
         };
         match Desk::replay(alloc, calendar, point, facts) {
-            Ok(desk) => {
-                let counts = desks::counts(alloc, &desk)?;
-                self.desk = Some(desk);
-                Ok(Some(counts))
-            }
+            Ok(desk) => self.keep_desk(alloc, desk),
             Err(fault) => Ok(Some(format!(in alloc; "{fault}")?)),
         }
     }
