@@ -1,12 +1,8 @@
 -- Moves that are read word by word.
-use Rattle.std.proofs.Common.{◌≡◌, ℕ, ◌+◌, List, [], ◌∷◌, ◌++◌, map, length, append-nil, length-append, ap, sym, ◌∙◌, subst, arith, refl}
-use Rattle.std.proofs.lemmas.List.{length-map}
-use Rattle.gi_carrier.specs.Carrier.{IsPlan}
-use Rattle.gi_carrier.specs.Limits.{most_moves}
+use Rattle.std.proofs.Common.{◌≡◌, ℕ, List, [], ◌∷◌, ◌++◌, map, ap, sym, ◌∙◌, refl}
 use Rattle.gi_carrier.specs.declared.moves.Move.{Move}
 use Rattle.gi_script.specs.Grammar.{SaysMoves}
 use Rattle.gi_script.specs.Verb.{move_text}
-use Rattle.gi_script.proofs.OneInstruction.{texts-one}
 
 -- one move more
 pub texts_push : (moves : List Move) (next : Move) (words : List (List ℕ)) (word : List ℕ) (rest : List (List ℕ)) (all : List (List ℕ))

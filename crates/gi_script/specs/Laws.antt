@@ -1,7 +1,7 @@
 -- What holds of all scripts.
 use Rattle.std.specs.Prelude.{◌≡◌, ℕ, List}
 use Rattle.gi_script.specs.Grammar.{Spells}
-use Rattle.gi_script.specs.Script.{IsScript, ScriptContents}
+use Rattle.gi_script.specs.Script.{IsOfficeScript, IsScript, ScriptContents}
 use Rattle.gi_script.specs.declared.instruction.Instruction.{Instruction}
 
 -- a line spells one instruction at most
@@ -11,3 +11,7 @@ IsOneInstruction = (line : List ℕ) (a b : Instruction) → Spells line a → S
 -- bytes are one script at most
 abbrev pub IsOneScript : Type 0
 IsOneScript = (bytes : List ℕ) (a b : ScriptContents) → IsScript bytes a → IsScript bytes b → a ≡ b
+
+-- bytes are one script of a running office at most
+abbrev pub IsOneOfficeScript : Type 0
+IsOneOfficeScript = (bytes : List ℕ) (a b : ScriptContents) → IsOfficeScript bytes a → IsOfficeScript bytes b → a ≡ b

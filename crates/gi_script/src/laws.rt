@@ -1,6 +1,6 @@
 //! What holds of all scripts. These functions do nothing; their clauses are the laws.
 
-ghost use Rattle.gi_script.specs.Laws.{IsOneInstruction, IsOneScript};
+ghost use Rattle.gi_script.specs.Laws.{IsOneInstruction, IsOneOfficeScript, IsOneScript};
 
 /// A line spells one instruction at most.
 pub fn one_instruction()
@@ -10,4 +10,9 @@ pub fn one_instruction()
 /// Bytes are one script at most.
 pub fn one_script()
     ensures { IsOneScript }
+{}
+
+/// Bytes are one script of a running office at most.
+pub fn one_office_script()
+    ensures { IsOneOfficeScript }
 {}

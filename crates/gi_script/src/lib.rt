@@ -3,6 +3,7 @@
 
 mod command;
 mod fault;
+mod forms;
 mod instruction;
 mod laws;
 mod line;
@@ -16,8 +17,8 @@ mod words;
 
 pub use fault::ScriptFault;
 pub use instruction::Instruction;
-pub use laws::{one_instruction, one_script};
+pub use laws::{one_instruction, one_office_script, one_script};
 pub use line::Line;
 pub use lines::{LINE_FEED, split_line};
-pub use reading::read_script;
+pub use reading::{read_office_script, read_script};
 pub use script::Script;

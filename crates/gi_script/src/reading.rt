@@ -2,11 +2,12 @@ ghost use Rattle.std.specs.Prelude.{◌≡◌, ◌∷◌, codes, Err, Ok, IfOk, 
 ghost use Rattle.gi_script.specs.Grammar.{SaysCommand, SaysPlan, Spells, SpellsPoint};
 ghost use Rattle.gi_script.specs.LinesKept.{IsCounted, left};
 ghost use Rattle.gi_script.specs.Reading.{Finds, Reads};
-ghost use Rattle.gi_script.specs.Script.{HasNoPoint, IsFault, IsLineRead, IsScript, IsStopped, ScriptContents, SpellAll};
+ghost use Rattle.gi_script.specs.Script.{HasNoPoint, IsFault, IsFaultBy, IsLineRead, IsOfficeFault, IsOfficeScript, IsScript, IsScriptBy, IsStopped, ScriptContents, SpellAll, spelling};
 ghost use Rattle.gi_script.specs.declared.fault.ScriptFault.TheVariants.{OutOfMemory, Point};
 
 use crate::command::command;
 use crate::fault::{LineFault, ScriptFault};
+use crate::forms::Forms;
 use crate::instruction::Instruction;
 use crate::line::Line;
 use crate::lines::Lines;
@@ -75,31 +76,53 @@ fn instruction(alloc: Global, line: &[u8]) -> Result<Instruction, LineFault>
     }
 }
 
-fn line(alloc: Global, number: u64, text: &[u8]) -> Result<Line, ScriptFault>
-    ensures { IsLineRead (record { number = number; text = text.now }) result }
+fn line(alloc: Global, forms: Forms, number: u64, text: &[u8]) -> Result<Line, ScriptFault>
+    ensures { IsLineRead (spelling forms) (record { number = number; text = text.now }) result }
 {
     match instruction(alloc, text) {
-        Ok(instruction) => Ok(Line {
-            number,
-            instruction,
-        }),
+        Ok(instruction) => {
+            if !forms.take(&instruction) {
+                return Err(ScriptFault::Unreadable(number));
+            }
+            Ok(Line {
+                number,
+                instruction,
+            })
+        }
         Err(LineFault::Unreadable) => Err(ScriptFault::Unreadable(number)),
         Err(LineFault::OutOfMemory) => Err(ScriptFault::OutOfMemory),
     }
 }
 
-fn further(alloc: Global, mut lines: Lines<'_>) -> Result<Vec<Line>, ScriptFault>
+fn further(alloc: Global, forms: Forms, mut lines: Lines<'_>) -> Result<Vec<Line>, ScriptFault>
     requires { IsCounted lines }
-    ensures { MatchResult result (λ read. SpellAll (left lines.entry) read.items) (IsStopped (left lines.entry)) }
+    ensures { MatchResult result (λ read. SpellAll (spelling forms) (left lines.entry) read.items) (IsStopped (spelling forms) (left lines.entry)) }
 {
     let mut read = Vec::new(alloc);
     while let Some((number, text)) = lines.next() {
-        let line = line(alloc, number, text)?;
+        let line = line(alloc, forms, number, text)?;
         if read.push(line).is_err() {
             return Err(ScriptFault::OutOfMemory);
         }
     }
     Ok(read)
+}
+
+/// The script of these forms of lines that the bytes are.
+fn read(alloc: Global, forms: Forms, bytes: &[u8]) -> Result<Script, ScriptFault>
+    ensures found { IfOk result (IsScriptBy (spelling forms) bytes.now) }
+    ensures fault { IfErr result (IsFaultBy (spelling forms) bytes.now) }
+    ensures point { HasNoPoint bytes.now → result ≡ Err Point }
+{
+    let mut lines = Lines::of(bytes);
+    let Some((_, first)) = lines.next() else {
+        return Err(ScriptFault::Point);
+    };
+    let Some(point) = point(first) else {
+        return Err(ScriptFault::Point);
+    };
+    let read = further(alloc, forms, lines)?;
+    Ok(Script::new(point, read))
 }
 
 /// The script that the bytes are. `Point` where the first line that is not empty is not `point` and
@@ -112,13 +135,17 @@ pub fn read_script(alloc: Global, bytes: &[u8]) -> Result<Script, ScriptFault>
     // This takes no memory.
     ensures point { HasNoPoint bytes.now → result ≡ Err Point }
 {
-    let mut lines = Lines::of(bytes);
-    let Some((_, first)) = lines.next() else {
-        return Err(ScriptFault::Point);
-    };
-    let Some(point) = point(first) else {
-        return Err(ScriptFault::Point);
-    };
-    let read = further(alloc, lines)?;
-    Ok(Script::new(point, read))
+    read(alloc, Forms::All, bytes)
+}
+
+/// The script that the bytes are, where it has only lines that a running office takes. The faults are
+/// those of `read_script`, and a `save`, `deliver` or `restart` line is `Unreadable` too.
+pub fn read_office_script(alloc: Global, bytes: &[u8]) -> Result<Script, ScriptFault>
+    ensures found { IfOk result (IsOfficeScript bytes.now) }
+    ensures only { (script : ScriptContents) → IsOfficeScript bytes.now script → MatchResult result (λ read. read ≡ script) (λ fault. fault ≡ OutOfMemory) }
+    ensures fault { IfErr result (IsOfficeFault bytes.now) }
+    // This takes no memory.
+    ensures point { HasNoPoint bytes.now → result ≡ Err Point }
+{
+    read(alloc, Forms::Office, bytes)
 }

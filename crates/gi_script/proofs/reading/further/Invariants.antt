@@ -1,5 +1,6 @@
 use Rattle.std.proofs.Common.{length}
 use Rattle.gi_script.specs.LinesKept.{IsCounted, left}
+use Rattle.gi_script.specs.Script.{spelling}
 use Rattle.gi_script.proofs.FurtherLemmas.{ReadSoFar}
 use Rattle.gi_script.proofs.reading.further.Given as goal
 
@@ -7,7 +8,7 @@ use Rattle.gi_script.proofs.reading.further.Given as goal
 abbrev pub invariant-loop-number : goal.invariant-loop-number
 invariant-loop-number l = record {
   counted : IsCounted l.lines;
-  read : ReadSoFar (left l.initial.lines) (left l.lines) l.read.items;
+  read : ReadSoFar (spelling l.initial.forms) (left l.initial.lines) (left l.lines) l.read.items;
 }
 
 abbrev pub decreases-loop-number : goal.decreases-loop-number
