@@ -7,6 +7,7 @@ ghost use Rattle.gi_store.specs.Book.{IsRead};
 ghost use Rattle.gi_store.specs.Clean.{IsClean};
 ghost use Rattle.gi_commands.specs.Reporting.{HasBookReport, IsBookFault, IsBookReport, IsFactsFault, IsReport, IsRowsFault};
 ghost use Rattle.gi_commands.specs.Simulating.{IsNoScript, IsScriptReport};
+ghost use Rattle.gi_world.specs.World.{station_of};
 
 use crate::fault::Fault;
 use gi_command_line::ReportKind;
@@ -19,6 +20,7 @@ use gi_reports::{confirmed_report, open_report, refused_report};
 use gi_script::read_script;
 use gi_simulation::refused_submissions;
 use gi_store::BookStore;
+use gi_world::World;
 use sqlite::Alter;
 use std::alloc::{AllocError, Global};
 
@@ -37,6 +39,21 @@ fn desk_report<R: Role>(
     }
 }
 
+fn side_report(
+    alloc: Global,
+    kind: ReportKind,
+    side: Side,
+    world: &World,
+    submissions: &[Option<Code>],
+) -> Result<String, AllocError>
+    ensures { IfOk result (λ text. IsReport kind side (station_of side world.now).desk submissions.now (string_bytes text)) }
+{
+    match side {
+        Side::I => desk_report(alloc, kind, world.initiating(), submissions),
+        Side::M => desk_report(alloc, kind, world.matching(), submissions),
+    }
+}
+
 /// What `report` writes for an input: the report of a side after the script's steps. The fault is
 /// the script's, or `OutOfMemory`.
 pub fn script_report(
@@ -50,11 +67,10 @@ pub fn script_report(
 {
     let script = read_script(alloc, input)?;
     let (simulation, submissions) = refused_submissions(alloc, side, &script)?;
-    let world = simulation.world();
-    Ok(match side {
-        Side::I => desk_report(alloc, kind, world.initiating(), &submissions)?,
-        Side::M => desk_report(alloc, kind, world.matching(), &submissions)?,
-    })
+    match side_report(alloc, kind, side, simulation.world(), &submissions) {
+        Ok(text) => Ok(text),
+        Err(_) => Err(Fault::OutOfMemory),
+    }
 }
 
 pub(crate) fn facts_report<R: Role>(

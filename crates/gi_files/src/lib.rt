@@ -3,4 +3,4 @@
 
 mod reading;
 
-pub use reading::facts_of_file;
+pub use reading::{book_of_file, facts_of_file};

@@ -1,26 +1,28 @@
+ghost use Rattle.std.specs.Prelude.{◌≡◌, None, IfOk};
+
 use gi_facts::Fact;
 use gi_store::{BookStore, StoreFault};
-use sqlite::{Alter, Connection};
-use std::alloc::Global;
+use sqlite::{Connection, File, FileStore};
 use std::fs;
 
-fn facts_of<S: Alter + Drop>(
-    alloc: Global,
-    connection: Connection<S>,
-) -> Result<Vec<Fact>, StoreFault> {
-    let mut book = BookStore::open(alloc, connection)?;
-    book.load()
+/// The book in a file, which is not loaded. A file that is not there is made, and so are the tables
+/// of a book in a database without them. `Store` where the file is no database or fails, and the
+/// faults of `BookStore::open`. Nothing is said of what the file holds: no clause can name it.
+pub fn book_of_file(rt: &HostRuntime, file: &str) -> Result<BookStore<FileStore<File>>, StoreFault>
+    ensures { IfOk result (λ book. book.loaded ≡ None) }
+{
+    match Connection::open(rt, file) {
+        Ok(connection) => BookStore::open(rt.alloc(), connection),
+        Err(error) => Err(StoreFault::from(error)),
+    }
 }
 
 /// The facts of the book in a file, from the first on. A file that is not there is `Store`, and is
-/// not made; then come the faults of `BookStore::open` and of `load`. Nothing is said of what the
-/// file holds: no clause can name it.
+/// not made; then come the faults of `BookStore::open` and of `load`.
 pub fn facts_of_file(rt: &HostRuntime, file: &str) -> Result<Vec<Fact>, StoreFault> {
     if !fs::exists(rt, file).unwrap_or(true) {
         return Err(StoreFault::Store);
     }
-    match Connection::open(rt, file) {
-        Ok(connection) => facts_of(rt.alloc(), connection),
-        Err(error) => Err(StoreFault::from(error)),
-    }
+    let mut book = book_of_file(rt, file)?;
+    book.load()
 }

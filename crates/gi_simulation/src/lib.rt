@@ -26,7 +26,8 @@ mod simulation;
 mod text;
 
 pub use laws::what_is_carried_is_delivered;
+pub use link::Link;
 pub use outcome::Outcome;
-pub use refused::refused_submissions;
+pub use refused::{portfolio_of, refused_submissions};
 pub use simulated::{Simulated, simulate};
 pub use simulation::Simulation;

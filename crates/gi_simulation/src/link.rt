@@ -11,7 +11,7 @@ use std::marker::Model;
 
 /// The way to one side: what is on it, and the plan by which that comes.
 #[derive(Drop)]
-pub(crate) struct Link {
+pub struct Link {
     alloc: Global,
     carrier: Carrier,
     plan: Plan,
@@ -34,7 +34,8 @@ fn plan_of(alloc: Global, plan: &[Move]) -> Result<Plan, AllocError>
 }
 
 impl Link {
-    pub(crate) fn new(alloc: Global) -> Result<Link, AllocError>
+    /// A way with nothing on it, all of which comes. `OutOfMemory`.
+    pub fn new(alloc: Global) -> Result<Link, AllocError>
         ensures { IfOk result (λ link. link ≡ new_link) }
     {
         Ok(Link {
@@ -44,7 +45,8 @@ impl Link {
         })
     }
 
-    pub(crate) fn set(&mut self, plan: &Plan) -> Result<(), AllocError>
+    /// Sets the plan; the position stays. Where memory runs out it is as it was.
+    pub fn set(&mut self, plan: &Plan) -> Result<(), AllocError>
         ensures next { OnOk result (self.new ≡ record { carrier = self.old.carrier; plan = plan.now }) }
         ensures kept { OnErr result (self.new ≡ self.old) }
     {
@@ -72,7 +74,9 @@ impl Link {
         }
     }
 
-    pub(crate) fn send_packets(&mut self, packets: Vec<Packet>) -> Result<(), AllocError>
+    /// Sends those of the packets that are for the peer; one that finds the carrier full is lost. Where memory
+    /// runs out, some are sent.
+    pub fn send_packets(&mut self, packets: Vec<Packet>) -> Result<(), AllocError>
         ensures sent { OnOk result (self.new ≡ with_packets self.old packets.items) }
         ensures came { WaitedOrCame self.old packets.items self.new }
     {
@@ -82,7 +86,8 @@ impl Link {
         Ok(())
     }
 
-    pub(crate) fn next(&mut self) -> Result<Option<Vec<u8>>, AllocError>
+    /// What comes by one move of the carrier, if anything. Where memory runs out it is as it was.
+    pub fn next(&mut self) -> Result<Option<Vec<u8>>, AllocError>
         ensures given { IfOk result (λ message. option_map bytes_of message ≡ given self.old.plan self.old.carrier) }
         ensures next { OnOk result (self.new ≡ moved_on self.old) }
         ensures kept { OnErr result (self.new ≡ self.old) }

@@ -33,7 +33,8 @@ impl Model for Refused {
     ghost view = { λ r. record { side = r.side; portfolios = r.portfolios.items } };
 }
 
-fn portfolio_of(alloc: Global, body: &[u8]) -> Result<Option<Code>, AllocError>
+/// The portfolio of a submission; none where its bytes are no NOMINT. Only memory is refused.
+pub fn portfolio_of(alloc: Global, body: &[u8]) -> Result<Option<Code>, AllocError>
     ensures { IfOk result (λ portfolio. portfolio ≡ portfolio_in (decoded body.now)) }
 {
     match decode(alloc, body) {
