@@ -1,0 +1,4 @@
+mod Endings
+mod Ordering
+mod Places
+mod Walking

@@ -1,0 +1,16 @@
+use Rattle.std.proofs.Common.{◌≡◌, ◌≤◌, ◌-◌, length, string_bytes}
+use Rattle.gi_serving.specs.Ending.{AreSamePlaces}
+use Rattle.gi_serving.specs.Runs.{TellsTo}
+use Rattle.gi_serving.proofs.serving.run.Given as goal
+
+abbrev pub invariant-loop-at : goal.invariant-loop-at
+invariant-loop-at g l = record {
+  within : l.at ≤ length l.fn.lines;
+  sessions : l.both.sessions ≡ l.initial.both.sessions;
+  ours : AreSamePlaces l.initial.both.initiating.seats.items l.both.initiating.seats.items;
+  theirs : AreSamePlaces l.initial.both.matching.seats.items l.both.matching.seats.items;
+  told : TellsTo l.fn.lines l.at (string_bytes l.text);
+}
+
+abbrev pub decreases-loop-at : goal.decreases-loop-at
+decreases-loop-at g l = length l.fn.lines - l.at

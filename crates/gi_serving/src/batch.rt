@@ -1,0 +1,234 @@
+//! A batch: submissions, which the sessions of an office make at once.
+
+ghost use Rattle.std.specs.Prelude.{◌≡◌, ◌≤◌, ◌<◌, ◌+◌, ◌++◌, ◌∷◌, [], IfOk, OnOk, if◌then◌else◌, length, map, vec_capacity};
+ghost use Rattle.gi_serving.specs.Ending.{AreSamePlaces};
+ghost use Rattle.gi_serving.specs.Runs.{is_at, submissions_at};
+ghost use Rattle.gi_serving.specs.Submitting.{seat_in, seat_of};
+
+use crate::assigning::sessions_of;
+use crate::pieces::submission;
+use crate::word::Word;
+use gi_desk::{Body, Role};
+use gi_office::{Gate, Office, OfficeFault, Receipt, Seat, Served, Session};
+use gi_pairs::Side;
+use gi_script::Line;
+use std::alloc::{AllocError, Global};
+use std::sync::Wait;
+use std::sync::ledger::Ledger;
+use std::thread::Threads;
+
+/// A gate that lets every call through.
+#[derive(Drop)]
+pub(crate) struct Open;
+
+impl Gate for Open {
+    ghost may_end = { λ _ session call. ⊥ };
+
+    fn hold<W: Wait>(&self, _rt: &W, _session: usize, _call: usize) -> bool {
+        true
+    }
+
+    fn answered<W: Wait>(&self, _rt: &W, _session: usize, _call: usize) {}
+}
+
+/// Adds the body of a submission at that side.
+fn add_body(bodies: &mut Vec<Body>, side: Side, line: &Line) -> Result<(), AllocError>
+    ensures { OnOk result (length bodies.new.items ≡ length bodies.old.items + (if is_at side line.now then 1 else 0)) }
+{
+    match (submission(line), side) {
+        (Some((Side::I, body)), Side::I) => bodies.push(body.copy()?)?,
+        (Some((Side::M, body)), Side::M) => bodies.push(body.copy()?)?,
+        _ => {}
+    }
+    Ok(())
+}
+
+/// The submissions at a side, in order.
+#[tactic(auto, using(crate::proofs::Walking::more_bodies))]
+pub(crate) fn bodies_at(alloc: Global, side: Side, lines: &[Line]) -> Result<Vec<Body>, AllocError>
+    ensures { IfOk result (λ bodies. length bodies.items ≡ submissions_at side lines.now) }
+{
+    let mut bodies = Vec::new(alloc);
+    for line in lines {
+        add_body(&mut bodies, side, line)?;
+    }
+    Ok(bodies)
+}
+
+/// The bodies that a session is given, in order.
+fn given(
+    alloc: Global,
+    number: u8,
+    numbers: &[u8],
+    bodies: &[Body],
+) -> Result<Vec<Body>, AllocError> {
+    let mut dealt = Vec::new(alloc);
+    for i in 0..bodies.len() {
+        if numbers.get(i) == Some(&number) {
+            dealt.push(bodies[i].copy()?)?;
+        }
+    }
+    Ok(dealt)
+}
+
+/// The bodies that each seat is given.
+fn dealt_to<L: Ledger>(
+    alloc: Global,
+    seats: &[Seat<L>],
+    numbers: &[u8],
+    bodies: &[Body],
+) -> Result<Vec<Vec<Body>>, AllocError>
+    ensures { IfOk result (λ dealt. length dealt.items ≡ length seats.now) }
+{
+    let mut dealt = Vec::with_capacity(alloc, seats.len())?;
+    for seat in seats {
+        dealt.push(given(alloc, seat.number(), numbers, bodies)?)?;
+    }
+    Ok(dealt)
+}
+
+/// A session for each seat, with what it is given.
+#[tactic(auto, using(crate::proofs::Places::one_begun))]
+fn begun<L: Ledger>(
+    seats: Vec<Seat<L>>,
+    dealt: Vec<Vec<Body>>,
+    sessions: Vec<Session<L>>,
+) -> Vec<Session<L>>
+    requires all { length seats.items ≤ length dealt.items }
+    requires none { sessions.items ≡ [] }
+    requires room { length seats.items ≤ vec_capacity sessions }
+    ensures { map seat_of result.items ≡ seats.items }
+{
+    let mut dealt = dealt.into_iter();
+    let mut sessions = sessions;
+    for seat in seats {
+        let bodies = dealt.next().unwrap();
+        sessions.push_reserved(Session::new(seat, bodies));
+    }
+    sessions
+}
+
+/// The seats of what was served, behind them the main one, and the receipts of each session, the last
+/// one first. Where a session ended for want of memory that is told.
+fn ended<L: Ledger>(
+    served: Vec<Served<L>>,
+    main: Seat<L>,
+    seats: Vec<Seat<L>>,
+    receipts: Vec<Vec<Receipt>>,
+) -> Result<(Vec<Seat<L>>, Vec<Vec<Receipt>>), AllocError>
+    requires none { seats.items ≡ [] }
+    requires room { length served.items < vec_capacity seats }
+    requires none_yet { receipts.items ≡ [] }
+    requires receipts { length served.items ≤ vec_capacity receipts }
+    ensures { IfOk result (λ ended. ended.0.items ≡ map seat_in served.items ++ main ∷ []) }
+{
+    let mut seats = seats;
+    let mut receipts = receipts;
+    let mut wants = false;
+    for one in served {
+        let (seat, mut given, fault) = one.into_parts();
+        wants = wants || fault == Some(OfficeFault::OutOfMemory);
+        given.reverse();
+        seats.push_reserved(seat);
+        receipts.push_reserved(given);
+    }
+    seats.push_reserved(main);
+    if wants {
+        return Err(AllocError);
+    }
+    Ok((seats, receipts))
+}
+
+/// Room for sessions, and once they are over for the seats and the receipts.
+type Rooms<L> = (Vec<Session<L>>, Vec<Seat<L>>, Vec<Vec<Receipt>>);
+
+fn rooms_for<L: Ledger>(alloc: Global, count: usize) -> Result<Rooms<L>, AllocError>
+    ensures sessions { IfOk result (λ rooms. (rooms.0.items ≡ []) × (count ≤ vec_capacity rooms.0)) }
+    ensures seats { IfOk result (λ rooms. (rooms.1.items ≡ []) × (count ≤ vec_capacity rooms.1)) }
+    ensures receipts { IfOk result (λ rooms. (rooms.2.items ≡ []) × (count ≤ vec_capacity rooms.2)) }
+{
+    let sessions = Vec::with_capacity(alloc, count)?;
+    let seats = Vec::with_capacity(alloc, count)?;
+    let receipts = Vec::with_capacity(alloc, count)?;
+    Ok((sessions, seats, receipts))
+}
+
+/// What came of the next submission of the session.
+fn next_word(receipts: &mut Vec<Vec<Receipt>>, number: u8) -> Word {
+    let Some(before) = number.checked_sub(1) else {
+        return Word::SeatFull;
+    };
+    let Some(list) = receipts.get_mut(before as usize) else {
+        return Word::SeatFull;
+    };
+    match list.pop() {
+        Some(receipt) => Word::of(&receipt.reply.answer),
+        None => Word::SeatFull,
+    }
+}
+
+/// What came of each submission, in order; `SeatFull` of what was left undone.
+fn words_of(
+    alloc: Global,
+    numbers: &[u8],
+    receipts: Vec<Vec<Receipt>>,
+) -> Result<Vec<Word>, AllocError>
+    ensures { IfOk result (λ words. length words.items ≡ length numbers.now) }
+{
+    let mut receipts = receipts;
+    let mut words = Vec::with_capacity(alloc, numbers.len())?;
+    for number in numbers {
+        words.push(next_word(&mut receipts, *number))?;
+    }
+    Ok(words)
+}
+
+/// Has sessions submit what is dealt to their seats, of which the last one is the main thread's: all
+/// seats, and the receipts of each session, the last one first.
+#[tactic(auto, using(crate::proofs::Places::served_length, crate::proofs::Places::served_places))]
+fn serve_all<R: Role + Send, L: Ledger + Send, T: Threads + Wait + Sync>(
+    rt: &T,
+    office: &Office<R, L>,
+    seats: Vec<Seat<L>>,
+    dealt: Vec<Vec<Body>>,
+    rooms: Rooms<L>,
+) -> Result<(Vec<Seat<L>>, Vec<Vec<Receipt>>), AllocError>
+    requires some { 0 < length seats.items }
+    requires dealt { length seats.items ≤ length dealt.items }
+    requires sessions { (rooms.0.items ≡ []) × (length seats.items ≤ vec_capacity rooms.0) }
+    requires seats { (rooms.1.items ≡ []) × (length seats.items ≤ vec_capacity rooms.1) }
+    requires receipts { (rooms.2.items ≡ []) × (length seats.items ≤ vec_capacity rooms.2) }
+    ensures { IfOk result (λ served. AreSamePlaces seats.items served.0.items) }
+{
+    let (sessions, back, receipts) = rooms;
+    let mut seats = seats;
+    let main = seats.pop().unwrap();
+    match office.serve(rt, &Open, begun(seats, dealt, sessions)) {
+        Ok(served) => ended(served, main, back, receipts),
+        Err(_) => Err(AllocError),
+    }
+}
+
+/// Submits a batch's bodies at one office, by its sessions at once; the last seat is the main thread's.
+/// The seats come back, with what came of each submission, in order.
+pub(crate) fn submitted<R: Role + Send, L: Ledger + Send, T: Threads + Wait + Sync>(
+    rt: &T,
+    alloc: Global,
+    office: &Office<R, L>,
+    sessions: u8,
+    seats: Vec<Seat<L>>,
+    bodies: Vec<Body>,
+) -> Result<(Vec<Seat<L>>, Vec<Word>), AllocError>
+    requires some { 1 ≤ sessions }
+    requires few { sessions < 16 }
+    requires seats { length seats.items ≡ sessions + 1 }
+    ensures places { IfOk result (λ submitted. AreSamePlaces seats.items submitted.0.items) }
+    ensures words { IfOk result (λ submitted. length submitted.1.items ≡ length bodies.items) }
+{
+    let numbers = sessions_of(alloc, sessions, &bodies)?;
+    let dealt = dealt_to(alloc, &seats, &numbers, &bodies)?;
+    let rooms = rooms_for(alloc, seats.len())?;
+    let (seats, receipts) = serve_all(rt, office, seats, dealt, rooms)?;
+    let words = words_of(alloc, &numbers, receipts)?;
+    Ok((seats, words))
+}

@@ -1,0 +1,211 @@
+//! Both offices under way, and what a line or a batch of a script makes of them.
+
+ghost use Rattle.std.specs.Prelude.{◌≡◌, ◌≤◌, ◌<◌, ◌+◌, IfErr, IfOk, Err, IsOk, OnOk, length, string_bytes};
+ghost use Rattle.std.specs.Thread.{IsSync};
+ghost use Rattle.gi_serving.specs.Closing.{IsClosed};
+ghost use Rattle.gi_serving.specs.Ending.{AreSamePlaces, IsCut};
+ghost use Rattle.gi_serving.specs.Runs.{Batch, Single, Tells, side_in};
+
+use crate::batch::{bodies_at, submitted};
+use crate::closing::{Closed, close_both};
+use crate::running::Running;
+use crate::serve_fault::ServeFault;
+use crate::telling::{add_line, batch_text};
+use crate::word::Word;
+use gi_desk::Body;
+use gi_initiator::Initiating;
+use gi_matcher::Matching;
+use gi_office::Seat;
+use gi_pairs::Side;
+use gi_script::{Instruction, Line};
+use sqlite::Alter;
+use std::alloc::{AllocError, Global};
+use std::sync::Wait;
+use std::sync::ledger::Ledger;
+use std::thread::Threads;
+use std::{mem, thread};
+
+/// Both offices under way.
+#[derive(Drop)]
+pub(crate) struct Both<L: Ledger, K: Ledger, S: Alter + Drop> {
+    pub(crate) alloc: Global,
+    pub(crate) sessions: u8,
+    pub(crate) initiating: Running<Initiating, L, S>,
+    pub(crate) matching: Running<Matching, K, S>,
+    ghost some: { 1 ≤ sessions },
+    ghost few: { sessions < 16 },
+    ghost ours: { initiating.office.seats ≡ sessions + 1 },
+    ghost theirs: { matching.office.seats ≡ sessions + 1 },
+}
+
+/// The side that an instruction is for.
+fn side_of(instruction: &Instruction) -> Side
+    ensures { result ≡ side_in instruction.now }
+{
+    match instruction {
+        Instruction::Call { side, .. } => *side,
+        Instruction::Save { side, .. } => *side,
+        Instruction::Deliver { side, .. } => *side,
+        Instruction::Restart { side, .. } => *side,
+        Instruction::Plan { side, .. } => *side,
+        Instruction::Carry { side } => *side,
+    }
+}
+
+/// What both came to, where neither was refused memory.
+fn both_of<A: Drop, B: Drop>(
+    ours: Result<A, AllocError>,
+    theirs: Result<B, AllocError>,
+) -> Result<(A, B), AllocError>
+    ensures ours { IfOk result (λ both. IfOk ours (λ one. both.0 ≡ one)) }
+    ensures theirs { IfOk result (λ both. IfOk theirs (λ one. both.1 ≡ one)) }
+    ensures done { OnOk result (IsOk ours × IsOk theirs) }
+{
+    let ours = ours?;
+    let theirs = theirs?;
+    Ok((ours, theirs))
+}
+
+/// Puts a value in another's place.
+fn put<A: Drop>(place: &mut A, value: A)
+    ensures { place.new ≡ value }
+{
+    *place = value;
+}
+
+impl<L: Ledger, K: Ledger, S: Alter + Drop> Both<L, K, S> {
+    /// Makes a line that is no submission: its text.
+    pub(crate) fn line<W: Wait>(&mut self, rt: &W, line: &Line) -> Result<String, AllocError>
+        requires ours { 0 < length self.old.initiating.seats.items }
+        requires theirs { 0 < length self.old.matching.seats.items }
+        ensures sessions { self.new.sessions ≡ self.old.sessions }
+        ensures ours { AreSamePlaces self.old.initiating.seats.items self.new.initiating.seats.items }
+        ensures theirs { AreSamePlaces self.old.matching.seats.items self.new.matching.seats.items }
+        ensures text { IfOk result (λ text. Tells (Single line.now) (string_bytes text)) }
+    {
+        let side = side_of(&line.instruction);
+        let word = match side {
+            Side::I => self.initiating.make(rt, &line.instruction)?,
+            Side::M => self.matching.make(rt, &line.instruction)?,
+        };
+        let mut text = String::new(self.alloc);
+        if let Some(word) = word {
+            add_line(self.alloc, &mut text, line.number, side, word)?;
+        }
+        Ok(text)
+    }
+
+    /// Sends what the main seats let out since it was last sent.
+    fn send(&mut self) -> Result<(), AllocError>
+        requires ours { 0 < length self.old.initiating.seats.items }
+        requires theirs { 0 < length self.old.matching.seats.items }
+        ensures sessions { self.new.sessions ≡ self.old.sessions }
+        ensures ours { self.new.initiating.seats ≡ self.old.initiating.seats }
+        ensures theirs { self.new.matching.seats ≡ self.old.matching.seats }
+    {
+        let orders = self.initiating.let_out()?;
+        self.matching.way.send_packets(orders)?;
+        let answers = self.matching.let_out()?;
+        self.initiating.way.send_packets(answers)
+    }
+
+    /// Makes all turns that save at both offices, and sends what the main seats let out.
+    #[tactic(auto, using(crate::proofs::Places::still_some))]
+    pub(crate) fn turns<W: Wait>(&mut self, rt: &W) -> Result<(), ServeFault>
+        requires ours { 0 < length self.old.initiating.seats.items }
+        requires theirs { 0 < length self.old.matching.seats.items }
+        ensures sessions { self.new.sessions ≡ self.old.sessions }
+        ensures ours { AreSamePlaces self.old.initiating.seats.items self.new.initiating.seats.items }
+        ensures theirs { AreSamePlaces self.old.matching.seats.items self.new.matching.seats.items }
+        ensures cut { IfErr result (λ fault. IsCut (Err fault)) }
+    {
+        if let Err(fault) = self.initiating.save_all(rt) {
+            return Err(ServeFault::Turn {
+                side: Side::I,
+                fault,
+            });
+        }
+        if let Err(fault) = self.matching.save_all(rt) {
+            return Err(ServeFault::Turn {
+                side: Side::M,
+                fault,
+            });
+        }
+        match self.send() {
+            Ok(()) => Ok(()),
+            Err(_) => Err(ServeFault::OutOfMemory),
+        }
+    }
+
+    /// Settles both offices, handed all their seats, and sets them against each other.
+    pub(crate) fn close(self) -> Result<Closed, AllocError>
+        ensures { IfOk result (λ closed. IsClosed L.parts (self.sessions + 1) self.initiating.seats.items K.parts (self.sessions + 1) self.matching.seats.items (string_bytes closed.text) closed.end) }
+    {
+        let Both {
+            alloc,
+            sessions: _,
+            initiating,
+            matching,
+        } = self;
+        let (office, seats) = initiating.into_parts();
+        let (peer, peer_seats) = matching.into_parts();
+        close_both(alloc, office, seats, peer, peer_seats)
+    }
+}
+
+impl<L: Ledger + Send + Sync, K: Ledger + Send + Sync, S: Alter + Drop> Both<L, K, S> {
+    /// The sessions of both offices submit at once: the words of each side's submissions, in order.
+    fn submit<T: Threads + Wait + Sync>(
+        &mut self,
+        rt: &T,
+        bodies: Vec<Body>,
+        peer_bodies: Vec<Body>,
+    ) -> Result<(Vec<Word>, Vec<Word>), AllocError>
+        requires ours { length self.old.initiating.seats.items ≡ self.old.sessions + 1 }
+        requires theirs { length self.old.matching.seats.items ≡ self.old.sessions + 1 }
+        ensures sessions { self.new.sessions ≡ self.old.sessions }
+        ensures ours { OnOk result (AreSamePlaces self.old.initiating.seats.items self.new.initiating.seats.items) }
+        ensures theirs { OnOk result (AreSamePlaces self.old.matching.seats.items self.new.matching.seats.items) }
+        ensures words { IfOk result (λ words. (length words.0.items ≡ length bodies.items) × (length words.1.items ≡ length peer_bodies.items)) }
+    {
+        let (alloc, sessions) = (self.alloc, self.sessions);
+        let seats = mem::replace(&mut self.initiating.seats, Vec::new(alloc));
+        let peer_seats = mem::replace(&mut self.matching.seats, Vec::new(alloc));
+        let office = &self.initiating.office;
+        let peer = &self.matching.office;
+        let (ours, theirs) = thread::join(
+            rt,
+            move || -> Result<(Vec<Seat<L>>, Vec<Word>), AllocError>
+                requires { IsSync T.row × (1 ≤ sessions) × (sessions < 16) × (length seats.items ≡ sessions + 1) }
+                ensures { IfOk result (λ submitted. AreSamePlaces seats.items submitted.0.items × (length submitted.1.items ≡ length bodies.items)) }
+            { submitted(rt, alloc, office, sessions, seats, bodies) },
+            move || -> Result<(Vec<Seat<K>>, Vec<Word>), AllocError>
+                requires { IsSync T.row × (1 ≤ sessions) × (sessions < 16) × (length peer_seats.items ≡ sessions + 1) }
+                ensures { IfOk result (λ submitted. AreSamePlaces peer_seats.items submitted.0.items × (length submitted.1.items ≡ length peer_bodies.items)) }
+            { submitted(rt, alloc, peer, sessions, peer_seats, peer_bodies) },
+        );
+        let ((seats, words), (peer_seats, peer_words)) = both_of(ours, theirs)?;
+        put(&mut self.initiating.seats, seats);
+        put(&mut self.matching.seats, peer_seats);
+        Ok((words, peer_words))
+    }
+
+    /// Makes a batch, by the sessions of both offices at once: its text.
+    pub(crate) fn batch<T: Threads + Wait + Sync>(
+        &mut self,
+        rt: &T,
+        lines: &[Line],
+    ) -> Result<String, AllocError>
+        requires ours { length self.old.initiating.seats.items ≡ self.old.sessions + 1 }
+        requires theirs { length self.old.matching.seats.items ≡ self.old.sessions + 1 }
+        ensures sessions { self.new.sessions ≡ self.old.sessions }
+        ensures ours { OnOk result (AreSamePlaces self.old.initiating.seats.items self.new.initiating.seats.items) }
+        ensures theirs { OnOk result (AreSamePlaces self.old.matching.seats.items self.new.matching.seats.items) }
+        ensures text { IfOk result (λ text. Tells (Batch lines.now) (string_bytes text)) }
+    {
+        let bodies = bodies_at(self.alloc, Side::I, lines)?;
+        let peer_bodies = bodies_at(self.alloc, Side::M, lines)?;
+        let (words, peer_words) = self.submit(rt, bodies, peer_bodies)?;
+        batch_text(self.alloc, lines, words, peer_words)
+    }
+}

@@ -1,0 +1,239 @@
+//! One office under way: its book, its seats, and the way to it.
+
+ghost use Rattle.std.specs.Prelude.{◌≡◌, ◌≤◌, ◌<◌, ◌+◌, IfErr, IfOk, OnOk, false, is_some, length, true};
+ghost use Rattle.gi_office.specs.Opening.{new_seats};
+ghost use Rattle.gi_serving.specs.Ending.{AreSamePlaces, IsTurnFault, place_of};
+ghost use Rattle.gi_serving.specs.Runs.{is_made, is_told};
+
+use crate::word::Word;
+use gi_desk::{Body, Call, Desk, Packet, Role};
+use gi_office::{Note, Office, OfficeFault, Receipt, SaveFault, Seat, Turn};
+use gi_script::Instruction;
+use gi_simulation::Link;
+use gi_store::BookStore;
+use sqlite::Alter;
+use std::alloc::{AllocError, Global};
+use std::sync::Wait;
+use std::sync::ledger::{Blank, Ledger};
+
+/// An office under way.
+#[derive(Drop)]
+pub(crate) struct Running<R: Role, L: Ledger, S: Alter + Drop> {
+    pub(crate) alloc: Global,
+    pub(crate) office: Office<R, L>,
+    pub(crate) book: BookStore<S>,
+    /// The seats of the sessions, in order, and then the main thread's.
+    pub(crate) seats: Vec<Seat<L>>,
+    /// How many of the main seat's notes were sent.
+    pub(crate) sent: usize,
+    /// The way to this office.
+    pub(crate) way: Link,
+}
+
+/// Makes a call from the seat; marks are made by turns alone.
+#[tactic(auto, using(crate::proofs::Places::answered))]
+fn called<R: Role, L: Ledger, W: Wait>(
+    rt: &W,
+    office: &Office<R, L>,
+    seat: Seat<L>,
+    call: Call,
+) -> (Seat<L>, Option<Result<Receipt, OfficeFault>>)
+    ensures place { place_of result.0 ≡ place_of seat }
+    ensures made { is_some result.1 ≡ is_made call }
+{
+    let (seat, answer) = match call {
+        Call::Contract(contract) => office.contract(rt, seat, contract),
+        Call::Notice(notice) => office.notice(rt, seat, notice),
+        Call::Submit(body) => office.submit(rt, seat, body),
+        Call::Close(id) => office.close_cycle(rt, seat, id),
+        Call::Deliver(body) => office.deliver(rt, seat, body),
+        Call::Resend(id) => office.resend(rt, seat, id),
+        Call::Halt => office.halt(rt, seat),
+        Call::MarkSaved { .. } => return (seat, None),
+    };
+    (seat, Some(answer))
+}
+
+/// The word of a call, if it was made.
+fn word_of(answer: Option<Result<Receipt, OfficeFault>>) -> Result<Option<Word>, AllocError>
+    ensures { IfOk result (λ word. is_some word ≡ is_some answer) }
+{
+    let Some(answer) = answer else {
+        return Ok(None);
+    };
+    match Word::of_call(answer) {
+        Some(word) => Ok(Some(word)),
+        None => Err(AllocError),
+    }
+}
+
+/// Whether a turn saved a fact.
+fn saved(turn: Result<Turn, SaveFault>) -> Result<bool, SaveFault>
+    ensures { IfErr result IsTurnFault }
+{
+    match turn {
+        Ok(Turn::Saved(_)) => Ok(true),
+        Ok(Turn::Nothing) => Ok(false),
+        Err(SaveFault::Halted) => Ok(false),
+        Err(fault) => Err(fault),
+    }
+}
+
+fn add_copies(packets: &mut Vec<Packet>, more: &[Packet]) -> Result<(), AllocError> {
+    for packet in more {
+        packets.push(packet.copy()?)?;
+    }
+    Ok(())
+}
+
+/// What the notes let out, without so many of the first.
+fn out_since(alloc: Global, notes: &[Note], sent: usize) -> Result<Vec<Packet>, AllocError> {
+    let mut packets = Vec::new(alloc);
+    for note in notes.iter().skip(sent) {
+        add_copies(&mut packets, note.reply.out.as_slice())?;
+    }
+    Ok(packets)
+}
+
+impl<R: Role, L: Ledger, S: Alter + Drop> Running<R, L, S> {
+    /// Opens the office, with a seat for each session and one for the main thread.
+    pub(crate) fn open(
+        alloc: Global,
+        blank: Blank,
+        desk: Desk<R>,
+        book: BookStore<S>,
+        sessions: u8,
+    ) -> Result<Running<R, L, S>, AllocError>
+        requires name { blank.name ≡ L.name }
+        requires whole { blank.parts ≡ L.parts }
+        requires parts { blank.parts ≡ 16 }
+        requires few { sessions < 16 }
+        requires saved { desk.saved ≡ length desk.facts }
+        requires runs { desk.halted ≡ false }
+        ensures office { IfOk result (λ running. running.office.seats ≡ sessions + 1) }
+        ensures seats { IfOk result (λ running. running.seats.items ≡ new_seats (sessions + 1)) }
+    {
+        let way = Link::new(alloc)?;
+        match Office::<R, L>::new(alloc, blank, desk, sessions as usize + 1) {
+            Ok((office, seats)) => Ok(Running {
+                alloc,
+                office,
+                book,
+                seats,
+                sent: 0,
+                way,
+            }),
+            Err(_) => Err(AllocError),
+        }
+    }
+
+    /// Makes a call from the main seat: the word of it. Marks are made by turns alone, and have none.
+    #[tactic(auto, using(crate::proofs::Places::put_back))]
+    fn ask<W: Wait>(&mut self, rt: &W, call: Call) -> Result<Option<Word>, AllocError>
+        requires { 0 < length self.old.seats.items }
+        ensures office { self.new.office ≡ self.old.office }
+        ensures seats { AreSamePlaces self.old.seats.items self.new.seats.items }
+        ensures told { IfOk result (λ word. is_some word ≡ is_made call) }
+    {
+        let main = self.seats.pop().unwrap();
+        let (main, answer) = called(rt, &self.office, main, call);
+        self.seats.push_reserved(main);
+        word_of(answer)
+    }
+
+    /// Makes the carrier's next move; what it gives is delivered.
+    fn carry<W: Wait>(&mut self, rt: &W) -> Result<Option<Word>, AllocError>
+        requires { 0 < length self.old.seats.items }
+        ensures office { self.new.office ≡ self.old.office }
+        ensures seats { AreSamePlaces self.old.seats.items self.new.seats.items }
+        ensures told { IfOk result (λ word. is_some word ≡ true) }
+    {
+        match self.way.next()? {
+            Some(message) => self.ask(rt, Call::Deliver(Body::from(message))),
+            None => Ok(Some(Word::Nothing)),
+        }
+    }
+
+    /// Makes what an instruction asks of this office: the word of it, if it has one. What a running
+    /// office does not take does nothing.
+    pub(crate) fn make<W: Wait>(
+        &mut self,
+        rt: &W,
+        instruction: &Instruction,
+    ) -> Result<Option<Word>, AllocError>
+        requires { 0 < length self.old.seats.items }
+        ensures office { self.new.office ≡ self.old.office }
+        ensures seats { AreSamePlaces self.old.seats.items self.new.seats.items }
+        ensures told { IfOk result (λ word. is_some word ≡ is_told instruction.now) }
+    {
+        match instruction {
+            Instruction::Call { side: _, call } => self.ask(rt, call.copy()?),
+            Instruction::Carry { side: _ } => self.carry(rt),
+            Instruction::Plan { side: _, plan } => {
+                self.way.set(plan)?;
+                Ok(None)
+            }
+            _ => Ok(None),
+        }
+    }
+
+    /// Makes a turn that saves: whether it saved a fact.
+    #[tactic(auto, using(crate::proofs::Places::put_back, crate::proofs::Places::turned))]
+    fn turn<W: Wait>(&mut self, rt: &W) -> Result<bool, SaveFault>
+        requires { 0 < length self.old.seats.items }
+        ensures office { self.new.office ≡ self.old.office }
+        ensures seats { AreSamePlaces self.old.seats.items self.new.seats.items }
+        ensures fault { IfErr result IsTurnFault }
+    {
+        let main = self.seats.pop().unwrap();
+        let (main, turn) = self.office.save_turn(rt, main, &mut self.book);
+        self.seats.push_reserved(main);
+        saved(turn)
+    }
+
+    /// Makes turns that save until there is nothing to save or the desk is halted.
+    #[tactic(auto, using(crate::proofs::Places::same_again, crate::proofs::Places::still_some))]
+    pub(crate) fn save_all<W: Wait>(&mut self, rt: &W) -> Result<(), SaveFault>
+        requires { 0 < length self.old.seats.items }
+        ensures office { self.new.office ≡ self.old.office }
+        ensures seats { AreSamePlaces self.old.seats.items self.new.seats.items }
+        ensures fault { IfErr result IsTurnFault }
+    {
+        for _ in rt.forever() {
+            match self.turn(rt) {
+                Ok(true) => {}
+                Ok(false) => return Ok(()),
+                Err(fault) => return Err(fault),
+            }
+        }
+        unreachable!()
+    }
+
+    /// What the main seat let out since it was last asked.
+    pub(crate) fn let_out(&mut self) -> Result<Vec<Packet>, AllocError>
+        requires { 0 < length self.old.seats.items }
+        ensures office { self.new.office ≡ self.old.office }
+        ensures seats { self.new.seats ≡ self.old.seats }
+    {
+        let notes = self.seats.last().unwrap().notes();
+        let packets = out_since(self.alloc, notes, self.sent)?;
+        self.sent = notes.len();
+        Ok(packets)
+    }
+
+    /// The office and all its seats.
+    pub(crate) fn into_parts(self) -> (Office<R, L>, Vec<Seat<L>>)
+        ensures office { result.0 ≡ self.office }
+        ensures seats { result.1 ≡ self.seats }
+    {
+        let Running {
+            alloc: _,
+            office,
+            book: _,
+            seats,
+            sent: _,
+            way: _,
+        } = self;
+        (office, seats)
+    }
+}

@@ -1,0 +1,36 @@
+ghost use Rattle.std.specs.Prelude.{◌≡◌, Some};
+
+use gi_office::{SaveFault, Unreconciled, Unsettled};
+use gi_pairs::Side;
+use std::error::Error;
+use std::fmt;
+
+/// Why two offices did not serve a script to its end, or not well.
+#[derive(Clone, Copy, Debug, PartialEq, Eq)]
+pub enum ServeFault {
+    /// A turn that saves ended by this fault, at that side.
+    Turn { side: Side, fault: SaveFault },
+    /// What a seat noted is not what stands in the trail, at that side.
+    Unsettled { side: Side, fault: Unsettled },
+    /// The two offices are not reconciled.
+    Unreconciled(Unreconciled),
+    /// Memory ran out.
+    OutOfMemory,
+}
+
+impl fmt::Display for ServeFault {
+    ghost use Rattle.gi_serving.specs.FaultText.{serve_fault_text};
+
+    ghost output = { λ fault. Some (serve_fault_text fault) };
+
+    fn fmt<W: fmt::Write>(&self, f: &mut fmt::Formatter<W>) -> fmt::Result {
+        match self {
+            ServeFault::Turn { side: _, fault } => write!(f, "{fault}"),
+            ServeFault::Unsettled { side: _, fault } => write!(f, "{fault}"),
+            ServeFault::Unreconciled(fault) => write!(f, "{fault}"),
+            ServeFault::OutOfMemory => f.write_str("OutOfMemory"),
+        }
+    }
+}
+
+impl Error for ServeFault {}

@@ -1,0 +1,338 @@
+//! A script, served by both offices.
+
+ghost use Rattle.std.specs.Prelude.{◌≡◌, ◌≤◌, ◌<◌, ◌+◌, Err, IfErr, IfOk, OnErr, OnOk, [], false, is_none, length, max, string_bytes};
+ghost use Rattle.gi_serving.specs.Batches.{submission as submission_in};
+ghost use Rattle.gi_serving.specs.Ending.{AreAllSeats, AreSamePlaces, IsCut, IsOver, IsTold};
+ghost use Rattle.gi_serving.specs.Runs.{AddsFirst, IsFirst, TellsAll, TellsFirst, lead, pieces};
+
+use crate::both::Both;
+use crate::closing::Closed;
+use crate::pieces::submission;
+use crate::running::Running;
+use crate::serve_fault::ServeFault;
+use crate::watch::Watch;
+use gi_desk::Desk;
+use gi_initiator::Initiating;
+use gi_matcher::Matching;
+use gi_script::{Line, Script};
+use gi_store::BookStore;
+use sqlite::Alter;
+use std::alloc::{AllocError, Global};
+use std::marker::Brand;
+use std::sync::Wait;
+use std::sync::ledger::{Blank, Ledger};
+use std::thread::Threads;
+
+/// What a script came to: a line for each step and the last lines, and how it ended.
+#[derive(Debug, Drop)]
+pub struct Served {
+    pub text: String,
+    pub end: Result<(), ServeFault>,
+}
+
+/// Whether the line is no submission.
+#[tactic(auto, using(crate::proofs::Walking::none_mapped))]
+fn is_single(line: &Line) -> bool
+    ensures { result ≡ is_none (submission_in line.now.instruction) }
+{
+    submission(line).is_none()
+}
+
+/// How many of the first lines are submissions.
+#[tactic(auto, using(crate::proofs::Walking::lead_more, crate::proofs::Walking::lead_here, crate::proofs::Walking::lead_past))]
+fn batch_length(lines: &[Line]) -> usize
+    ensures counted { result ≡ lead lines.now }
+    ensures within { result ≤ length lines.now }
+{
+    for i in 0..lines.len() {
+        if is_single(&lines[i]) {
+            return i;
+        }
+    }
+    lines.len()
+}
+
+/// Makes the first line, or the batch of the first so many lines where there are any: its text.
+#[tactic(auto, using(crate::proofs::Walking::first_batch))]
+fn made<
+    L: Ledger + Send + Sync,
+    K: Ledger + Send + Sync,
+    S: Alter + Drop,
+    T: Threads + Wait + Sync,
+>(rt: &T, both: &mut Both<L, K, S>, lines: &[Line], batch: usize) -> Result<String, AllocError>
+    requires some { 0 < length lines.now }
+    requires batch { batch ≡ lead lines.now }
+    requires within { batch ≤ length lines.now }
+    requires ours { length both.old.initiating.seats.items ≡ both.old.sessions + 1 }
+    requires theirs { length both.old.matching.seats.items ≡ both.old.sessions + 1 }
+    ensures sessions { both.new.sessions ≡ both.old.sessions }
+    ensures ours { OnOk result (AreSamePlaces both.old.initiating.seats.items both.new.initiating.seats.items) }
+    ensures theirs { OnOk result (AreSamePlaces both.old.matching.seats.items both.new.matching.seats.items) }
+    ensures text { IfOk result (λ text. IsFirst lines.now (max batch 1) (string_bytes text)) }
+{
+    if batch == 0 {
+        both.line(rt, &lines[0])
+    } else {
+        both.batch(rt, &lines[..batch])
+    }
+}
+
+/// Makes these and then the turns that save, and tells of them. Nothing is told where it is cut off.
+#[tactic(auto, using(crate::proofs::Places::same_again, crate::proofs::Places::same_length, crate::proofs::Places::still_some))]
+fn step<
+    L: Ledger + Send + Sync,
+    K: Ledger + Send + Sync,
+    S: Alter + Drop,
+    T: Threads + Wait + Sync,
+>(
+    rt: &T,
+    both: &mut Both<L, K, S>,
+    lines: &[Line],
+    batch: usize,
+    text: &mut String,
+) -> Result<(), ServeFault>
+    requires some { 0 < length lines.now }
+    requires batch { batch ≡ lead lines.now }
+    requires within { batch ≤ length lines.now }
+    requires ours { length both.old.initiating.seats.items ≡ both.old.sessions + 1 }
+    requires theirs { length both.old.matching.seats.items ≡ both.old.sessions + 1 }
+    ensures sessions { both.new.sessions ≡ both.old.sessions }
+    ensures ours { OnOk result (AreSamePlaces both.old.initiating.seats.items both.new.initiating.seats.items) }
+    ensures theirs { OnOk result (AreSamePlaces both.old.matching.seats.items both.new.matching.seats.items) }
+    ensures told { OnOk result (AddsFirst lines.now (max batch 1) (string_bytes text.old) (string_bytes text.new)) }
+    ensures kept { OnErr result (string_bytes text.new ≡ string_bytes text.old) }
+    ensures cut { IfErr result (λ fault. IsCut (Err fault)) }
+{
+    let Ok(said) = made(rt, both, lines, batch) else {
+        return Err(ServeFault::OutOfMemory);
+    };
+    if let Err(fault) = both.turns(rt) {
+        return Err(fault);
+    }
+    match text.push_str(said.as_str()) {
+        Ok(()) => Ok(()),
+        Err(_) => Err(ServeFault::OutOfMemory),
+    }
+}
+
+/// Makes all lines, batch by batch, and adds what it tells of them to the text.
+#[tactic(auto, using(crate::proofs::Places::same_again, crate::proofs::Places::same_length, crate::proofs::Walking::next_made, crate::proofs::Walking::begun, crate::proofs::Walking::so_far, crate::proofs::Walking::to_the_end))]
+fn run<
+    L: Ledger + Send + Sync,
+    K: Ledger + Send + Sync,
+    S: Alter + Drop,
+    T: Threads + Wait + Sync,
+    V: Watch,
+>(
+    rt: &T,
+    both: &mut Both<L, K, S>,
+    lines: &[Line],
+    text: &mut String,
+    watch: &mut V,
+) -> Result<(), ServeFault>
+    requires none { string_bytes text.old ≡ [] }
+    requires ours { length both.old.initiating.seats.items ≡ both.old.sessions + 1 }
+    requires theirs { length both.old.matching.seats.items ≡ both.old.sessions + 1 }
+    ensures sessions { both.new.sessions ≡ both.old.sessions }
+    ensures ours { OnOk result (AreSamePlaces both.old.initiating.seats.items both.new.initiating.seats.items) }
+    ensures theirs { OnOk result (AreSamePlaces both.old.matching.seats.items both.new.matching.seats.items) }
+    ensures told { TellsFirst lines.now (string_bytes text.new) }
+    ensures whole { OnOk result (TellsAll (pieces lines.now) (string_bytes text.new)) }
+    ensures cut { IfErr result (λ fault. IsCut (Err fault)) }
+{
+    let mut at = 0;
+    while at < lines.len() {
+        let left = &lines[at..];
+        let batch = batch_length(left);
+        if let Err(fault) = step(rt, both, left, batch, text) {
+            return Err(fault);
+        }
+        at += batch.max(1);
+        watch.made(at, lines.len());
+    }
+    Ok(())
+}
+
+/// Adds the last lines, and says how it ended.
+fn told(text: &mut String, closed: Closed) -> Result<(), ServeFault>
+    ensures { IsTold (string_bytes text.old) (string_bytes closed.text) closed.end (string_bytes text.new) result }
+{
+    let Closed { text: last, end } = closed;
+    match text.push_str(last.as_str()) {
+        Ok(()) => end,
+        Err(_) => Err(ServeFault::OutOfMemory),
+    }
+}
+
+/// Closes both offices, adds the last lines, and says how it ended.
+#[tactic(auto, using(crate::proofs::Endings::cut, crate::proofs::Walking::whole_first))]
+fn closed<L: Ledger, K: Ledger, S: Alter + Drop>(
+    both: Both<L, K, S>,
+    lines: &[Line],
+    text: &mut String,
+) -> Result<(), ServeFault>
+    requires parts { L.parts ≡ 16 }
+    requires peer_parts { K.parts ≡ 16 }
+    requires ours { AreAllSeats (both.sessions + 1) both.initiating.seats.items }
+    requires theirs { AreAllSeats (both.sessions + 1) both.matching.seats.items }
+    requires told { TellsAll (pieces lines.now) (string_bytes text.old) }
+    ensures { IsOver both.sessions lines.now (string_bytes text.new) result }
+{
+    match both.close() {
+        Ok(closed) => told(text, closed),
+        Err(_) => Err(ServeFault::OutOfMemory),
+    }
+}
+
+/// Makes all lines, and closes.
+#[tactic(auto, using(crate::proofs::Places::all_length, crate::proofs::Places::still_all, crate::proofs::Endings::counted_so, crate::proofs::Endings::cut))]
+fn end_of<
+    L: Ledger + Send + Sync,
+    K: Ledger + Send + Sync,
+    S: Alter + Drop,
+    T: Threads + Wait + Sync,
+    V: Watch,
+>(
+    rt: &T,
+    both: Both<L, K, S>,
+    lines: &[Line],
+    text: &mut String,
+    watch: &mut V,
+) -> Result<(), ServeFault>
+    requires none { string_bytes text.old ≡ [] }
+    requires parts { L.parts ≡ 16 }
+    requires peer_parts { K.parts ≡ 16 }
+    requires ours { AreAllSeats (both.sessions + 1) both.initiating.seats.items }
+    requires theirs { AreAllSeats (both.sessions + 1) both.matching.seats.items }
+    ensures { IsOver both.sessions lines.now (string_bytes text.new) result }
+{
+    let mut both = both;
+    if let Err(fault) = run(rt, &mut both, lines, text, watch) {
+        return Err(fault);
+    }
+    closed(both, lines, text)
+}
+
+#[tactic(auto, using(crate::proofs::Endings::cut, crate::proofs::Walking::none_first))]
+fn with_both<
+    L: Ledger + Send + Sync,
+    K: Ledger + Send + Sync,
+    S: Alter + Drop,
+    T: Threads + Wait + Sync,
+    V: Watch,
+>(
+    rt: &T,
+    alloc: Global,
+    script: &Script,
+    sessions: u8,
+    initiating: Running<Initiating, L, S>,
+    blank: Blank,
+    matching: (Desk<Matching>, BookStore<S>),
+    text: &mut String,
+    watch: &mut V,
+) -> Result<(), ServeFault>
+    requires none { string_bytes text.old ≡ [] }
+    requires name { blank.name ≡ K.name }
+    requires whole { blank.parts ≡ K.parts }
+    requires parts { blank.parts ≡ 16 }
+    requires some { 1 ≤ sessions }
+    requires few { sessions < 16 }
+    requires ours { L.parts ≡ 16 }
+    requires office { initiating.office.seats ≡ sessions + 1 }
+    requires seats { AreAllSeats (sessions + 1) initiating.seats.items }
+    requires saved { matching.0.saved ≡ length matching.0.facts }
+    requires runs { matching.0.halted ≡ false }
+    ensures { IsOver sessions script.now.lines (string_bytes text.new) result }
+{
+    let (desk, book) = matching;
+    let Ok(matching) = Running::<Matching, K, S>::open(alloc, blank, desk, book, sessions) else {
+        return Err(ServeFault::OutOfMemory);
+    };
+    let both = Both {
+        alloc,
+        sessions,
+        initiating,
+        matching,
+    };
+    end_of(rt, both, script.lines(), text, watch)
+}
+
+#[tactic(auto, using(crate::proofs::Endings::cut, crate::proofs::Walking::none_first))]
+fn with_one<L: Ledger + Send + Sync, S: Alter + Drop, T: Threads + Wait + Sync, V: Watch>(
+    rt: &T,
+    alloc: Global,
+    script: &Script,
+    sessions: u8,
+    blank: Blank,
+    initiating: (Desk<Initiating>, BookStore<S>),
+    matching: (Desk<Matching>, BookStore<S>),
+    text: &mut String,
+    watch: &mut V,
+) -> Result<(), ServeFault>
+    requires none { string_bytes text.old ≡ [] }
+    requires name { blank.name ≡ L.name }
+    requires whole { blank.parts ≡ L.parts }
+    requires parts { blank.parts ≡ 16 }
+    requires some { 1 ≤ sessions }
+    requires few { sessions < 16 }
+    requires saved { initiating.0.saved ≡ length initiating.0.facts }
+    requires runs { initiating.0.halted ≡ false }
+    requires peer_saved { matching.0.saved ≡ length matching.0.facts }
+    requires peer_runs { matching.0.halted ≡ false }
+    ensures { IsOver sessions script.now.lines (string_bytes text.new) result }
+{
+    let (desk, book) = initiating;
+    let Ok(initiating) = Running::<Initiating, L, S>::open(alloc, blank, desk, book, sessions)
+    else {
+        return Err(ServeFault::OutOfMemory);
+    };
+    with_both::<L, Brand, S, T, V>(
+        rt,
+        alloc,
+        script,
+        sessions,
+        initiating,
+        Blank::new(16),
+        matching,
+        text,
+        watch,
+    )
+}
+
+/// Serves a script by both offices, each with so many sessions, from 1 to 15, from desks that are not
+/// halted and whose facts are all saved, and their books, which are loaded. The text has a line of each
+/// step, and then the last lines of both offices, handed all their seats. Where memory runs out, or a turn
+/// that saves answers a fault, that is the end, and the text has the lines of what was done before. The
+/// watch is told after each batch and each other line how many lines are made.
+pub fn serve<S: Alter + Drop, T: Threads + Wait + Sync, V: Watch>(
+    rt: &T,
+    alloc: Global,
+    script: &Script,
+    sessions: u8,
+    initiating: (Desk<Initiating>, BookStore<S>),
+    matching: (Desk<Matching>, BookStore<S>),
+    watch: &mut V,
+) -> Served
+    requires some { 1 ≤ sessions }
+    requires few { sessions < 16 }
+    requires saved { initiating.0.saved ≡ length initiating.0.facts }
+    requires runs { initiating.0.halted ≡ false }
+    requires peer_saved { matching.0.saved ≡ length matching.0.facts }
+    requires peer_runs { matching.0.halted ≡ false }
+    ensures { IsOver sessions script.now.lines (string_bytes result.text) result.end }
+{
+    let mut text = String::new(alloc);
+    let end = with_one::<Brand, S, T, V>(
+        rt,
+        alloc,
+        script,
+        sessions,
+        Blank::new(16),
+        initiating,
+        matching,
+        &mut text,
+        watch,
+    );
+    watch.ended();
+    Served { text, end }
+}

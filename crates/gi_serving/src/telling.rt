@@ -1,0 +1,66 @@
+//! The lines that tell what came of steps.
+
+ghost use Rattle.std.specs.Prelude.{◌≡◌, ◌++◌, IfOk, OnErr, OnOk, string_bytes};
+ghost use Rattle.gi_serving.specs.Batches.{batch_text as text_of, told as told_of};
+ghost use Rattle.gi_serving.specs.Words.{step_line};
+
+use crate::pieces::submission;
+use crate::word::Word;
+use gi_pairs::Side;
+use gi_script::Line;
+use std::alloc::{AllocError, Global};
+
+/// Adds the line `12 I recorded` of a step. Where memory runs out the text is as it was.
+pub(crate) fn add_line(
+    alloc: Global,
+    text: &mut String,
+    number: u64,
+    side: Side,
+    word: Word,
+) -> Result<(), AllocError>
+    ensures added { OnOk result (string_bytes text.new ≡ string_bytes text.old ++ step_line number side word) }
+    ensures kept { OnErr result (string_bytes text.new ≡ string_bytes text.old) }
+{
+    let line = format!(in alloc; "{number} {side} {word}\n")?;
+    text.push_str(line.as_str())
+}
+
+/// Adds the line of a submission at a side, where there is a word of it.
+fn add_told(
+    alloc: Global,
+    text: &mut String,
+    number: u64,
+    side: Side,
+    word: Option<Word>,
+) -> Result<(), AllocError>
+    ensures { OnOk result (string_bytes text.new ≡ string_bytes text.old ++ told_of number side word) }
+{
+    match word {
+        Some(word) => add_line(alloc, text, number, side, word),
+        None => Ok(()),
+    }
+}
+
+/// The lines of a batch in order, each with the next word of its side.
+pub(crate) fn batch_text(
+    alloc: Global,
+    lines: &[Line],
+    initiating: Vec<Word>,
+    matching: Vec<Word>,
+) -> Result<String, AllocError>
+    ensures { IfOk result (λ text. string_bytes text ≡ text_of lines.now initiating.items matching.items) }
+{
+    let mut text = String::new(alloc);
+    let mut initiating = initiating.into_iter();
+    let mut matching = matching.into_iter();
+    for line in lines {
+        if let Some((side, _)) = submission(line) {
+            let word = match side {
+                Side::I => initiating.next(),
+                Side::M => matching.next(),
+            };
+            add_told(alloc, &mut text, line.number, side, word)?;
+        }
+    }
+    Ok(text)
+}

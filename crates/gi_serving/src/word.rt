@@ -1,0 +1,76 @@
+//! What came of a step, in a word.
+
+ghost use Rattle.std.specs.Prelude.{◌≡◌};
+ghost use Rattle.gi_serving.specs.Words.{word_of, word_of_call};
+
+use gi_desk::{Answer, Refusal};
+use gi_office::{OfficeFault, Receipt};
+use std::fmt;
+
+/// What came of a step, without numbers of facts and packets.
+#[derive(Clone, Copy, Debug, PartialEq, Eq)]
+pub enum Word {
+    /// The call is recorded.
+    Recorded,
+    /// The call repeats what is recorded.
+    Repeat,
+    /// A fact is saved.
+    Saved,
+    /// What a cycle let out is let out again.
+    Resent,
+    /// The desk is halted.
+    Stopped,
+    /// The carrier gave nothing.
+    Nothing,
+    /// The desk refused it.
+    Refused(Refusal),
+    /// The seat is full, or it was before what was left undone.
+    SeatFull,
+}
+
+impl fmt::Display for Word {
+    ghost use Rattle.std.specs.Prelude.{Some};
+    ghost use Rattle.gi_serving.specs.Words.{word_text};
+
+    ghost output = { λ word. Some (word_text word) };
+
+    fn fmt<W: fmt::Write>(&self, f: &mut fmt::Formatter<W>) -> fmt::Result {
+        match self {
+            Word::Recorded => f.write_str("recorded"),
+            Word::Repeat => f.write_str("repeat"),
+            Word::Saved => f.write_str("saved"),
+            Word::Resent => f.write_str("resent"),
+            Word::Stopped => f.write_str("stopped"),
+            Word::Nothing => f.write_str("nothing"),
+            Word::Refused(refusal) => write!(f, "refused {refusal}"),
+            Word::SeatFull => f.write_str("refused SeatFull"),
+        }
+    }
+}
+
+impl Word {
+    /// That of a desk's answer.
+    pub(crate) fn of(answer: &Answer) -> Word
+        ensures { result ≡ word_of answer.now }
+    {
+        match answer {
+            Answer::Recorded { .. } => Word::Recorded,
+            Answer::Repeat { .. } => Word::Repeat,
+            Answer::Saved { .. } => Word::Saved,
+            Answer::Resent => Word::Resent,
+            Answer::Stopped => Word::Stopped,
+            Answer::Refused(refusal) => Word::Refused(*refusal),
+        }
+    }
+
+    /// What came of a call to an office; want of memory has no word.
+    pub(crate) fn of_call(answer: Result<Receipt, OfficeFault>) -> Option<Word>
+        ensures { result ≡ word_of_call answer }
+    {
+        match answer {
+            Ok(receipt) => Some(Word::of(&receipt.reply.answer)),
+            Err(OfficeFault::SeatFull) => Some(Word::SeatFull),
+            Err(OfficeFault::OutOfMemory) => None,
+        }
+    }
+}
