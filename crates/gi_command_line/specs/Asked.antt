@@ -1,13 +1,15 @@
 -- What can be asked of the program.
-use Rattle.std.specs.Prelude.{ℕ, List, Option, None, Some}
+use Rattle.std.specs.Prelude.{ℕ, List, Option, None, Some, option_map}
 use Rattle.gi_pairs.specs.declared.side.Side.{Side}
 use Rattle.gi_command_line.specs.declared.request.BookFile.{BookFile}
 use Rattle.gi_command_line.specs.declared.request.ReportKind.{ReportKind}
 use Rattle.gi_command_line.specs.declared.request.Request.{Request}
 use Rattle.gi_command_line.specs.declared.request.Request.TheVariants as request
+use Rattle.gi_command_line.specs.declared.request.Task.{Task}
+use Rattle.gi_command_line.specs.declared.request.Task.TheVariants as task
 
--- one of the commands; a report of this kind and side, over a script or over the book in a file, for this point; or
--- a report in wrong words
+-- one of the commands but `serve`; a report of this kind and side, over a script or over the book in a file, for this
+-- point; or a command in wrong words
 pub data Asked : Type 0 where
   match_tables : Asked
   hours : List ℕ → Asked
@@ -26,3 +28,13 @@ meaning (request.Hours day) = hours day.now
 meaning request.Simulate = simulate
 meaning (request.Report wanted) = report wanted.kind wanted.side (book_of wanted.book)
 meaning (request.Mistaken why) = mistaken
+
+-- any of the commands: one of these, or both offices run by a script, each with so many sessions, and their books in the
+-- files whose names begin so, else in memory
+pub data Wanted : Type 0 where
+  at_once : Asked → Wanted
+  serve : ℕ → Option (List ℕ) → Wanted
+
+abbrev pub task_meaning : Task → Wanted
+task_meaning (task.AtOnce request) = at_once (meaning request)
+task_meaning (task.Serve service) = serve service.sessions (option_map (λ s. s.now) service.books)

@@ -6,8 +6,9 @@ use Rattle.clap.specs.declared.error.kind.ErrorKind.{ErrorKind}
 use Rattle.clap.specs.declared.error.kind.ErrorKind.TheVariants.{DisplayHelp, DisplayVersion}
 use Rattle.gi_pairs.specs.Side.{side_named}
 use Rattle.gi_pairs.specs.declared.side.Side.{Side}
-use Rattle.gi_command_line.specs.Asked.{Asked, hours, match_tables, mistaken, report, simulate}
+use Rattle.gi_command_line.specs.Asked.{Asked, Wanted, at_once, hours, match_tables, mistaken, report, serve, simulate}
 use Rattle.gi_command_line.specs.ReportWords.{kind_named}
+use Rattle.gi_command_line.specs.Sessions.{default_sessions, sessions_named}
 use Rattle.gi_command_line.specs.declared.request.ReportKind.{ReportKind}
 
 -- ---- the commands and options that the program knows
@@ -19,17 +20,29 @@ word name = record (new_rule name) { required = true }
 abbrev pub option : List ℕ → Rule
 option name = record (new_rule name) { long = Some name; value_names = 1 }
 
+abbrev pub the_match : App
+the_match = new_app (codes "match")
+
 abbrev pub the_hours : App
 the_hours = with_rule (new_app (codes "hours")) (word (codes "DAY"))
+
+abbrev pub the_simulate : App
+the_simulate = new_app (codes "simulate")
 
 abbrev pub the_report : App
 the_report = with_rule (with_rule (with_rule (with_rule (new_app (codes "report")) (word (codes "KIND"))) (word (codes "SIDE"))) (option (codes "book"))) (option (codes "point"))
 
+abbrev pub the_serve : App
+the_serve = with_rule (with_rule (new_app (codes "serve")) (option (codes "sessions"))) (option (codes "books"))
+
+-- the program's own name and version, and its commands
+abbrev pub named : App
+named = let new = new_app (codes "gi_dispatch") in record new { top = record new.top { has_version = true } }
+
 abbrev pub the_program : App
 the_program =
-    let named = new_app (codes "gi_dispatch") in
-    let with_match = with_subcommand (record named { top = record named.top { has_version = true } }) (new_app (codes "match")).top in
-    with_subcommand (with_subcommand (with_subcommand with_match the_hours.top) (new_app (codes "simulate")).top) the_report.top
+    let with_simulate = with_subcommand (with_subcommand (with_subcommand named the_match.top) the_hours.top) the_simulate.top in
+    with_subcommand (with_subcommand with_simulate the_report.top) the_serve.top
 
 -- why the words ask for no command, as `clap` tells it: none of these where they ask for one
 abbrev pub objections : List (List ℕ) → Kinds
@@ -65,18 +78,33 @@ abbrev pub report_asked : List Row → Asked
 report_asked rows =
     report_of (kind_named (value_of (codes "KIND") rows)) (side_named (value_of (codes "SIDE") rows)) (first_of (codes "book") rows) (first_of (codes "point") rows)
 
+-- two sessions where no number is named
+abbrev pub sessions_asked : Option (List ℕ) → Option ℕ
+sessions_asked None = Some default_sessions
+sessions_asked (Some word) = sessions_named word
+
+abbrev pub service_of : Option ℕ → Option (List ℕ) → Wanted
+service_of None books = at_once mistaken
+service_of (Some sessions) books = serve sessions books
+
+abbrev pub serve_asked : List Row → Wanted
+serve_asked rows = service_of (sessions_asked (first_of (codes "sessions") rows)) (first_of (codes "books") rows)
+
 -- a command is asked for by its name, and `match` also by no name
-abbrev pub asked_by : List ℕ → List Row → Asked
-asked_by name rows =
+abbrev pub asked_at_once : List ℕ → List Row → Asked
+asked_at_once name rows =
     if bytes_eq name (codes "hours") then hours_asked (first_of (codes "DAY") rows)
     else (if bytes_eq name (codes "simulate") then simulate else (if bytes_eq name (codes "report") then report_asked rows else match_tables))
 
-abbrev pub asked_of : Entered → Asked
-asked_of None = match_tables
+abbrev pub asked_by : List ℕ → List Row → Wanted
+asked_by name rows = if bytes_eq name (codes "serve") then serve_asked rows else at_once (asked_at_once name rows)
+
+abbrev pub asked_of : Entered → Wanted
+asked_of None = at_once match_tables
 asked_of (Some entered) = asked_by entered.0 entered.1
 
 -- what the words ask for, as `clap` reads them
-abbrev pub asked : List (List ℕ) → Asked
+abbrev pub asked : List (List ℕ) → Wanted
 asked words = asked_of (subcommand_of the_program words)
 
 -- ---- words that are always right, and words that ask for no command
@@ -99,6 +127,6 @@ pub record IsObjected (words : List (List ℕ)) : Type 0 where
   pub no_help : (kind : ErrorKind) → IsAmong kind (objections words) → kind ≢ DisplayHelp
   pub no_version : (kind : ErrorKind) → IsAmong kind (objections words) → kind ≢ DisplayVersion
 
--- the words ask for no command: `clap` objects to them, or they are wrong words of a report
+-- the words ask for no command: `clap` objects to them, or they are wrong words of a command
 abbrev pub IsMistaken : List (List ℕ) → Type 0
-IsMistaken words = IsObjected words ⊎ ((objections words ≡ []) × (asked words ≡ mistaken))
+IsMistaken words = IsObjected words ⊎ ((objections words ≡ []) × (asked words ≡ at_once mistaken))

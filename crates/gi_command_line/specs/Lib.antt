@@ -1,4 +1,5 @@
 pub mod Asked
 pub mod ReportWords
+pub mod Sessions
 pub mod CommandLine
 pub mod Laws

@@ -1,4 +1,4 @@
--- The words of `report`.
+-- The words of `report`, and what is told of wrong words.
 use Rattle.std.specs.Prelude.{◌++◌, ℕ, List, Option, None, Some, if◌then◌else◌, codes}
 use Rattle.std.specs.Str.{bytes_eq}
 use Rattle.gi_command_line.specs.declared.request.Mistake.{Mistake}
@@ -18,3 +18,5 @@ mistake_text (mistake.Kind word) =
     codes "error: invalid value '" ++ (word.now ++ codes "' for '<KIND>'\n  [possible values: open, confirmed, refused]\n")
 mistake_text (mistake.Side word) = codes "error: invalid value '" ++ (word.now ++ codes "' for '<SIDE>'\n  [possible values: I, M]\n")
 mistake_text mistake.Unpaired = codes "error: '--book <FILE>' and '--point <CODE>' need each other\n"
+mistake_text (mistake.Sessions word) =
+    codes "error: invalid value '" ++ (word.now ++ codes "' for '--sessions <N>'\n  [possible values: 1 to 8]\n")

@@ -1,5 +1,5 @@
 //! What holds of all words. These functions do nothing; their clauses are the laws.
-ghost use Rattle.gi_command_line.specs.Laws.{HoursIsTaken, HoursNeedADay, MatchIsTaken};
+ghost use Rattle.gi_command_line.specs.Laws.{HoursIsTaken, HoursNeedADay, MatchIsTaken, ServeIsTaken};
 
 /// The program's name, alone or with the word `match`, is a right command line, and asks for `match`.
 pub fn match_is_taken()
@@ -11,4 +11,10 @@ pub fn match_is_taken()
 pub fn hours_is_taken()
     ensures taken { HoursIsTaken }
     ensures needs_a_day { HoursNeedADay }
+{}
+
+/// So is the program's name with the word `serve`, and it asks for two sessions and for books in
+/// memory.
+pub fn serve_is_taken()
+    ensures { ServeIsTaken }
 {}

@@ -3,8 +3,10 @@
 
 mod laws;
 mod request;
+mod sessions;
 mod words;
 
-pub use laws::{hours_is_taken, match_is_taken};
-pub use request::{BookFile, Mistake, Report, ReportKind, Request, kind_named};
+pub use laws::{hours_is_taken, match_is_taken, serve_is_taken};
+pub use request::{BookFile, Mistake, Report, ReportKind, Request, Service, Task, kind_named};
+pub use sessions::Sessions;
 pub use words::requested;

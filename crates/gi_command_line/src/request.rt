@@ -3,6 +3,7 @@
 ghost use Rattle.std.specs.Prelude.{◌≡◌, Some};
 ghost use Rattle.gi_command_line.specs.ReportWords.{kind_named as kind_named_by, mistake_text};
 
+use crate::sessions::Sessions;
 use gi_pairs::Side;
 use std::fmt;
 
@@ -32,7 +33,16 @@ pub struct Report<'a> {
     pub book: Option<BookFile<'a>>,
 }
 
-/// What is wrong with the words of `report`, where `clap` objects to nothing.
+/// Both offices, run by a script.
+#[derive(Clone, Copy, Debug, PartialEq, Eq)]
+pub struct Service<'a> {
+    /// How many sessions each office has.
+    pub sessions: Sessions,
+    /// What the names of the books' files begin with; none where the books are in memory.
+    pub books: Option<&'a str>,
+}
+
+/// What is wrong with the words of a command, where `clap` objects to nothing.
 #[derive(Clone, Copy, Debug, PartialEq, Eq)]
 pub enum Mistake<'a> {
     /// The word is no kind of report.
@@ -41,9 +51,11 @@ pub enum Mistake<'a> {
     Side(&'a str),
     /// One of `--book` and `--point` without the other.
     Unpaired,
+    /// The word is no number of sessions.
+    Sessions(&'a str),
 }
 
-/// What a command line asks for.
+/// What a command line asks for, but `serve`.
 #[derive(Clone, Copy, Debug, PartialEq, Eq)]
 pub enum Request<'a> {
     /// The lesser of an order and an own table.
@@ -54,8 +66,17 @@ pub enum Request<'a> {
     Simulate,
     /// A report.
     Report(Report<'a>),
-    /// A report, in wrong words.
+    /// A command, in wrong words.
     Mistaken(Mistake<'a>),
+}
+
+/// What a command line asks for.
+#[derive(Clone, Copy, Debug, PartialEq, Eq)]
+pub enum Task<'a> {
+    /// What one thread does from its input to its output.
+    AtOnce(Request<'a>),
+    /// Both running offices.
+    Serve(Service<'a>),
 }
 
 impl fmt::Display for Mistake<'_> {
@@ -74,6 +95,10 @@ impl fmt::Display for Mistake<'_> {
             Mistake::Unpaired => {
                 f.write_str("error: '--book <FILE>' and '--point <CODE>' need each other\n")
             }
+            Mistake::Sessions(word) => write!(
+                f,
+                "error: invalid value '{word}' for '--sessions <N>'\n  [possible values: 1 to 8]\n"
+            ),
         }
     }
 }

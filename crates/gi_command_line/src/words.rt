@@ -1,10 +1,11 @@
 //! The words of a command line.
 ghost use Rattle.std.specs.Prelude.{◌≡◌, IfOk, codes, false, map, option_map};
-ghost use Rattle.clap.specs.Words.{FailsBy, app_of, first_of, found_of, rows_of, rule_of, subcommand_rows_of};
-ghost use Rattle.gi_command_line.specs.Asked.{meaning};
-ghost use Rattle.gi_command_line.specs.CommandLine.{asked, asked_of, hours_asked, objections, option as option_rule, report_asked, report_over as report_over_of, the_program, value_of as value_at, word as word_rule};
+ghost use Rattle.clap.specs.Words.{FailsBy, app_of, first_of, found_of, rows_of, rule_of, subcommand_rows_of, with_subcommand};
+ghost use Rattle.gi_command_line.specs.Asked.{meaning, task_meaning};
+ghost use Rattle.gi_command_line.specs.CommandLine.{asked, asked_at_once, asked_of, hours_asked, objections, option as option_rule, report_asked, report_over as report_over_of, serve_asked, sessions_asked, the_hours, the_match, the_program, the_report, the_serve, the_simulate, value_of as value_at, word as word_rule};
 
-use crate::request::{BookFile, Mistake, Report, ReportKind, Request, kind_named};
+use crate::request::{BookFile, Mistake, Report, ReportKind, Request, Service, Task, kind_named};
+use crate::sessions::Sessions;
 use clap::{Arg, ArgMatches, Command, Error};
 use gi_pairs::Side;
 use std::alloc::{AllocError, Global};
@@ -13,15 +14,16 @@ use std::convert::AsStr;
 const PROGRAM_HELP: &str = "\
 With no command `match` is meant. A fault is one line on standard error, `gi_dispatch: ` and its
 name (a wrong command line is told in more words), and nothing on standard output, unless memory or
-a writer fails.
+a writer fails, or an office that runs gives up.
 
-Exit status: 0 done, 1 refused input or a reader or writer that failed, 2 wrong command line, 3 a
-book that failed or is none, 4 want of memory.
+Exit status: 0 done, 1 refused input, a reader or writer that failed, or offices that do not agree,
+2 wrong command line, 3 a book that failed or is none, 4 want of memory.
 
 Examples: gi_dispatch match < examples/match.txt
           gi_dispatch hours 2026-01-15
           gi_dispatch simulate < scenarios/plain_exchange.script
-          gi_dispatch report confirmed I < scenarios/plain_exchange.script";
+          gi_dispatch report confirmed I < scenarios/plain_exchange.script
+          gi_dispatch serve < scenarios/serve/plain_exchange.script";
 
 const HOURS_HELP: &str = "\
 DAY is a gas day from 2000-01-01 to 2199-12-31, written YYYY-MM-DD. It starts at 06:00 Central
@@ -75,6 +77,22 @@ Faults: those of `simulate`. With a book, the first of: CodeText (CODE is no cod
 Damaged N or Store (the file is not there, is no database, or fails), BadFact N (no desk records
 fact N after those before it), Write.";
 
+const SERVE_HELP: &str = "\
+Standard input is a script as for `simulate`, without `save`, `deliver` and `restart` lines: two
+running offices save by themselves, and only what the carriers give is delivered. Each longest run
+of `submit` lines is a batch, which N sessions of each office (1 to 8, 2 where no number is given)
+make at the same time, each portfolio by one of them. The offices go on with the books in the files
+PREFIX-I.db and PREFIX-M.db, which are made where they are not there; with no PREFIX, the books are
+in memory.
+
+Standard output gets a line for each step, with no numbers of facts: the number of the script's
+line, the side, and what came of it. Then come two lines with what each side holds, and three that
+tell whether each office's records agree with its desk, and the two offices with each other.
+
+Faults, the first of: Read, TooLarge, Point, `line N: Unreadable`, as for `simulate`; for the book
+of I and then for that of M, Version, Gap N, Damaged N, Store or BadFact N, as for `report`; Write;
+and what a running office could not do, told after the lines of what was done before.";
+
 fn word<'a>(alloc: Global, name: &'a str, help: &'a str) -> Arg<'a>
     ensures rule { rule_of result ≡ word_rule name.entry.now }
     ensures local { result.global ≡ false }
@@ -92,20 +110,38 @@ fn option<'a>(alloc: Global, name: &'a str, value: &'a str, help: &'a str) -> Ar
         .help(help)
 }
 
-fn commands<'a>(alloc: Global) -> Result<Command<'a>, AllocError>
-    ensures { IfOk result (λ program. app_of program ≡ the_program) }
+fn with_match<'a>(alloc: Global, program: Command<'a>) -> Result<Command<'a>, AllocError>
+    ensures { IfOk result (λ with. app_of with ≡ with_subcommand (app_of program.entry) the_match.top) }
 {
-    let match_command = Command::new(alloc, "match")
+    let command = Command::new(alloc, "match")
         .about("Answers an order with the lesser of two tables")
         .after_help(MATCH_HELP);
-    let hours_command = Command::new(alloc, "hours")
+    program.subcommand(command)
+}
+
+fn with_hours<'a>(alloc: Global, program: Command<'a>) -> Result<Command<'a>, AllocError>
+    ensures { IfOk result (λ with. app_of with ≡ with_subcommand (app_of program.entry) the_hours.top) }
+{
+    let command = Command::new(alloc, "hours")
         .about("Tells the hours and cycles of a gas day")
         .after_help(HOURS_HELP)
         .arg(word(alloc, "DAY", "The gas day"))?;
-    let simulate_command = Command::new(alloc, "simulate")
+    program.subcommand(command)
+}
+
+fn with_simulate<'a>(alloc: Global, program: Command<'a>) -> Result<Command<'a>, AllocError>
+    ensures { IfOk result (λ with. app_of with ≡ with_subcommand (app_of program.entry) the_simulate.top) }
+{
+    let command = Command::new(alloc, "simulate")
         .about("Makes the steps of a script at both operators' desks")
         .after_help(SIMULATE_HELP);
-    let report_command = Command::new(alloc, "report")
+    program.subcommand(command)
+}
+
+fn with_report<'a>(alloc: Global, program: Command<'a>) -> Result<Command<'a>, AllocError>
+    ensures { IfOk result (λ with. app_of with ≡ with_subcommand (app_of program.entry) the_report.top) }
+{
+    let command = Command::new(alloc, "report")
         .about("Tells what a side holds after a script, or in its book")
         .after_help(REPORT_HELP)
         .arg(word(alloc, "KIND", "open, confirmed or refused"))?
@@ -117,14 +153,37 @@ fn commands<'a>(alloc: Global) -> Result<Command<'a>, AllocError>
             "The side's book, in place of a script",
         ))?
         .arg(option(alloc, "point", "CODE", "The point that the book is of"))?;
-    Command::new(alloc, "gi_dispatch")
+    program.subcommand(command)
+}
+
+fn with_serve<'a>(alloc: Global, program: Command<'a>) -> Result<Command<'a>, AllocError>
+    ensures { IfOk result (λ with. app_of with ≡ with_subcommand (app_of program.entry) the_serve.top) }
+{
+    let command = Command::new(alloc, "serve")
+        .about("Runs both offices by a script, each with sessions of its own")
+        .after_help(SERVE_HELP)
+        .arg(option(alloc, "sessions", "N", "The sessions of each office"))?
+        .arg(option(
+            alloc,
+            "books",
+            "PREFIX",
+            "The sides' books, PREFIX-I.db and PREFIX-M.db",
+        ))?;
+    program.subcommand(command)
+}
+
+fn commands<'a>(alloc: Global) -> Result<Command<'a>, AllocError>
+    ensures { IfOk result (λ program. app_of program ≡ the_program) }
+{
+    let program = Command::new(alloc, "gi_dispatch")
         .version("0.1.0")
         .about("The dispatch offices of two adjacent gas transmission operators")
-        .after_help(PROGRAM_HELP)
-        .subcommand(match_command)?
-        .subcommand(hours_command)?
-        .subcommand(simulate_command)?
-        .subcommand(report_command)
+        .after_help(PROGRAM_HELP);
+    let program = with_match(alloc, program)?;
+    let program = with_hours(alloc, program)?;
+    let program = with_simulate(alloc, program)?;
+    let program = with_report(alloc, program)?;
+    with_serve(alloc, program)
 }
 
 fn value_of<'a>(matches: &ArgMatches<'a>, name: &str) -> Option<&'a str>
@@ -187,12 +246,31 @@ fn report_of<'a>(matches: &ArgMatches<'a>) -> Request<'a>
     )
 }
 
-fn request_of<'a>(matches: &ArgMatches<'a>) -> Request<'a>
-    ensures { meaning result ≡ asked_of (subcommand_rows_of matches.now) }
+fn sessions_of(word: Option<&str>) -> Option<Sessions>
+    ensures { result ≡ sessions_asked (option_map (λ s. s.now) word.entry) }
 {
-    let Some((name, entered)) = matches.subcommand() else {
-        return Request::Match;
-    };
+    match word {
+        Some(word) => Sessions::named(word),
+        None => Some(Sessions::unnamed()),
+    }
+}
+
+fn service_of<'a>(matches: &ArgMatches<'a>) -> Task<'a>
+    ensures { task_meaning result ≡ serve_asked (rows_of (found_of matches.now)) }
+{
+    let word = value_of(matches, "sessions");
+    match sessions_of(word) {
+        Some(sessions) => Task::Serve(Service {
+            sessions,
+            books: value_of(matches, "books"),
+        }),
+        None => Task::AtOnce(Request::Mistaken(Mistake::Sessions(word.unwrap_or("")))),
+    }
+}
+
+fn request_of<'a>(name: &str, entered: &ArgMatches<'a>) -> Request<'a>
+    ensures { meaning result ≡ asked_at_once name.now (rows_of (found_of entered.now)) }
+{
     match name {
         "hours" => hours_of(entered),
         "simulate" => Request::Simulate,
@@ -201,13 +279,25 @@ fn request_of<'a>(matches: &ArgMatches<'a>) -> Request<'a>
     }
 }
 
+fn task_of<'a>(matches: &ArgMatches<'a>) -> Task<'a>
+    ensures { task_meaning result ≡ asked_of (subcommand_rows_of matches.now) }
+{
+    let Some((name, entered)) = matches.subcommand() else {
+        return Task::AtOnce(Request::Match);
+    };
+    match name {
+        "serve" => service_of(entered),
+        _ => Task::AtOnce(request_of(name, entered)),
+    }
+}
+
 /// What the words ask for, the first being the program's own name. Help, the version and a mistake
 /// are errors of `clap`, whose text is for the user.
-pub fn requested<'a, S: AsStr>(alloc: Global, words: &'a [S]) -> Result<Request<'a>, Error>
+pub fn requested<'a, S: AsStr>(alloc: Global, words: &'a [S]) -> Result<Task<'a>, Error>
     ensures refused { FailsBy (objections (map S.text words.entry.now)) result }
-    ensures asked { IfOk result (λ request. meaning request ≡ asked (map S.text words.entry.now)) }
+    ensures asked { IfOk result (λ task. task_meaning task ≡ asked (map S.text words.entry.now)) }
 {
     let program = commands(alloc)?;
     let matches = program.try_get_matches_from(words)?;
-    Ok(request_of(&matches))
+    Ok(task_of(&matches))
 }

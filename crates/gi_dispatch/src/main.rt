@@ -2,9 +2,12 @@
 #![tactic(auto)]
 
 mod dispatching;
+mod progress;
 
 use dispatching::{dispatch, reported};
 use gi_commands::Fault;
+use gi_service::ProgramFault;
+use progress::Progress;
 use std::env;
 use std::io::ErrorKind;
 use std::process::ExitCode;
@@ -25,12 +28,13 @@ fn main(rt: HostRuntime) -> ExitCode {
         Ok(words) => dispatch(
             &rt,
             &rt,
+            &mut Progress::new(rt.stderr()),
             words.as_slice(),
             &mut input,
             &mut output,
             &mut errors,
         ),
-        Err(fault) => reported(Err(fault), &mut errors),
+        Err(fault) => reported(Err(ProgramFault::Command(fault)), &mut errors),
     };
     match done {
         Ok(()) => ExitCode::SUCCESS,

@@ -1,7 +1,7 @@
 use Rattle.std.proofs.Common.{◌≡◌, ◌∙◌, ap, codes, List, [], ◌∷◌, ℕ, inl, inr, refl}
 use Rattle.clap.proofs.OnLiterals.{clap_on_literals}
 use Rattle.clap.specs.declared.error.kind.ErrorKind.TheVariants.{MissingRequiredArgument}
-use Rattle.gi_command_line.specs.Asked.{hours}
+use Rattle.gi_command_line.specs.Asked.{at_once, hours}
 use Rattle.gi_command_line.specs.CommandLine.{MeansHours, asked, objections}
 use Rattle.gi_command_line.proofs.laws.hours_is_taken.Goals as goal
 
@@ -16,16 +16,16 @@ none_of_2 : (program rest : List ℕ) → objections (words_of program (50 ∷ r
 unfolding clap_on_literals
 none_of_2 program rest = refl
 
-asks_1 : (program rest : List ℕ) → asked (words_of program (49 ∷ rest)) ≡ hours (49 ∷ rest)
+asks_1 : (program rest : List ℕ) → asked (words_of program (49 ∷ rest)) ≡ at_once (hours (49 ∷ rest))
 unfolding clap_on_literals
 asks_1 program rest = refl
 
-asks_2 : (program rest : List ℕ) → asked (words_of program (50 ∷ rest)) ≡ hours (50 ∷ rest)
+asks_2 : (program rest : List ℕ) → asked (words_of program (50 ∷ rest)) ≡ at_once (hours (50 ∷ rest))
 unfolding clap_on_literals
 asks_2 program rest = refl
 
 abbrev IsTaken : List (List ℕ) → List ℕ → Type 0
-IsTaken words day = (objections words ≡ []) × (asked words ≡ hours day)
+IsTaken words day = (objections words ≡ []) × (asked words ≡ at_once (hours day))
 
 taken : (words : List (List ℕ)) (day : List ℕ) → MeansHours words day → IsTaken words day
 taken words day (program, rest, inl one, are) =

@@ -24,4 +24,4 @@ returns-clause-asked g c =
     let words : List (List ℕ) = map g.S.AsStr.text c.args.words.now in
     let program_is : app_of c.in_ok-program.program ≡ the_program = c.in_ok-program.ensures in
     let entered = (c.in_ok-matches.ensures.matches (ap is_simple_app program_is ∙ is_plain)).1 in
-    c.request_of.ensures ∙ ap asked_of (entered ∙ ap (λ (a : App). subcommand_of a words) program_is)
+    c.task_of.ensures ∙ ap asked_of (entered ∙ ap (λ (a : App). subcommand_of a words) program_is)

@@ -1,0 +1,57 @@
+-- What `clap` says in place of a command: memory ran out, or the words ask for none.
+use Rattle.std.proofs.Common.{◌≡◌, ◌≢◌, ◌⊎◌, inl, inr, ℕ, List, [], Option, None, Some, Result, Err, refl, sym, subst}
+use Rattle.std.specs.Prelude.{IfErr, IfSome, IsErrAnd}
+use Rattle.std.specs.Io.KnownBytes.{Keeps}
+use Rattle.clap.specs.Words.{HasKind, IsAmong, Kinds, kind_of}
+use Rattle.clap.specs.declared.error.Error.{Error}
+use Rattle.clap.specs.declared.error.kind.ErrorKind.TheVariants as kind
+use Rattle.gi_command_line.specs.Asked.{Wanted, at_once, hours, match_tables, mistaken, report, serve, simulate}
+use Rattle.gi_command_line.specs.CommandLine.{IsMistaken, objections}
+use Rattle.gi_commands.specs.Match.{IsFirstFault}
+use Rattle.gi_commands.specs.Simulating.{CutsShort, HasReport, HasScript, IsFirstScriptFault}
+use Rattle.gi_commands.specs.declared.fault.Fault.TheVariants as fault
+use Rattle.gi_service.specs.Serving.{IsFirstServeFault}
+use Rattle.gi_service.specs.Tasks.{IsTaskFault, LeavesTask}
+use Rattle.gi_service.specs.declared.program_fault.ProgramFault.{ProgramFault}
+use Rattle.gi_service.specs.declared.program_fault.ProgramFault.TheVariants.{Command}
+
+-- where nothing is objected to, an error is want of memory
+pub memory_alone : (kinds : Kinds) (said : Error) → HasKind kinds said → kinds ≡ [] → kind_of said ≡ kind.OutOfMemory
+memory_alone kinds said (inl memory) none = memory
+memory_alone kinds said (inr among) none = absurd (subst (IsAmong (kind_of said)) none among)
+
+if_some : (remaining : Option (List ℕ)) (P : List ℕ → Type 0) → ((input : List ℕ) → P input) → IfSome remaining P
+if_some None P all = tt
+if_some (Some input) P all = all input
+
+-- memory may run out of each command
+pub may_want : (wanted : Wanted) (remaining : Option (List ℕ)) → IsTaskFault wanted remaining (Command fault.OutOfMemory)
+may_want (at_once match_tables) remaining = if_some remaining (λ input. IsFirstFault input fault.OutOfMemory) (λ input. tt)
+may_want (at_once (hours day)) remaining = tt
+may_want (at_once simulate) remaining = if_some remaining (λ input. IsFirstScriptFault HasScript input fault.OutOfMemory) (λ input. tt)
+may_want (at_once (report kind side None)) remaining =
+    if_some remaining (λ input. IsFirstScriptFault (HasReport kind side) input fault.OutOfMemory) (λ input. tt)
+may_want (at_once (report kind side (Some book))) remaining = tt
+may_want (at_once mistaken) remaining = inr refl
+may_want (serve sessions books) remaining = if_some remaining (λ input. IsFirstServeFault sessions input (Command fault.OutOfMemory)) (λ input. inl tt)
+
+-- and where it did, each command may have written nothing
+pub may_keep : (wanted : Wanted) (remaining old new : Option (List ℕ)) → Keeps old new → LeavesTask wanted remaining old new (Command fault.OutOfMemory)
+may_keep (at_once match_tables) remaining old new kept = kept
+may_keep (at_once (hours day)) remaining old new kept = kept
+may_keep (at_once simulate) remaining old new kept = if_some remaining (λ input. CutsShort input old new) (λ input. inl kept)
+may_keep (at_once (report kind side book)) remaining old new kept = kept
+may_keep (at_once mistaken) remaining old new kept = kept
+may_keep (serve sessions books) remaining old new kept = kept
+
+-- words that ask for no command are told as that, or memory ran out
+abbrev pub IsNoCommand : ProgramFault → Type 0
+IsNoCommand why = (why ≡ Command fault.CommandLine) ⊎ (why ≡ Command fault.OutOfMemory)
+
+pub no_command : (words : List (List ℕ)) (said : Error) (result : Result (Unit {0}) ProgramFault) → HasKind (objections words) said
+    → (kind_of said ≡ kind.OutOfMemory → result ≡ Err (Command fault.OutOfMemory))
+    → (kind_of said ≢ kind.DisplayHelp → kind_of said ≢ kind.DisplayVersion → IsErrAnd result IsNoCommand)
+    → IsMistaken words → IsErrAnd result IsNoCommand
+no_command words said result (inl memory) out up none = subst (λ (r : Result (Unit {0}) ProgramFault). IsErrAnd r IsNoCommand) (sym (out memory)) (inr refl)
+no_command words said result (inr among) out up (inl objected) = up (objected.no_help _ among) (objected.no_version _ among)
+no_command words said result (inr among) out up (inr both) = absurd (subst (IsAmong (kind_of said)) both.0 among)

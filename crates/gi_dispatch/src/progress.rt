@@ -1,0 +1,41 @@
+use gi_serving::Watch;
+use std::io::{IsTerminal, Stderr, Write};
+
+/// The least lines of a script of which it is told how far it is.
+const LONG: usize = 1000;
+
+/// Tells how far a long run is on one line of a terminal, which is rewritten at each hundredth, and
+/// wiped away at the end. Where standard error is no terminal it tells nothing.
+#[derive(Drop)]
+pub struct Progress {
+    errors: Stderr,
+    is_told: bool,
+    hundredths: usize,
+}
+
+impl Progress {
+    pub fn new(errors: Stderr) -> Progress {
+        let is_told = errors.is_terminal();
+        Progress {
+            errors,
+            is_told,
+            hundredths: 0,
+        }
+    }
+}
+
+impl Watch for Progress {
+    fn made(&mut self, lines: usize, all: usize) {
+        let hundredths = lines / (all / 100 + 1);
+        if self.is_told && all >= LONG && hundredths > self.hundredths {
+            self.hundredths = hundredths;
+            let _ = write!(self.errors, "\r{lines} of {all} lines");
+        }
+    }
+
+    fn ended(&mut self) {
+        if self.hundredths > 0 {
+            let _ = write!(self.errors, "\r\x1b[K");
+        }
+    }
+}

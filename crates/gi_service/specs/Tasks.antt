@@ -1,0 +1,43 @@
+-- What the program does of all that can be asked of it, and its faults.
+use Rattle.std.specs.Prelude.{ℕ, List, Option, IfSome}
+use Rattle.gi_command_line.specs.Asked.{Wanted, at_once, serve}
+use Rattle.gi_commands.specs.Commands.{Does, HasNoCode, IsFaultOf, Leaves, LeavesNothing, MayRead}
+use Rattle.gi_commands.specs.Fault.{no_code}
+use Rattle.gi_service.specs.Serving.{IsFirstServeFault, LeavesServed, Serves}
+use Rattle.gi_service.specs.declared.program_fault.ProgramFault.{ProgramFault}
+use Rattle.gi_service.specs.declared.program_fault.ProgramFault.TheVariants.{Command, Served}
+
+-- what is asked for is what the output gains; of what the reader has left, where it tells that
+abbrev pub DoesTask : Wanted → Option (List ℕ) → Option (List ℕ) → Option (List ℕ) → Type 0
+DoesTask (at_once asked) remaining old new = Does asked remaining old new
+DoesTask (serve sessions books) remaining old new = IfSome remaining (λ input. Serves sessions input old new)
+
+-- the first fault
+abbrev pub IsTaskFault : Wanted → Option (List ℕ) → ProgramFault → Type 0
+IsTaskFault (at_once asked) remaining (Command why) = IsFaultOf asked remaining why
+IsTaskFault (at_once asked) remaining (Served why) = ⊥
+IsTaskFault (serve sessions books) remaining why = IfSome remaining (λ input. IsFirstServeFault sessions input why)
+
+-- what stands on the output after it
+abbrev pub LeavesTask : Wanted → Option (List ℕ) → Option (List ℕ) → Option (List ℕ) → ProgramFault → Type 0
+LeavesTask (at_once asked) remaining old new (Command why) = Leaves asked remaining old new why
+LeavesTask (at_once asked) remaining old new (Served why) = ⊥
+LeavesTask (serve sessions books) remaining old new why = LeavesServed sessions remaining old new why
+
+-- after a fault of a command nothing is written, but where a writer failed
+abbrev pub LeavesNothingBut : Option (List ℕ) → Option (List ℕ) → ProgramFault → Type 0
+LeavesNothingBut old new (Command why) = LeavesNothing old new why
+LeavesNothingBut old new (Served why) = ⊥
+
+-- which commands read the input
+abbrev pub MayReadTask : Wanted → Option (List ℕ) → Option (List ℕ) → Type 0
+MayReadTask (at_once asked) old new = MayRead asked old new
+MayReadTask (serve sessions books) old new = Unit {0}
+
+-- a report of a book whose point is no code
+abbrev pub NamesNoCode : Wanted → Type 0
+NamesNoCode (at_once asked) = HasNoCode asked
+NamesNoCode (serve sessions books) = ⊥
+
+abbrev pub no_task_code : ProgramFault
+no_task_code = Command no_code

@@ -1,0 +1,52 @@
+ghost use Rattle.std.specs.Prelude.{◌≡◌};
+ghost use Rattle.gi_service.specs.Status.{program_status, serve_status};
+
+use gi_commands::Fault;
+use gi_desk::Refusal;
+use gi_office::{OfficeFault, SaveFault, Unreconciled};
+use gi_serving::ServeFault;
+use gi_store::StoreFault;
+use thiserror::Error;
+
+/// Why the program gave up.
+#[derive(Debug, Drop, PartialEq, Eq, Error)]
+pub enum ProgramFault {
+    /// A command gave up before, or as, its text was written.
+    #[error("{0}")]
+    Command(Fault),
+    /// Two running offices did not serve their script to its end, or not well.
+    #[error("{0}")]
+    Served(ServeFault),
+}
+
+/// The exit status where a running office gave up: 3 for a book that failed, 4 for want of memory,
+/// else 1.
+fn status_of_served(fault: &ServeFault) -> u8
+    ensures { result ≡ serve_status fault.now }
+{
+    match fault {
+        ServeFault::Turn { side: _, fault } => match fault {
+            SaveFault::Store(StoreFault::OutOfMemory) => 4,
+            SaveFault::Store(_) => 3,
+            SaveFault::Office(OfficeFault::OutOfMemory) => 4,
+            SaveFault::Marked(Refusal::OutOfMemory) => 4,
+            _ => 1,
+        },
+        ServeFault::Unreconciled(Unreconciled::OutOfMemory) => 4,
+        ServeFault::OutOfMemory => 4,
+        _ => 1,
+    }
+}
+
+impl ProgramFault {
+    /// The exit status of the program: 2 for a wrong command line, 3 for a book that failed or is
+    /// none, 4 for want of memory, else 1.
+    pub fn status(&self) -> u8
+        ensures { result ≡ program_status self.now }
+    {
+        match self {
+            ProgramFault::Command(fault) => fault.status(),
+            ProgramFault::Served(fault) => status_of_served(fault),
+        }
+    }
+}

@@ -1,0 +1,74 @@
+//! What each side of two running offices begins with: its desk, replayed from its book.
+
+ghost use Rattle.std.specs.Prelude.{◌≡◌, IfErr, IfOk, false, length, string_bytes};
+ghost use Rattle.gi_service.specs.Serving.{IsBooksFault, IsFactsFault, IsServedFrom};
+
+use crate::places::Place;
+use gi_command_line::Sessions;
+use gi_commands::Fault;
+use gi_day::Calendar;
+use gi_desk::{Desk, Fact, Role};
+use gi_initiator::Initiating;
+use gi_matcher::Matching;
+use gi_pairs::Code;
+use gi_script::Script;
+use gi_serving::{Served, Watch, serve};
+use gi_store::BookStore;
+use sqlite::Alter;
+use std::alloc::Global;
+use std::sync::Wait;
+use std::thread::Threads;
+
+/// The desk of these facts, all saved.
+fn desk_of<R: Role>(alloc: Global, point: Code, facts: Vec<Fact>) -> Result<Desk<R>, Fault>
+    ensures saved { IfOk result (λ desk. desk.saved ≡ length desk.facts) }
+    ensures runs { IfOk result (λ desk. desk.halted ≡ false) }
+    ensures fault { IfErr result (IsFactsFault R.SIDE point) }
+{
+    let calendar = Calendar::new()?;
+    Ok(Desk::replay(alloc, calendar, point, facts)?)
+}
+
+/// The desk of a book's facts, and the book, which is loaded.
+fn station<R: Role, P: Place>(
+    alloc: Global,
+    point: Code,
+    place: &P,
+) -> Result<(Desk<R>, BookStore<P::Store>), Fault>
+    ensures saved { IfOk result (λ it. it.0.saved ≡ length it.0.facts) }
+    ensures runs { IfOk result (λ it. it.0.halted ≡ false) }
+    ensures fault { IfErr result (IsFactsFault R.SIDE point) }
+{
+    let mut book = place.book(R::SIDE)?;
+    let facts = book.load()?;
+    match desk_of(alloc, point, facts) {
+        Ok(desk) => Ok((desk, book)),
+        Err(fault) => Err(fault),
+    }
+}
+
+/// Serves a script over the books of both sides, the initiating one's loaded before the matching
+/// one's is opened. The fault is of one of the books, or `OutOfMemory`, before the first step.
+pub(crate) fn served<P: Place, T: Threads + Wait + Sync, V: Watch>(
+    threads: &T,
+    watch: &mut V,
+    alloc: Global,
+    script: &Script,
+    sessions: Sessions,
+    place: &P,
+) -> Result<Served, Fault>
+    ensures served { IfOk result (λ served. IsServedFrom sessions script.now (string_bytes served.text) served.end) }
+    ensures fault { IfErr result (IsBooksFault script.now.point) }
+{
+    let initiating = station::<Initiating, P>(alloc, script.point(), place)?;
+    let matching = station::<Matching, P>(alloc, script.point(), place)?;
+    Ok(serve(
+        threads,
+        alloc,
+        script,
+        sessions.count(),
+        initiating,
+        matching,
+        watch,
+    ))
+}

@@ -1,0 +1,45 @@
+ghost use Rattle.std.specs.Prelude.{◌≡◌, IfErr, OnOk, Err};
+ghost use Rattle.gi_command_line.specs.Asked.{task_meaning};
+ghost use Rattle.gi_service.specs.Tasks.{DoesTask, IsTaskFault, LeavesTask, MayReadTask, NamesNoCode, no_task_code};
+
+use crate::program_fault::ProgramFault;
+use crate::service::serve_script;
+use gi_command_line::Task;
+use gi_commands::perform;
+use gi_serving::Watch;
+use std::io::{Read, Write};
+use std::sync::Wait;
+use std::thread::Threads;
+
+/// Does what a command line asks for, and answers the fault, if any: see `perform` and
+/// `serve_script`.
+pub fn perform_task<R: Read, W: Write, T: Threads + Wait + Sync, V: Watch>(
+    rt: &HostRuntime,
+    threads: &T,
+    watch: &mut V,
+    task: &Task<'_>,
+    input: &mut R,
+    output: &mut W,
+) -> Result<(), ProgramFault>
+    ensures done { OnOk result (DoesTask (task_meaning task.now) (R.remaining input.old) (W.contents output.old) (W.contents output.new)) }
+    ensures first { IfErr result (IsTaskFault (task_meaning task.now) (R.remaining input.old)) }
+    ensures leaves { IfErr result (LeavesTask (task_meaning task.now) (R.remaining input.old) (W.contents output.old) (W.contents output.new)) }
+    ensures unread { MayReadTask (task_meaning task.now) (R.remaining input.old) (R.remaining input.new) }
+    ensures code { NamesNoCode (task_meaning task.now) → result ≡ Err no_task_code }
+{
+    match task {
+        Task::AtOnce(request) => match perform(rt, threads, *request, input, output) {
+            Ok(()) => Ok(()),
+            Err(fault) => Err(ProgramFault::Command(fault)),
+        },
+        Task::Serve(service) => serve_script(
+            rt,
+            threads,
+            watch,
+            service.sessions,
+            service.books,
+            input,
+            output,
+        ),
+    }
+}
