@@ -1,3 +1,5 @@
+mod Asked
+mod Dealing
 mod Endings
 mod Ordering
 mod Places

@@ -1,11 +1,10 @@
 -- The first piece of the lines, and what is told of one piece more.
-use Rattle.std.proofs.Common.{cond, if◌then◌else◌, get_or, is_none, option_map, false, true, ◌≡◌, ◌≤◌, ◌<◌, ℕ, suc, ◌+◌, max, length, drop-drop, List, [], ◌∷◌, ◌++◌, take, drop, Option, None, Some, refl, ap, append_assoc, append-nil, ◌∙◌, sym, subst, arith}
+use Rattle.std.proofs.Common.{get_or, is_none, option_map, false, true, ◌≡◌, ◌≤◌, ◌<◌, ℕ, suc, ◌+◌, max, length, drop-drop, List, [], ◌∷◌, ◌++◌, take, drop, Option, None, Some, refl, ap, append_assoc, append-nil, ◌∙◌, sym, subst, arith}
 use Rattle.std.proofs.lemmas.List.{at_drop_all, at_drop_more, drop_all}
-use Rattle.std.proofs.lemmas.List.Sums.{sum_by_more}
 use Rattle.gi_pairs.specs.declared.side.Side.{Side}
 use Rattle.gi_script.specs.declared.line.Line.{Line}
 use Rattle.gi_serving.specs.Batches.{submission}
-use Rattle.gi_serving.specs.Runs.{is_at, submissions_at, AddsFirst, Batch, IsFirst, Piece, Single, Tells, TellsAll, TellsFirst, TellsTo, joined, lead, lead_by, pieces, put}
+use Rattle.gi_serving.specs.Runs.{AddsFirst, Batch, IsFirst, Piece, Single, Tells, TellsAll, TellsFirst, TellsTo, joined, lead, lead_by, pieces, put}
 
 join : (line : Line) (later : List Line) → joined line (pieces later) ≡ Batch (line ∷ take (lead later) later) ∷ pieces (drop (lead later) later)
 join line [] = refl
@@ -125,9 +124,3 @@ lead_here lines i line below at none =
 
 pub lead_past : (lines : List Line) (i : ℕ) → length lines ≤ i → lead (drop i lines) ≡ 0
 lead_past lines i past = at_drop_all lead lines i past
-
-pub more_bodies : (side : Side) (lines : List Line) (i : ℕ) (line : Line) → i < length lines → line ≡ get_or lines i line
-    → submissions_at side (take (i + 1) lines) ≡ submissions_at side (take i lines) + (if is_at side line then 1 else 0)
-more_bodies side lines i line below at =
-    sum_by_more (λ (l : Line). cond (is_at side l) 1 0) lines i line below
-    ∙ ap (λ (l : Line). submissions_at side (take i lines) + cond (is_at side l) 1 0) (sym at)

@@ -1,3 +1,4 @@
+pub mod Asking
 pub mod Assigning
 pub mod Batches
 pub mod Closing

@@ -26,6 +26,11 @@ word_of_call (Ok receipt) = Some (word_of receipt.reply.answer)
 word_of_call (Err offices.SeatFull) = Some words.SeatFull
 word_of_call (Err offices.OutOfMemory) = None
 
+-- none of a call that was not made
+abbrev pub word_in : Option (Result Receipt OfficeFault) → Option Word
+word_in None = None
+word_in (Some answer) = word_of_call answer
+
 abbrev pub word_text : Word → List ℕ
 word_text words.Recorded = codes "recorded"
 word_text words.Repeat = codes "repeat"

@@ -1,9 +1,10 @@
 //! A batch: submissions, which the sessions of an office make at once.
 
-ghost use Rattle.std.specs.Prelude.{◌≡◌, ◌≤◌, ◌<◌, ◌+◌, ◌++◌, ◌∷◌, [], IfOk, OnOk, if◌then◌else◌, length, map, vec_capacity};
+ghost use Rattle.std.specs.Prelude.{◌≡◌, ◌≤◌, ◌<◌, ◌+◌, ◌++◌, ◌∷◌, [], IfOk, OnErr, OnOk, false, length, map, true, vec_capacity};
 ghost use Rattle.gi_serving.specs.Ending.{AreSamePlaces};
-ghost use Rattle.gi_serving.specs.Runs.{is_at, submissions_at};
-ghost use Rattle.gi_serving.specs.Submitting.{seat_in, seat_of};
+ghost use Rattle.gi_serving.specs.Batches.{submission as submission_in};
+ghost use Rattle.gi_serving.specs.Runs.{submissions_at};
+ghost use Rattle.gi_serving.specs.Submitting.{bodies_of, body_for, dealt, is_short, seat_in, seat_of, short_of};
 
 use crate::assigning::sessions_of;
 use crate::pieces::submission;
@@ -33,7 +34,7 @@ impl Gate for Open {
 
 /// Adds the body of a submission at that side.
 fn add_body(bodies: &mut Vec<Body>, side: Side, line: &Line) -> Result<(), AllocError>
-    ensures { OnOk result (length bodies.new.items ≡ length bodies.old.items + (if is_at side line.now then 1 else 0)) }
+    ensures { OnOk result (bodies.new.items ≡ bodies.old.items ++ body_for side (submission_in line.now.instruction)) }
 {
     match (submission(line), side) {
         (Some((Side::I, body)), Side::I) => bodies.push(body.copy()?)?,
@@ -44,9 +45,10 @@ fn add_body(bodies: &mut Vec<Body>, side: Side, line: &Line) -> Result<(), Alloc
 }
 
 /// The submissions at a side, in order.
-#[tactic(auto, using(crate::proofs::Walking::more_bodies))]
+#[tactic(auto, using(crate::proofs::Dealing::line_more))]
 pub(crate) fn bodies_at(alloc: Global, side: Side, lines: &[Line]) -> Result<Vec<Body>, AllocError>
-    ensures { IfOk result (λ bodies. length bodies.items ≡ submissions_at side lines.now) }
+    ensures bodies { IfOk result (λ bodies. bodies.items ≡ bodies_of side lines.now) }
+    ensures count { IfOk result (λ bodies. length bodies.items ≡ submissions_at side lines.now) }
 {
     let mut bodies = Vec::new(alloc);
     for line in lines {
@@ -61,10 +63,13 @@ fn given(
     number: u8,
     numbers: &[u8],
     bodies: &[Body],
-) -> Result<Vec<Body>, AllocError> {
+) -> Result<Vec<Body>, AllocError>
+    requires { length numbers.now ≡ length bodies.now }
+    ensures { IfOk result (λ given. given.items ≡ dealt number numbers.now bodies.now) }
+{
     let mut dealt = Vec::new(alloc);
     for i in 0..bodies.len() {
-        if numbers.get(i) == Some(&number) {
+        if numbers[i] == number {
             dealt.push(bodies[i].copy()?)?;
         }
     }
@@ -78,6 +83,7 @@ fn dealt_to<L: Ledger>(
     numbers: &[u8],
     bodies: &[Body],
 ) -> Result<Vec<Vec<Body>>, AllocError>
+    requires { length numbers.now ≡ length bodies.now }
     ensures { IfOk result (λ dealt. length dealt.items ≡ length seats.now) }
 {
     let mut dealt = Vec::with_capacity(alloc, seats.len())?;
@@ -108,6 +114,17 @@ fn begun<L: Ledger>(
     sessions
 }
 
+/// Whether a session ended for want of memory.
+fn wanted(fault: &Option<OfficeFault>) -> bool
+    ensures { result ≡ is_short fault.now }
+{
+    match fault {
+        Some(OfficeFault::OutOfMemory) => true,
+        Some(OfficeFault::SeatFull) => false,
+        None => false,
+    }
+}
+
 /// The seats of what was served, behind them the main one, and the receipts of each session, the last
 /// one first. Where a session ended for want of memory that is told.
 fn ended<L: Ledger>(
@@ -120,14 +137,16 @@ fn ended<L: Ledger>(
     requires room { length served.items < vec_capacity seats }
     requires none_yet { receipts.items ≡ [] }
     requires receipts { length served.items ≤ vec_capacity receipts }
-    ensures { IfOk result (λ ended. ended.0.items ≡ map seat_in served.items ++ main ∷ []) }
+    ensures seats { IfOk result (λ ended. ended.0.items ≡ map seat_in served.items ++ main ∷ []) }
+    ensures memory { OnOk result (short_of false served.items ≡ false) }
+    ensures short { OnErr result (short_of false served.items ≡ true) }
 {
     let mut seats = seats;
     let mut receipts = receipts;
     let mut wants = false;
     for one in served {
         let (seat, mut given, fault) = one.into_parts();
-        wants = wants || fault == Some(OfficeFault::OutOfMemory);
+        wants = wants || wanted(&fault);
         given.reverse();
         seats.push_reserved(seat);
         receipts.push_reserved(given);

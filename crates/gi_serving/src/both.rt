@@ -2,6 +2,7 @@
 
 ghost use Rattle.std.specs.Prelude.{◌≡◌, ◌≤◌, ◌<◌, ◌+◌, IfErr, IfOk, Err, IsOk, OnOk, length, string_bytes};
 ghost use Rattle.std.specs.Thread.{IsSync};
+ghost use Rattle.gi_serving.specs.Asking.{MakesLine, Sends};
 ghost use Rattle.gi_serving.specs.Closing.{IsClosed};
 ghost use Rattle.gi_serving.specs.Ending.{AreSamePlaces, IsCut};
 ghost use Rattle.gi_serving.specs.Runs.{Batch, Single, Tells, side_in};
@@ -82,6 +83,9 @@ impl<L: Ledger, K: Ledger, S: Alter + Drop> Both<L, K, S> {
         ensures ours { AreSamePlaces self.old.initiating.seats.items self.new.initiating.seats.items }
         ensures theirs { AreSamePlaces self.old.matching.seats.items self.new.matching.seats.items }
         ensures text { IfOk result (λ text. Tells (Single line.now) (string_bytes text)) }
+        ensures made { IfOk result (λ text. MakesLine (side_in line.now.instruction) line.now
+            self.old.initiating.way self.old.matching.way self.old.initiating.seats.items self.old.matching.seats.items
+            (string_bytes text) self.new.initiating.seats.items self.new.matching.seats.items) }
     {
         let side = side_of(&line.instruction);
         let word = match side {
@@ -102,6 +106,8 @@ impl<L: Ledger, K: Ledger, S: Alter + Drop> Both<L, K, S> {
         ensures sessions { self.new.sessions ≡ self.old.sessions }
         ensures ours { self.new.initiating.seats ≡ self.old.initiating.seats }
         ensures theirs { self.new.matching.seats ≡ self.old.matching.seats }
+        ensures orders { OnOk result (Sends self.old.initiating.sent self.old.initiating.seats.items self.new.initiating.sent self.old.matching.way self.new.matching.way) }
+        ensures answers { OnOk result (Sends self.old.matching.sent self.old.matching.seats.items self.new.matching.sent self.old.initiating.way self.new.initiating.way) }
     {
         let orders = self.initiating.let_out()?;
         self.matching.way.send_packets(orders)?;

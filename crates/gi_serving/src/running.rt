@@ -1,9 +1,12 @@
 //! One office under way: its book, its seats, and the way to it.
 
-ghost use Rattle.std.specs.Prelude.{◌≡◌, ◌≤◌, ◌<◌, ◌+◌, IfErr, IfOk, OnOk, false, is_some, length, true};
+ghost use Rattle.std.specs.Prelude.{◌≡◌, ◌≤◌, ◌<◌, ◌+◌, ◌++◌, IfErr, IfOk, OnOk, false, is_some, length, true};
+ghost use Rattle.gi_carrier.specs.Carrier.{given};
 ghost use Rattle.gi_office.specs.Opening.{new_seats};
+ghost use Rattle.gi_serving.specs.Asking.{Answers, AsksLast, Carries, LetsOut, Makes, out_behind, saved_of};
 ghost use Rattle.gi_serving.specs.Ending.{AreSamePlaces, IsTurnFault, place_of};
 ghost use Rattle.gi_serving.specs.Runs.{is_made, is_told};
+ghost use Rattle.gi_serving.specs.Words.{word_in};
 
 use crate::word::Word;
 use gi_desk::{Body, Call, Desk, Packet, Role};
@@ -40,6 +43,7 @@ fn called<R: Role, L: Ledger, W: Wait>(
 ) -> (Seat<L>, Option<Result<Receipt, OfficeFault>>)
     ensures place { place_of result.0 ≡ place_of seat }
     ensures made { is_some result.1 ≡ is_made call }
+    ensures answered { Answers R.SIDE seat call result.1 result.0 }
 {
     let (seat, answer) = match call {
         Call::Contract(contract) => office.contract(rt, seat, contract),
@@ -56,7 +60,8 @@ fn called<R: Role, L: Ledger, W: Wait>(
 
 /// The word of a call, if it was made.
 fn word_of(answer: Option<Result<Receipt, OfficeFault>>) -> Result<Option<Word>, AllocError>
-    ensures { IfOk result (λ word. is_some word ≡ is_some answer) }
+    ensures told { IfOk result (λ word. is_some word ≡ is_some answer) }
+    ensures word { IfOk result (λ word. word ≡ word_in answer) }
 {
     let Some(answer) = answer else {
         return Ok(None);
@@ -69,7 +74,8 @@ fn word_of(answer: Option<Result<Receipt, OfficeFault>>) -> Result<Option<Word>,
 
 /// Whether a turn saved a fact.
 fn saved(turn: Result<Turn, SaveFault>) -> Result<bool, SaveFault>
-    ensures { IfErr result IsTurnFault }
+    ensures value { result ≡ saved_of turn }
+    ensures fault { IfErr result IsTurnFault }
 {
     match turn {
         Ok(Turn::Saved(_)) => Ok(true),
@@ -79,7 +85,9 @@ fn saved(turn: Result<Turn, SaveFault>) -> Result<bool, SaveFault>
     }
 }
 
-fn add_copies(packets: &mut Vec<Packet>, more: &[Packet]) -> Result<(), AllocError> {
+fn add_copies(packets: &mut Vec<Packet>, more: &[Packet]) -> Result<(), AllocError>
+    ensures { OnOk result (packets.new.items ≡ packets.old.items ++ more.now) }
+{
     for packet in more {
         packets.push(packet.copy()?)?;
     }
@@ -87,9 +95,11 @@ fn add_copies(packets: &mut Vec<Packet>, more: &[Packet]) -> Result<(), AllocErr
 }
 
 /// What the notes let out, without so many of the first.
-fn out_since(alloc: Global, notes: &[Note], sent: usize) -> Result<Vec<Packet>, AllocError> {
+fn out_since(alloc: Global, notes: &[Note], sent: usize) -> Result<Vec<Packet>, AllocError>
+    ensures { IfOk result (λ packets. packets.items ≡ out_behind sent notes.now) }
+{
     let mut packets = Vec::new(alloc);
-    for note in notes.iter().skip(sent) {
+    for note in &notes[sent.min(notes.len())..] {
         add_copies(&mut packets, note.reply.out.as_slice())?;
     }
     Ok(packets)
@@ -134,6 +144,7 @@ impl<R: Role, L: Ledger, S: Alter + Drop> Running<R, L, S> {
         ensures office { self.new.office ≡ self.old.office }
         ensures seats { AreSamePlaces self.old.seats.items self.new.seats.items }
         ensures told { IfOk result (λ word. is_some word ≡ is_made call) }
+        ensures asked { IfOk result (λ word. AsksLast R.SIDE self.old.seats.items call word self.new.seats.items) }
     {
         let main = self.seats.pop().unwrap();
         let (main, answer) = called(rt, &self.office, main, call);
@@ -147,6 +158,7 @@ impl<R: Role, L: Ledger, S: Alter + Drop> Running<R, L, S> {
         ensures office { self.new.office ≡ self.old.office }
         ensures seats { AreSamePlaces self.old.seats.items self.new.seats.items }
         ensures told { IfOk result (λ word. is_some word ≡ true) }
+        ensures carried { IfOk result (λ word. Carries R.SIDE (given self.old.way.plan self.old.way.carrier) self.old.seats.items word self.new.seats.items) }
     {
         match self.way.next()? {
             Some(message) => self.ask(rt, Call::Deliver(Body::from(message))),
@@ -165,6 +177,7 @@ impl<R: Role, L: Ledger, S: Alter + Drop> Running<R, L, S> {
         ensures office { self.new.office ≡ self.old.office }
         ensures seats { AreSamePlaces self.old.seats.items self.new.seats.items }
         ensures told { IfOk result (λ word. is_some word ≡ is_told instruction.now) }
+        ensures made { IfOk result (λ word. Makes R.SIDE instruction.now self.old.way self.old.seats.items word self.new.seats.items) }
     {
         match instruction {
             Instruction::Call { side: _, call } => self.ask(rt, call.copy()?),
@@ -214,6 +227,8 @@ impl<R: Role, L: Ledger, S: Alter + Drop> Running<R, L, S> {
         requires { 0 < length self.old.seats.items }
         ensures office { self.new.office ≡ self.old.office }
         ensures seats { self.new.seats ≡ self.old.seats }
+        ensures way { self.new.way ≡ self.old.way }
+        ensures out { IfOk result (λ packets. LetsOut self.old.sent self.old.seats.items packets.items self.new.sent) }
     {
         let notes = self.seats.last().unwrap().notes();
         let packets = out_since(self.alloc, notes, self.sent)?;
