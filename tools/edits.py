@@ -84,8 +84,9 @@ class Edit:
 
     def __init__(self, crate, folder, name):
         self.crate, self.name, self.changes, self.functions = crate, name.removesuffix(".edit"), [], {}
+        self.file = f"{folder}/{name}"
         self.is_alone, self.is_whole, by, path, old, text = False, False, None, "", "", ""
-        for line in text_of(f"{folder}/{name}").split("\n"):
+        for line in text_of(self.file).split("\n"):
             word, _, rest = line.partition(":")
             rest = rest.removeprefix(" ")
             if word == "by":

@@ -1,5 +1,5 @@
-"""What the tools here take of the Rattle kit's own script, its module rtlib: the repository's crates, their libraries, and the
-words of a check."""
+"""What the tools here take of the Rattle kit's own scripts, its command rt and the module rtlib below it: the repository's crates,
+their libraries, the words of a check, and the sum of all that a verdict on a crate stands on."""
 import importlib.machinery
 import importlib.util
 import os
@@ -13,19 +13,20 @@ TOP = os.path.dirname(os.path.dirname(os.path.realpath(__file__)))
 
 
 def load():
-    """The kit's module rtlib, which stands beside its command rt."""
+    """The kit's command rt as a module."""
     command = shutil.which("rt")
     if not command:
         sys.exit("the Rattle kit's command rt is not on this machine")
     sys.dont_write_bytecode = True
-    loader = importlib.machinery.SourceFileLoader("rtlib", f"{os.path.dirname(os.path.realpath(command))}/rtlib.py")
-    module = importlib.util.module_from_spec(importlib.util.spec_from_loader("rtlib", loader))
-    sys.modules["rtlib"] = module
+    loader = importlib.machinery.SourceFileLoader("rt", os.path.realpath(command))
+    module = importlib.util.module_from_spec(importlib.util.spec_from_loader("rt", loader))
+    sys.modules["rt"] = module
     loader.exec_module(module)
     return module
 
 
-rtlib = load()
+rt = load()
+rtlib = rt.rtlib
 
 
 def crates():
@@ -56,8 +57,8 @@ def lines_of(crate):
     return sum(rtlib.text_of(it).count("\n") for it in rtlib.files_of(crate.folder))
 
 
-def side_by_side(tasks, work, waits=lambda task, other: False, weight=lines_of, jobs=1, look=lambda: None):
-    """Does the work of each crate, each after all those that it waits for, as many side by side as there are processors and memory,
+def side_by_side(tasks, work, waits=lambda task, other: False, crate_of=lambda task: task, weight=lines_of, jobs=1, look=lambda: None):
+    """Does each task, which is the work of a crate, each after all those that it waits for, as many side by side as there are processors and memory,
     and gives what each answered. The first is that with which the heaviest way begins, through those that wait: it is given all
     jobs, and the others one each, of a lower priority. A look is taken each second."""
     ways = {}
@@ -72,7 +73,7 @@ def side_by_side(tasks, work, waits=lambda task, other: False, weight=lines_of, 
             for task in [it for it in left if not any(waits(it, other) for other in busy)]:
                 is_first = all(ways[task] >= ways[it] for it in busy)
                 own_jobs = jobs if is_first else 1
-                needs = need(task, own_jobs) + sum(need(*it) for it in running.values())
+                needs = need(crate_of(task), own_jobs) + sum(need(crate_of(it), count) for it, count in running.values())
                 if len(running) < processors() and (not running or needs < memory):
                     left.remove(task)
                     running[(first if is_first else others).submit(work, task, own_jobs)] = task, own_jobs
