@@ -20,7 +20,6 @@ fn copy_of_first(waiting: &VecDeque<Vec<u8>>) -> Result<Option<Vec<u8>>, AllocEr
     }
 }
 
-/// Makes a move on what waits, which is not nothing. Only the copy of a repeat wants memory.
 pub(crate) fn make(
     waiting: &mut VecDeque<Vec<u8>>,
     next: Move,

@@ -217,7 +217,6 @@ fn report_over<'a>(
     Request::Report(Report { kind, side, book })
 }
 
-/// The word that was entered under a name, the empty one where none was.
 fn word_of<'a>(matches: &ArgMatches<'a>, name: &str) -> &'a str
     ensures { result.now ≡ value_at name.now (rows_of (found_of matches.now)) }
 {

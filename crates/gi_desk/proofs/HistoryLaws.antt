@@ -10,10 +10,6 @@ use Rattle.jiff_core.specs.declared.civil.date.Date.{Date}
 use Rattle.gi_day.specs.SameDay.{same_day}
 use Rattle.gi_pairs.specs.declared.cycle_id.CycleId.{CycleId}
 use Rattle.gi_messages.specs.declared.message.Nomint.{Nomint}
-use Rattle.gi_nominations.specs.Book.{Documents}
-use Rattle.gi_processing.specs.Capacity.{Capacity}
-use Rattle.gi_processing.specs.declared.contract.Contract.{Contract}
-use Rattle.gi_processing.specs.declared.notice.Notice.{Notice}
 use Rattle.gi_desk.specs.History.{capacity_of, contract_in, document_in, documents_of, notice_in, closing_in, closings, facts_before, last_closed, number_of}
 use Rattle.gi_facts.specs.declared.fact.Fact.{Fact}
 use Rattle.gi_facts.specs.declared.fact.Fact.TheVariants.{Contracted, Noticed, Nominated, Closed, Met}
@@ -72,33 +68,6 @@ capacity_more facts fact =
 pub documents_more : (facts : List Fact) (fact : Fact) → documents_of (facts ++ fact ∷ []) ≡ documents_of facts ++ documents_of (fact ∷ [])
 unfolding documents_of
 documents_more facts fact = filter_map-append document_in facts (fact ∷ [])
-
-pub capacity_step : (facts : List Fact) (i : ℕ) (fact : Fact) (old new : Capacity) → i < length facts → fact ≡ get_or facts i fact → old ≡ capacity_of (take i facts)
-    → new.contracts ≡ old.contracts ++ (capacity_of (fact ∷ [])).contracts → new.notices ≡ old.notices ++ (capacity_of (fact ∷ [])).notices → new ≡ capacity_of (take (i + 1) facts)
-capacity_step facts i fact old new below is old_is contracts notices =
-    let joined : new ≡ record { contracts = (capacity_of (take i facts)).contracts ++ (capacity_of (fact ∷ [])).contracts; notices = (capacity_of (take i facts)).notices ++ (capacity_of (fact ∷ [])).notices } =
-    (λ t. record { contracts = contracts t; notices = notices t })
-    ∙ (λ t. record { contracts = (old_is t).contracts ++ (capacity_of (fact ∷ [])).contracts; notices = (old_is t).notices ++ (capacity_of (fact ∷ [])).notices }) in
-    joined ∙ sym (capacity_more (take i facts) fact) ∙ ap capacity_of (sym (one_more facts i fact below is))
-
-pub documents_step : (point : List ℕ) (facts : List Fact) (i : ℕ) (fact : Fact) (old new : Documents) → i < length facts → fact ≡ get_or facts i fact
-    → old ≡ record { point = point; documents = documents_of (take i facts) } → new.point ≡ old.point → new.documents ≡ old.documents ++ documents_of (fact ∷ [])
-    → new ≡ record { point = point; documents = documents_of (take (i + 1) facts) }
-documents_step point facts i fact old new below is old_is same documents =
-    let of_point : new.point ≡ point = same ∙ ap (λ (d : Documents). d.point) old_is in
-    let joined : new.documents ≡ documents_of (take (i + 1) facts) =
-    documents ∙ ap (λ (d : Documents). d.documents ++ documents_of (fact ∷ [])) old_is ∙ sym (documents_more (take i facts) fact) ∙ ap documents_of (sym (one_more facts i fact below is)) in
-    λ t. record { point = of_point t; documents = joined t }
-
--- a fact of another kind records neither contract nor notice, and no nomination
-pub no_capacity : (fact : Fact) → ((contract : Contract) → fact ≡ Contracted contract → ⊥) → ((notice : Notice) → fact ≡ Noticed notice → ⊥)
-    → capacity_of (fact ∷ []) ≡ record { contracts = []; notices = [] }
-unfolding capacity_of
-no_capacity (Contracted contract) contracted noticed = absurd (contracted contract refl)
-no_capacity (Noticed notice) contracted noticed = absurd (noticed notice refl)
-no_capacity (Nominated document) contracted noticed = refl
-no_capacity (Closed id) contracted noticed = refl
-no_capacity (Met id peer) contracted noticed = refl
 
 pub no_document : (fact : Fact) → ((document : Nomint) → fact ≡ Nominated document → ⊥) → documents_of (fact ∷ []) ≡ []
 unfolding documents_of

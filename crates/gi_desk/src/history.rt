@@ -50,7 +50,6 @@ pub(crate) fn is_closed(facts: &[Fact], id: CycleId) -> bool
     facts.iter().any(|fact| closes(fact, id))
 }
 
-/// The number of the cycle's closing; one more than there are facts where it is not closed.
 pub(crate) fn number_of_closing(facts: &[Fact], id: CycleId) -> usize
     ensures value { result ≡ number_of (is_closing id) facts.now }
     ensures within { result ≤ length facts.now + 1 }
@@ -59,7 +58,6 @@ pub(crate) fn number_of_closing(facts: &[Fact], id: CycleId) -> usize
     place.unwrap_or(facts.len()) + 1
 }
 
-/// The number of the cycle's meeting; one more than there are facts where it has not met.
 pub(crate) fn number_of_meeting(facts: &[Fact], id: CycleId) -> usize
     ensures value { result ≡ number_of (is_meeting id) facts.now }
     ensures within { result ≤ length facts.now + 1 }
@@ -68,8 +66,6 @@ pub(crate) fn number_of_meeting(facts: &[Fact], id: CycleId) -> usize
     place.unwrap_or(facts.len()) + 1
 }
 
-/// The number of the taking of a nomination of the same portfolio, gas day and version; one more
-/// than there are facts where none was taken.
 pub(crate) fn number_of_taking(facts: &[Fact], document: &Nomint) -> usize
     ensures value { result ≡ number_of (is_taking document.now) facts.now }
     ensures within { result ≤ length facts.now + 1 }

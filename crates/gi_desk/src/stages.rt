@@ -75,8 +75,6 @@ fn place_of(states: &[CycleState], id: &CycleId) -> Option<usize>
     states.iter().position(|state| cycle_of(state) == *id)
 }
 
-/// Makes a cycle meet the peer's table, which may be recorded after legal facts. Where memory runs
-/// out all stays as it was.
 pub(crate) fn meet(
     alloc: Global,
     states: &mut Vec<CycleState>,

@@ -12,8 +12,6 @@ use gi_messages::Delres;
 use gi_pairs::Table;
 use std::alloc::{AllocError, Global};
 
-/// What comes of a response to a closed cycle, which may have met a table. Memory is wanted only
-/// where the hours are the same.
 fn taken(
     alloc: Global,
     own: &Table,

@@ -1,5 +1,5 @@
 -- The lesser of two tables is one, and has their rows and the lower of their readings.
-use Rattle.std.proofs.Common.{◌≡◌, ℕ, zero, suc, ◌-◌, ◌≤◌, ◌&&◌, ◌==◌, ◌⊎◌, inl, inr, List, [], ◌∷◌, length, map, filter, find, slice_index, min, not, nat_lt, nat_le, true, false, Bool, Ok, Option, Some, None, is_some, All, refl, sym, ap, ◌∙◌, arith, subst, if◌then◌else◌}
+use Rattle.std.proofs.Common.{◌≡◌, ℕ, zero, suc, ◌-◌, ◌≤◌, ◌&&◌, ◌==◌, ◌⊎◌, inl, inr, List, [], ◌∷◌, length, map, filter, find, slice_index, min, not, nat_lt, nat_le, true, false, Bool, Option, Some, None, is_some, All, refl, sym, ap, ◌∙◌, arith, subst, if◌then◌else◌}
 use Rattle.std.specs.List.{range_with_len}
 use Rattle.std.specs.List.Sorted.{IsStrictlySortedBy}
 use Rattle.std.specs.Ordering.{is_eq}
@@ -11,7 +11,7 @@ use Rattle.std.proofs.lemmas.Map.Keys.{IsDistinct-from_sorted}
 use Rattle.gi_pairs.specs.Key.{IsKey, key_cmp}
 use Rattle.gi_pairs.specs.Quantity.{IsQuantity, most_quantity}
 use Rattle.gi_pairs.specs.Row.{IsRow, key_of}
-use Rattle.gi_pairs.specs.Table.{TableContents, IsTable, built, covered, in_order, is_at, is_hour_range, keys_of, reading, repeats}
+use Rattle.gi_pairs.specs.Table.{TableContents, IsTable, covered, in_order, is_at, is_hour_range, keys_of, reading, repeats}
 use Rattle.gi_pairs.specs.declared.direction.Direction.{Direction}
 use Rattle.gi_pairs.specs.declared.key.Key.{Key}
 use Rattle.gi_pairs.specs.declared.pair.Pair.{Pair}
@@ -20,7 +20,7 @@ use Rattle.gi_pairs.specs.Limits.{most_processed_rows, most_rows}
 use Rattle.gi_pairs.proofs.Building.{In, contains_from_in, in_from_contains, in_in_order, in_order-sorted, in_order_in, repeats_from_distinct}
 use Rattle.gi_pairs.proofs.KeyOrder.{key_same}
 use Rattle.gi_pairs.proofs.Reading.{find_all, reading-found, reading-missed, reading-outside}
-use Rattle.gi_pairs.proofs.Refusals.{accepted, are_whole, is_table}
+use Rattle.gi_pairs.proofs.Refusals.{are_whole, is_table}
 use Rattle.gi_pairs.proofs.TableLaws.{in_order-permutation}
 use Rattle.gi_lesser.specs.Lesser.{HasShapeOf, IsLesser, has_row, keys_of_both, lacks, lesser_of, lesser_row}
 use Rattle.gi_pairs.proofs.Members.{repeats_append, repeats_filter, find_absent, find_member, find_present, found_is, from_append, from_filter, from_map, in_append_left, in_append_right, in_filter, in_map}
@@ -152,12 +152,6 @@ pub record AreMatched (own peer : TableContents) : Type 0 where
   pub shape : HasShapeOf own peer
   pub own_few : length own.rows ≤ most_processed_rows
   pub peer_few : length peer.rows ≤ most_processed_rows
-
--- the rows make the lesser
-pub built-lesser : (own peer : TableContents) → AreMatched own peer → built own.first own.last (map (lesser_row own peer) (keys_of_both own peer)) ≡ Ok (lesser_of own peer)
-unfolding lesser_of
-built-lesser own peer m =
-    sym (accepted own.first own.last (map (lesser_row own peer) (keys_of_both own peer)) (hours-fit own m.own_table) (both-few own peer m.own_few m.peer_few) (rows-whole own peer (keys_of_both own peer)) (rows-distinct own peer m.own_table m.peer_table))
 
 -- the lesser is a table
 pub lesser_of-is_table : (own peer : TableContents) → AreMatched own peer → IsTable (lesser_of own peer)

@@ -1,5 +1,5 @@
 -- The parts, one after the other, are the whole.
-use Rattle.std.proofs.Common.{◌≡◌, ℕ, zero, suc, ◌+◌, ◌<◌, ◌≤◌, List, [], ◌∷◌, ◌++◌, length, map, take, drop, get_or, true, false, Bool, Option, Some, None, inl, inr, refl, sym, ap, ◌∙◌, arith, subst, if◌then◌else◌}
+use Rattle.std.proofs.Common.{◌≡◌, ℕ, zero, suc, ◌+◌, ◌<◌, ◌≤◌, List, [], ◌∷◌, ◌++◌, length, map, take, drop, get_or, true, false, Bool, Some, None, inl, inr, refl, sym, ap, ◌∙◌, arith, subst, if◌then◌else◌}
 use Rattle.std.specs.declared.cmp.Ordering.{Ordering}
 use Rattle.std.specs.declared.cmp.Ordering.TheVariants.{Less, Equal, Greater}
 use Rattle.std.specs.List.{AllByRecursion, flat_map, range_with_len, slice_get}
@@ -89,14 +89,6 @@ count_grows k l (x ∷ xs) less = by_test (is_lt (key_cmp (key_of x) k)) refl (c
     by_test false e grows = omega arith
 
 -- ---- the edges
-
-edge_within : (ours theirs : List Row) (i : ℕ) → edge_of ours theirs i ≤ length theirs
-edge_within ours theirs zero = omega arith
-edge_within ours theirs (suc i) = by_row (slice_get ours (suc i))
-  where
-    by_row : (o : Option Row) → count_below_row theirs o ≤ length theirs
-    by_row None = omega arith
-    by_row (Some row) = count_within (key_of row) theirs
 
 -- where a key stands that stands in a part
 in_dropped : (n : ℕ) (rows : List Row) (m : Key) → In m (keys_of (drop n rows)) → In m (keys_of rows)

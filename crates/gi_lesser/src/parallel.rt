@@ -38,7 +38,6 @@ fn edge(ours: &[Row], theirs: &[Row], i: usize) -> usize
     }
 }
 
-/// A row of the first side, merged with the second's rows from its key up to the next row's key.
 fn part(alloc: Global, ours: &[Row], theirs: &[Row], i: usize) -> Result<Vec<Row>, AllocError>
     requires within { i < length ours.now }
     requires ours { IsStrictlySortedBy key_cmp (keys_of ours.now) }

@@ -1,8 +1,7 @@
 //! The walk over the rows of both tables.
-ghost use Rattle.std.specs.Prelude.{◌≡◌, ◌++◌, ◌≤◌, IfOk, OnOk, drop, length, map};
+ghost use Rattle.std.specs.Prelude.{◌≡◌, ◌++◌, IfOk, OnOk, map};
 ghost use Rattle.std.specs.List.Sorted.{IsStrictlySortedBy};
 ghost use Rattle.gi_pairs.specs.Key.{key_cmp};
-ghost use Rattle.gi_pairs.specs.Row.{key_of};
 ghost use Rattle.gi_pairs.specs.Table.{keys_of};
 ghost use Rattle.gi_lesser.specs.Walk.{alone, first_of_both, lesser_rows, lower_hours, with_hours};
 
@@ -10,7 +9,6 @@ use gi_pairs::{Quantity, Row};
 use std::alloc::{AllocError, Global};
 use std::cmp::Ordering;
 
-/// The row of the lower of two rows' quantities, hour by hour.
 fn lower_row(alloc: Global, our: &Row, their: &Row) -> Result<Row, AllocError>
     ensures { IfOk result (λ row. row ≡ with_hours our.now (lower_hours our.now their.now)) }
 {
@@ -36,7 +34,6 @@ fn row_alone(alloc: Global, row: &Row) -> Result<Row, AllocError>
     })
 }
 
-/// The first row of both sides, by the order of their first rows.
 fn first_row(alloc: Global, order: Ordering, our: &Row, their: &Row) -> Result<Row, AllocError>
     ensures { IfOk result (λ row. row ≡ first_of_both order our.now their.now) }
 {
@@ -47,7 +44,6 @@ fn first_row(alloc: Global, order: Ordering, our: &Row, their: &Row) -> Result<R
     }
 }
 
-/// Adds rows of one side, where the other has no more.
 fn add_alone(alloc: Global, rows: &mut Vec<Row>, more: &[Row]) -> Result<(), AllocError>
     ensures { OnOk result (rows.new.items ≡ rows.old.items ++ map alone more.now) }
 {

@@ -1,11 +1,10 @@
 -- What stands in a list, through maps and filters, and which row is found.
-use Rattle.std.proofs.Common.{◌≡◌, ℕ, ◌+◌, ◌-◌, ◌≤◌, List, [], ◌∷◌, ◌++◌, map, filter, find, get_or, true, false, Bool, Some, None, Option, arith, ◌⊎◌, inl, inr, refl, sym, ap, ◌∙◌, subst, if◌then◌else◌}
+use Rattle.std.proofs.Common.{◌≡◌, ◌+◌, List, [], ◌∷◌, ◌++◌, map, filter, find, get_or, true, false, Bool, Some, None, Option, ◌⊎◌, inl, inr, refl, sym, ap, ◌∙◌, subst, if◌then◌else◌}
 use Rattle.std.specs.declared.cmp.Ordering.{Ordering}
 use Rattle.std.specs.declared.cmp.Ordering.TheVariants.{Less, Equal, Greater}
-use Rattle.std.specs.List.{list_any, range_with_len}
+use Rattle.std.specs.List.{list_any}
 use Rattle.std.proofs.lemmas.Bool.{or_parts}
 use Rattle.std.proofs.lemmas.List.{get_or_default}
-use Rattle.std.proofs.lemmas.List.FromFn.{map-range_with_len_more}
 use Rattle.std.specs.List.Sorted.{IsStrictlySortedBy}
 use Rattle.std.specs.Ordering.{is_eq}
 use Rattle.gi_pairs.specs.Key.{key_cmp}
@@ -132,14 +131,3 @@ repeats_filter p (k ∷ ks) e =
     kept_key : (b : Bool) → ((l : Key) → In l (filter p ks) → is_eq (key_cmp k l) ≡ false) → repeats (filter p ks) ≡ false → repeats (if b then k ∷ filter p ks else filter p ks) ≡ false
     kept_key true apart rest = repeats_cons k (filter p ks) apart rest
     kept_key false apart rest = rest
-
--- ---- one quantity for each hour
-
--- one more hour
-pub hour_step : (f : ℕ → ℕ) (first hour quantity : ℕ) (items more : List ℕ) → first ≤ hour → items ≡ map f (range_with_len first (hour - first)) → quantity ≡ f hour
-    → more ≡ items ++ quantity ∷ [] → more ≡ map f (range_with_len first (hour + 1 - first))
-hour_step f first hour quantity items more low so_far lowered pushed =
-    let here : items ++ quantity ∷ [] ≡ map f (range_with_len first (hour - first)) ++ f hour ∷ [] = λ i. so_far i ++ lowered i ∷ [] in
-    let next = map-range_with_len_more f first (hour - first) hour (omega arith) in
-    let count : hour - first + 1 ≡ hour + 1 - first = omega arith in
-    pushed ∙ here ∙ sym next ∙ ap (λ n. map f (range_with_len first n)) count

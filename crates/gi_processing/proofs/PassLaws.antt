@@ -6,7 +6,6 @@ use Rattle.std.specs.declared.cmp.Ordering.TheVariants.{Less, Equal, Greater}
 use Rattle.std.specs.List.{IsDistinct}
 use Rattle.std.specs.List.Sorted.{IsPermutation, IsSortedByKey, IsStrictlySortedBy}
 use Rattle.std.specs.Ordering.{eq_by_cmp, is_eq, is_lt, ordering_reverse}
-use Rattle.std.proofs.Math.Nat.{zero-div}
 use Rattle.std.proofs.lemmas.Bool.{cases_lt}
 use Rattle.std.proofs.lemmas.List.{get_or-map, length-map, map_more}
 use Rattle.std.proofs.lemmas.List.Elements.{All-head, All-tail}
@@ -19,7 +18,7 @@ use Rattle.gi_messages.specs.declared.line.Line.{Line}
 use Rattle.gi_nominations.specs.Lines.{has_twins}
 use Rattle.gi_processing.specs.Reduction.{AreOrdered, by_counterparty, counterparties, in_direction, part, quantity_at, quotient, referred, total}
 use Rattle.gi_processing.proofs.Counterparties.{are_ordered, by_counterparty-permutation, code_total, less_from_not}
-use Rattle.gi_processing.proofs.ReductionLaws.{div_grows, fits, fits_not, part_middle, part_whole, scaled_grows, scaled_within, total_push}
+use Rattle.gi_processing.proofs.ReductionLaws.{fits, fits_not, part_middle, part_whole, scaled_grows, scaled_within, total_push}
 
 -- ---- what is carried along
 
@@ -28,15 +27,6 @@ quotient_whole a b s fit = let here = fits s a fit in rw here refl
 
 pub quotient_scaled : (a b s : ℕ) → a < s → quotient a b s ≡ a * b / s
 quotient_scaled a b s short = let here = fits_not s a short in rw here refl
-
-pub quotient_none : (a s : ℕ) → quotient a 0 s ≡ 0
-quotient_none a s = by_order (cases_lt a s)
-  where
-    by_order : (a < s) ⊎ (s ≤ a) → quotient a 0 s ≡ 0
-    by_order (inr fit) = quotient_whole a 0 s fit
-    by_order (inl short) =
-        let some : 0 < s = omega (arith, short) in
-        quotient_scaled a 0 s short ∙ omega (arith, div_grows (a * 0) 0 s some (omega arith), zero-div s)
 
 -- it grows, and by no more than the sum
 pub quotient_grows : (a b n s : ℕ) → quotient a b s ≤ quotient a (b + n) s

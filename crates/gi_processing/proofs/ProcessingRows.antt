@@ -38,14 +38,6 @@ in_flat_map f x y [] h k = absurd h
 in_flat_map f x y (z ∷ zs) (inl is) k = in_append_left y (f z) (flat_map f zs) (subst (λ w. In y (f w)) (sym is) k)
 in_flat_map f x y (z ∷ zs) (inr h) k = in_append_right y (f z) (flat_map f zs) (in_flat_map f x y zs h k)
 
-pub from_flat_map : {X Y : Type 0} (f : X → List Y) (y : Y) (xs : List X) → In y (flat_map f xs) → (x : X) × (In x xs) × (In y (f x))
-from_flat_map f y [] h = absurd h
-from_flat_map f y (x ∷ xs) h =
-    elim (from_append y (f x) (flat_map f xs) h) [
-      | inl here ↦ (x, inl refl, here)
-      | inr there ↦ let found = from_flat_map f y xs there in (found.0, inr found.1, found.2)
-    ]
-
 -- ---- the lines in force
 
 -- the lines of a sound nomination, and no lines where there is none

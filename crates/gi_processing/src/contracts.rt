@@ -1,7 +1,7 @@
 ghost use Rattle.std.specs.Prelude.{◌≡◌, ◌↔◌, ◌+◌, ◌*◌, ◌^◌, ◌<◌, ◌≤◌, IsTrue, OnOk, OnErr, IfSome, IfNone, IsOkUnless, Some, None, Err, [], false, length};
 ghost use Rattle.std.specs.List.{IsDistinct, list_any};
 ghost use Rattle.std.specs.Str.{bytes_eq};
-ghost use Rattle.gi_pairs.specs.Quantity.{IsQuantity, most_quantity};
+ghost use Rattle.gi_pairs.specs.Quantity.{most_quantity};
 ghost use Rattle.gi_processing.specs.Capacity.{available as available_of, contract_of, has_contract, has_notice, left_of, knows as knows_of, notice_of, part as part_of, parts as parts_of};
 ghost use Rattle.gi_processing.specs.CapacityLimits.{most_permille, most_portfolios};
 ghost use Rattle.gi_processing.specs.Recording.{ContractStands, IsNotice, NoticeStands, is_refused, is_too_many as is_too_many_of, notice_refusal, portfolios_of, with_contract, with_notice, with_portfolio};

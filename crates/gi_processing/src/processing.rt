@@ -16,8 +16,6 @@ use gi_nominations::Book;
 use gi_pairs::{Code, Direction, Hours, Pair, Quantity, Row, Side, Table};
 use std::alloc::{AllocError, Global};
 
-/// What is processed in each hour of a portfolio's lines of a direction, which come in order of
-/// counterparty.
 fn columns_of(
     alloc: Global,
     contracts: &Contracts,
@@ -40,7 +38,6 @@ fn columns_of(
     Ok(of_hours)
 }
 
-/// The row of the line at a place, from what is processed of all lines in each hour.
 fn row_of(
     alloc: Global,
     span: &Span,
@@ -99,7 +96,6 @@ fn add_rows(
     add_direction(rows, contracts, span, portfolio, lines, Direction::MI)
 }
 
-/// Adds a row for each line that a portfolio has in force.
 #[tactic(auto, unfolding(crate::specs::Processing::portfolio_rows, crate::specs::Processing::lines_in_force))]
 fn add_portfolio(
     rows: &mut Vec<Row>,
@@ -118,7 +114,6 @@ fn add_portfolio(
     }
 }
 
-/// The rows of all lines in force.
 fn rows_in_force(
     alloc: Global,
     contracts: &Contracts,
@@ -139,7 +134,6 @@ fn rows_in_force(
     Ok(rows)
 }
 
-/// The table of the rows of all lines in force.
 fn table_of(
     alloc: Global,
     contracts: &Contracts,

@@ -34,7 +34,6 @@ pub(crate) fn ordered_lines(
     Ok(ordered)
 }
 
-/// The quantity of a line in the hour of an index, counted from 0.
 fn quantity_of(line: &Line, index: usize) -> Quantity
     requires { index < length line.now.hours }
     ensures { result ≡ quantity_at index line.now }
@@ -55,7 +54,6 @@ fn total_of(lines: &[&Line], index: usize) -> u64
     sum
 }
 
-/// A sum scaled to what is available in place of the total, rounded down.
 fn scaled(available: u64, sum: u64, total: u64) -> u64
     requires some { 0 < total }
     requires within { sum ≤ total }
@@ -64,8 +62,6 @@ fn scaled(available: u64, sum: u64, total: u64) -> u64
     (u128::from(available) * u128::from(sum) / u128::from(total)) as u64
 }
 
-/// What the first so many lines get together, of which the sum is given: the sum, where all lines
-/// fit, and else the sum scaled.
 fn quotient_of(available: u64, sum: u64, total: u64) -> u64
     requires { sum ≤ total }
     ensures { result ≡ quotient available sum total }
@@ -76,9 +72,7 @@ fn quotient_of(available: u64, sum: u64, total: u64) -> u64
     scaled(available, sum, total)
 }
 
-/// What is processed of the lines of a direction, which come in order of counterparty, in the hour
-/// of an index, where so many kWh/h are available to all of them together: one pass, which carries
-/// along what the lines before got.
+/// One pass, which carries along what the lines before got.
 pub(crate) fn parts_in(
     alloc: Global,
     lines: &[&Line],

@@ -43,7 +43,6 @@ fn confirmed_line(
     format!(in alloc; "{day} {cycle} {row} {hour} {quantity}\n")
 }
 
-/// The lines of a row, whose hours are numbered from `first` on.
 fn row_lines(alloc: Global, id: &CycleId, first: u8, row: &Row) -> Result<String, AllocError>
     ensures { IfOk result (λ text. string_bytes text ≡ lines_of_row id.now first row.now) }
 {

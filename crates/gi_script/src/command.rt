@@ -13,7 +13,6 @@ use gi_pairs::{CycleId, Side};
 use gi_processing::{Contract, Notice};
 use std::alloc::Global;
 
-/// What follows `SIDE contract`.
 fn contract(mut words: Words<'_>) -> Option<Contract>
     ensures { Finds (SaysContract words.entry) result }
 {
@@ -34,7 +33,6 @@ fn contract(mut words: Words<'_>) -> Option<Contract>
     })
 }
 
-/// What follows `SIDE notice`.
 fn notice(mut words: Words<'_>) -> Option<Notice>
     ensures { Finds (SaysNotice words.entry) result }
 {
@@ -57,7 +55,6 @@ fn notice(mut words: Words<'_>) -> Option<Notice>
     })
 }
 
-/// What follows `SIDE close` and `SIDE resend`.
 fn cycle(mut words: Words<'_>) -> Option<CycleId>
     ensures { Finds (SaysCycle words.entry) result }
 {
@@ -69,7 +66,6 @@ fn cycle(mut words: Words<'_>) -> Option<CycleId>
     Some(CycleId { day, cycle })
 }
 
-/// What follows `SIDE save`.
 fn count(mut words: Words<'_>) -> Option<u32>
     ensures { Finds (SaysCount words.entry) result }
 {
@@ -80,7 +76,6 @@ fn count(mut words: Words<'_>) -> Option<u32>
     Some(count)
 }
 
-/// What follows `SIDE deliver` and `SIDE restart`.
 fn number(mut words: Words<'_>) -> Option<u32>
     ensures { Finds (SaysNumber words.entry) result }
 {
@@ -91,7 +86,6 @@ fn number(mut words: Words<'_>) -> Option<u32>
     Some(number)
 }
 
-/// What `SIDE VERB` and the words after it say, where the verb is not `submit`.
 fn plain(side: Side, verb: Verb, words: Words<'_>) -> Option<Instruction>
     ensures { verb ≢ verbs.Submit → Finds (Says verb side words.entry) result }
 {
@@ -124,7 +118,6 @@ fn call(side: Side, call: Call) -> Option<Instruction>
     Some(Instruction::Call { side, call })
 }
 
-/// What `SIDE submit` and the words after it say: they are the body, with their spaces.
 fn submission(alloc: Global, side: Side, words: Words<'_>) -> Result<Instruction, LineFault>
     ensures { Reads (Says verbs.Submit side words.entry) result }
 {

@@ -108,7 +108,6 @@ fn further(alloc: Global, forms: Forms, mut lines: Lines<'_>) -> Result<Vec<Line
     Ok(read)
 }
 
-/// The script of these forms of lines that the bytes are.
 fn read(alloc: Global, forms: Forms, bytes: &[u8]) -> Result<Script, ScriptFault>
     ensures found { IfOk result (IsScriptBy (spelling forms) bytes.now) }
     ensures fault { IfErr result (IsFaultBy (spelling forms) bytes.now) }

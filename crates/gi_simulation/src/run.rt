@@ -43,7 +43,6 @@ fn make_line<N: Notes>(
     Ok(())
 }
 
-/// Makes all lines, and notes what came of each; only want of memory ends it before.
 pub(crate) fn run<N: Notes>(
     simulation: &mut Simulation,
     lines: &[Line],

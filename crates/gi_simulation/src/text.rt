@@ -36,7 +36,6 @@ fn side_of(instruction: &Instruction) -> Side
     }
 }
 
-/// `12 I recorded 4`, and a line feed.
 fn step_line(alloc: Global, line: &Line, outcome: Outcome) -> Result<String, AllocError>
     ensures { IfOk result (λ text. string_bytes text ≡ step_text line.now outcome) }
 {

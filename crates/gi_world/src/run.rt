@@ -54,8 +54,6 @@ fn make(
     Ok(())
 }
 
-/// Makes these steps, one after the other: all of them, unless memory runs out. There is a place
-/// for what comes of each.
 fn make_all(
     world: &mut World,
     outcomes: &mut Vec<Result<WorldReply, WorldFault>>,
