@@ -238,7 +238,7 @@ of_kind_is : (k : Kind) (d : Data) → IsOfKind k d → fact d ≡ of_kind k d
 unfolding fact
 of_kind_is k d is = ap (λ (s : Read Kind). s >>= λ found. of_kind found d) (kind_again d k is)
 
-fact_again : (d : Data) (f : Fact) → IsFact d f → fact d ≡ Ok f
+pub fact_again : (d : Data) (f : Fact) → IsFact d f → fact d ≡ Ok f
 unfolding meeting
 fact_again d (facts.Contracted c) h = of_kind_is kinds.Contract d h.0 ∙ ap (λ (s : Read Contract). s >>= λ found. Ok (facts.Contracted found)) (contract_again d c h.1)
 fact_again d (facts.Noticed n) h = of_kind_is kinds.Notice d h.0 ∙ ap (λ (s : Read Notice). s >>= λ found. Ok (facts.Noticed found)) (notice_again d n h.1)

@@ -1,18 +1,16 @@
 -- What is written for a fact stands for it, and is read back.
-use Rattle.std.proofs.Common.{◌≡◌, ℕ, ◌≤◌, true, false, Some, Result, Ok, Err, refl, ap, ◌∙◌, arith}
-use Rattle.std.specs.Prelude.{IfOk}
-use Rattle.std.specs.Global.{Vec}
+use Rattle.std.proofs.Common.{◌≡◌, ℕ, ◌≤◌, true, List, [], ◌++◌, Some, refl, ap, ◌∙◌, arith}
 use Rattle.std.specs.Str.{is_utf8}
 use Rattle.std.proofs.lemmas.Str.{is_utf8-from_IsUtf8}
+use Rattle.json.specs.Print.{print}
+use Rattle.json.specs.Written.{Written}
 use Rattle.json.proofs.Printed.Utf8.{IsUtf8-are_ascii}
 use Rattle.serde_json.specs.Data.{Data, depth}
-use Rattle.serde_json.specs.View.{view}
-use Rattle.serde_json.specs.declared.value.Value.{Value}
-use Rattle.serde_json.specs.Written.{has_float, compact_text}
 use Rattle.gi_pairs.specs.Limits.{last_hour, most_processed_rows}
 use Rattle.gi_pairs.specs.Quantity.{most_quantity}
 use Rattle.gi_pairs.specs.Table.{TableContents}
 use Rattle.gi_pairs.specs.declared.cycle_id.CycleId.{CycleId}
+use Rattle.gi_messages.specs.Adding.{Added, tokens_of}
 use Rattle.gi_messages.specs.Grammar.{FitsNomint}
 use Rattle.gi_messages.specs.Limits.{last_cycle}
 use Rattle.gi_messages.specs.Writing.{nomint_data}
@@ -21,9 +19,10 @@ use Rattle.gi_messages.specs.declared.message.Message.TheVariants.{Nomint as Nom
 use Rattle.gi_messages.specs.declared.message.Nomint.{Nomint}
 use Rattle.gi_messages.proofs.Plain.{IsPlain, IsUtf8-compact_text, json_of-compact_text}
 use Rattle.gi_messages.proofs.TableLemmas.{is_code}
-use Rattle.gi_messages.proofs.WritingLemmas.{fits_from_writable, has_float-data_of as has_float-message}
+use Rattle.gi_messages.proofs.WritingLemmas.{fits_from_writable}
 use Rattle.gi_messages.proofs.WrittenKinds.{nomint_plain, nomint_stands, of_kind-nomint}
-use Rattle.gi_messages.proofs.WrittenParts.{code_utf8, depth-lines, depth-rows, direction_utf8, few_rows, has_float-rows, plain_day, plain_table, stands_code, stands_day, stands_direction, stands_number, stands_table}
+use Rattle.gi_messages.proofs.WrittenParts.{code_utf8, depth-lines, depth-rows, direction_utf8, few_rows, plain_day, plain_table, stands_code, stands_day, stands_direction, stands_number, stands_table}
+use Rattle.gi_messages.proofs.WrittenTokens.{text_is}
 use Rattle.gi_processing.specs.CapacityLimits.{most_permille}
 use Rattle.gi_processing.specs.declared.contract.Contract.{Contract}
 use Rattle.gi_processing.specs.declared.notice.Notice.{Notice}
@@ -118,7 +117,7 @@ data_of-stands f h = stands f (fits_from_writable_fact f h)
 
 -- ---- what is written is plain
 
-plain : (f : Fact) → FitsFact f → IsPlain (data_of f)
+pub plain : (f : Fact) → FitsFact f → IsPlain (data_of f)
 unfolding contract_data notice_data nomination_data closing_data meeting_data
 plain (facts.Contracted c) h = (
   (
@@ -194,17 +193,8 @@ plain (facts.Met id peer) h = (
   refl,
 )
 
--- no number that is written is a float
-has_float-data_of : (f : Fact) → has_float (data_of f) ≡ false
-unfolding contract_data notice_data nomination_data closing_data meeting_data
-has_float-data_of (facts.Contracted c) = refl
-has_float-data_of (facts.Noticed n) = refl
-has_float-data_of (facts.Nominated m) = rw (has_float-message (NomintMessage m)) refl
-has_float-data_of (facts.Closed id) = refl
-has_float-data_of (facts.Met id peer) = rw (has_float-rows peer.rows) refl
-
 -- the values nest five deep
-depth-data_of : (f : Fact) → depth (data_of f) ≤ 127
+pub depth-data_of : (f : Fact) → depth (data_of f) ≤ 126
 unfolding contract_data notice_data nomination_data closing_data meeting_data nomint_data
 depth-data_of (facts.Contracted c) = omega arith
 depth-data_of (facts.Noticed n) = omega arith
@@ -216,7 +206,7 @@ depth-data_of (facts.Met id peer) = omega (arith, depth-rows peer.rows)
 
 text_of-spells : (f : Fact) → IsWritable f → Spells (fact_text f) f
 unfolding fact_text
-text_of-spells f h = record { value = data_of f; json = json_of-compact_text (data_of f) (plain f (fits_from_writable_fact f h)) (depth-data_of f); stands = data_of-stands f h }
+text_of-spells f h = record { value = data_of f; json = json_of-compact_text (data_of f) (plain f (fits_from_writable_fact f h)) (omega (arith, depth-data_of f)); stands = data_of-stands f h }
 
 pub round_trip : (f : Fact) → IsWritable f → fact_of (fact_text f) ≡ Some f
 round_trip f h = fact_of_again (fact_text f) f (text_of-spells f h)
@@ -227,11 +217,10 @@ is_text f h = is_utf8-from_IsUtf8 (fact_text f) (IsUtf8-compact_text (data_of f)
 
 -- ---- what `encode_fact` answers
 
-pub is_text_of : {E : Type 0} (f : Fact) (v : Value) (r : Result (Vec ℕ) E) → view v ≡ data_of f → IfOk r (λ bytes. has_float (view v) ≡ false → bytes.items ≡ compact_text (view v)) → IfOk r (λ bytes. bytes.items ≡ fact_text f)
+-- the text of a fact that was added to nothing
+pub is_text_of : {a b : Written} (f : Fact) (bytes : List ℕ) → a.before ≡ [] → a.tokens ≡ [] → Added a b (tokens_of (data_of f)) → bytes ≡ b.before ++ print b.tokens → bytes ≡ fact_text f
 unfolding fact_text
-is_text_of f v (Ok bytes) is h = h (ap has_float is ∙ has_float-data_of f) ∙ ap compact_text is
-is_text_of f v (Err e) is h = tt
+is_text_of f bytes before none h is = is ∙ text_is (data_of f) before none h
 
-pub is_read_back : {E : Type 0} (f : Fact) (r : Result (Vec ℕ) E) → IfOk r (λ bytes. bytes.items ≡ fact_text f) → IfOk r (λ bytes. IsWritable f → fact_of bytes.items ≡ Some f)
-is_read_back f (Ok bytes) is = λ writable. ap fact_of is ∙ round_trip f writable
-is_read_back f (Err e) is = tt
+pub is_read_back : (f : Fact) (bytes : List ℕ) → bytes ≡ fact_text f → IsWritable f → fact_of bytes ≡ Some f
+is_read_back f bytes is writable = ap fact_of is ∙ round_trip f writable

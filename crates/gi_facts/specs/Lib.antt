@@ -4,5 +4,6 @@ pub mod Kind
 pub mod Grammar
 pub mod Decoding
 pub mod Writing
+pub mod Batch
 pub mod Fault
 pub mod Laws

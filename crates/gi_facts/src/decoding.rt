@@ -127,7 +127,7 @@ fn of_kind(alloc: Global, kind: Kind, object: &Value) -> Result<Fact, FieldFault
 }
 
 #[tactic(auto, unfolding(crate::specs::Decoding::fact))]
-fn fact(alloc: Global, object: &Value) -> Result<Fact, FieldFault>
+pub fn fact(alloc: Global, object: &Value) -> Result<Fact, FieldFault>
     ensures { reading.Gives (λ found. found) result (fact (view object.now)) }
 {
     let kind = kind(object)?;

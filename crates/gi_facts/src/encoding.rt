@@ -1,100 +1,108 @@
 //! Writing facts.
 
 ghost use Rattle.std.specs.Prelude.{◌≡◌, IfOk, Some};
-ghost use Rattle.serde_json.specs.View.{view};
+ghost use Rattle.gi_messages.specs.Adding.{Adds};
 ghost use Rattle.gi_facts.specs.Decoding.{fact_of};
 ghost use Rattle.gi_facts.specs.Grammar.{IsWritable};
 ghost use Rattle.gi_facts.specs.Writing.{closing_data, contract_data, data_of, fact_text, meeting_data, nomination_data, notice_data};
 
 use crate::fact::Fact;
 use crate::kind::Kind;
-use gi_messages::Nomint;
-use gi_messages::parts::{nomint_value, rows_value};
+use gi_messages::parts::{
+    put_code, put_day, put_direction, put_key, put_nomint, put_number, put_rows, put_text,
+    room_for_lines, room_for_object, room_for_rows,
+};
+use gi_messages::{Key, Nomint};
 use gi_pairs::{CycleId, Table};
 use gi_processing::{Contract, Notice};
-use serde_json::{Value, json};
+use json::Writer;
 use std::alloc::{AllocError, Global};
 
-#[tactic(auto, unfolding(crate::specs::Writing::contract_data))]
-fn contract_value(alloc: Global, contract: &Contract) -> Result<Value, AllocError>
-    ensures { IfOk result (λ value. view value ≡ contract_data contract.now) }
+fn put_contract(alloc: Global, out: &mut Writer, contract: &Contract) -> Result<(), AllocError>
+    ensures { Adds result out.old out.new (contract_data contract.now) }
 {
-    let day = contract.day.to_string(alloc)?;
-    json!(in alloc; {
-        "day": day.as_str(),
-        "direction": contract.direction.as_str(),
-        "fact": Kind::Contract.text(),
-        "firm": contract.firm.value(),
-        "interruptible": contract.interruptible.value(),
-        "portfolio": contract.portfolio.as_str()
-    })
+    out.begin_object()?;
+    put_day(alloc, out, &contract.day)?;
+    put_direction(out, contract.direction)?;
+    put_text(out, Key::Fact, Kind::Contract.text())?;
+    put_number(out, Key::Firm, contract.firm.value())?;
+    put_number(out, Key::Interruptible, contract.interruptible.value())?;
+    put_code(out, Key::Portfolio, &contract.portfolio)?;
+    out.end_object()
 }
 
-#[tactic(auto, unfolding(crate::specs::Writing::notice_data))]
-fn notice_value(alloc: Global, notice: &Notice) -> Result<Value, AllocError>
-    ensures { IfOk result (λ value. view value ≡ notice_data notice.now) }
+fn put_notice(alloc: Global, out: &mut Writer, notice: &Notice) -> Result<(), AllocError>
+    ensures { Adds result out.old out.new (notice_data notice.now) }
 {
-    let day = notice.day.to_string(alloc)?;
-    json!(in alloc; {
-        "day": day.as_str(),
-        "direction": notice.direction.as_str(),
-        "fact": Kind::Notice.text(),
-        "firm": notice.firm,
-        "first": notice.first,
-        "interruptible": notice.interruptible,
-        "last": notice.last
-    })
+    out.begin_object()?;
+    put_day(alloc, out, &notice.day)?;
+    put_direction(out, notice.direction)?;
+    put_text(out, Key::Fact, Kind::Notice.text())?;
+    put_number(out, Key::Firm, u64::from(notice.firm))?;
+    put_number(out, Key::First, u64::from(notice.first))?;
+    put_number(out, Key::Interruptible, u64::from(notice.interruptible))?;
+    put_number(out, Key::Last, u64::from(notice.last))?;
+    out.end_object()
 }
 
-#[tactic(auto, unfolding(crate::specs::Writing::nomination_data))]
-fn nomination_value(alloc: Global, document: &Nomint) -> Result<Value, AllocError>
-    ensures { IfOk result (λ value. view value ≡ nomination_data document.now) }
+fn put_nomination(alloc: Global, out: &mut Writer, document: &Nomint) -> Result<(), AllocError>
+    ensures { Adds result out.old out.new (nomination_data document.now) }
 {
-    let nomint = nomint_value(alloc, document)?;
-    json!(in alloc; {
-        "fact": Kind::Nomination.text(),
-        "nomint": nomint
-    })
+    out.begin_object()?;
+    put_text(out, Key::Fact, Kind::Nomination.text())?;
+    put_key(out, Key::Nomint)?;
+    put_nomint(alloc, out, document)?;
+    out.end_object()
 }
 
-#[tactic(auto, unfolding(crate::specs::Writing::closing_data))]
-fn closing_value(alloc: Global, id: &CycleId) -> Result<Value, AllocError>
-    ensures { IfOk result (λ value. view value ≡ closing_data id.now) }
+fn put_closing(alloc: Global, out: &mut Writer, id: &CycleId) -> Result<(), AllocError>
+    ensures { Adds result out.old out.new (closing_data id.now) }
 {
-    let day = id.day.to_string(alloc)?;
-    json!(in alloc; {
-        "cycle": id.cycle,
-        "day": day.as_str(),
-        "fact": Kind::Closed.text()
-    })
+    out.begin_object()?;
+    put_number(out, Key::Cycle, u64::from(id.cycle))?;
+    put_day(alloc, out, &id.day)?;
+    put_text(out, Key::Fact, Kind::Closed.text())?;
+    out.end_object()
 }
 
-#[tactic(auto, unfolding(crate::specs::Writing::meeting_data))]
-fn meeting_value(alloc: Global, id: &CycleId, peer: &Table) -> Result<Value, AllocError>
-    ensures { IfOk result (λ value. view value ≡ meeting_data id.now peer.now) }
+fn put_meeting(
+    alloc: Global,
+    out: &mut Writer,
+    id: &CycleId,
+    peer: &Table,
+) -> Result<(), AllocError>
+    ensures { Adds result out.old out.new (meeting_data id.now peer.now) }
 {
-    let day = id.day.to_string(alloc)?;
-    let rows = rows_value(alloc, peer.rows())?;
-    json!(in alloc; {
-        "cycle": id.cycle,
-        "day": day.as_str(),
-        "fact": Kind::Met.text(),
-        "first": peer.first(),
-        "last": peer.last(),
-        "peer": rows
-    })
+    out.begin_object()?;
+    put_number(out, Key::Cycle, u64::from(id.cycle))?;
+    put_day(alloc, out, &id.day)?;
+    put_text(out, Key::Fact, Kind::Met.text())?;
+    put_number(out, Key::First, u64::from(peer.first()))?;
+    put_number(out, Key::Last, u64::from(peer.last()))?;
+    put_rows(out, Key::Peer, peer.rows())?;
+    out.end_object()
 }
 
-fn fact_value(alloc: Global, fact: &Fact) -> Result<Value, AllocError>
-    ensures { IfOk result (λ value. view value ≡ data_of fact.now) }
+/// Adds the object of a fact.
+pub fn put_fact(alloc: Global, out: &mut Writer, fact: &Fact) -> Result<(), AllocError>
+    ensures { Adds result out.old out.new (data_of fact.now) }
 {
     match fact {
-        Fact::Contracted(contract) => contract_value(alloc, contract),
-        Fact::Noticed(notice) => notice_value(alloc, notice),
-        Fact::Nominated(document) => nomination_value(alloc, document),
-        Fact::Closed(id) => closing_value(alloc, id),
-        Fact::Met { id, peer } => meeting_value(alloc, id, peer),
+        Fact::Contracted(contract) => put_contract(alloc, out, contract),
+        Fact::Noticed(notice) => put_notice(alloc, out, notice),
+        Fact::Nominated(document) => put_nomination(alloc, out, document),
+        Fact::Closed(id) => put_closing(alloc, out, id),
+        Fact::Met { id, peer } => put_meeting(alloc, out, id, peer),
     }
+}
+
+/// About how many bytes the text of a fact takes.
+pub fn room_for_fact(fact: &Fact) -> usize {
+    room_for_object(match fact {
+        Fact::Nominated(document) => room_for_lines(document.lines.as_slice()),
+        Fact::Met { peer, .. } => room_for_rows(peer.rows()),
+        _ => 0,
+    })
 }
 
 /// The one JSON text of the fact, with its keys in byte order, its lines in their order and its
@@ -103,6 +111,7 @@ pub fn encode_fact(alloc: Global, fact: &Fact) -> Result<Vec<u8>, AllocError>
     ensures text { IfOk result (λ bytes. bytes.items ≡ fact_text fact.now) }
     ensures reads_back { IfOk result (λ bytes. IsWritable fact.now → fact_of bytes.items ≡ Some fact.now) }
 {
-    let value = fact_value(alloc, fact)?;
-    value.to_vec(alloc)
+    let mut out = Writer::new(Vec::with_capacity(alloc, room_for_fact(fact))?);
+    put_fact(alloc, &mut out, fact)?;
+    Ok(out.into_inner())
 }

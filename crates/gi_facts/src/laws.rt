@@ -1,6 +1,6 @@
 //! What holds of all facts. These functions do nothing; their clauses are the laws.
 
-ghost use Rattle.gi_facts.specs.Laws.{IsOneFact, IsText, IsWritableExactly, ReadsSpelling, RoundTrips, SameFactsAreEqual, WritesFact};
+ghost use Rattle.gi_facts.specs.Laws.{BatchIsFew, BatchRoundTrips, IsOneFact, IsText, IsWritableExactly, ReadsSpelling, RoundTrips, SameFactsAreEqual, WritesFact};
 
 /// A JSON value stands for one fact at most.
 pub fn one_fact()
@@ -37,4 +37,14 @@ pub fn fact_is_text()
 /// Facts are the same exactly where they are equal.
 pub fn same_facts_are_equal()
     ensures { SameFactsAreEqual }
+{}
+
+/// From 1 to 64 facts that are written as one text are read back, in their order.
+pub fn batch_round_trip()
+    ensures { BatchRoundTrips }
+{}
+
+/// What is read as facts are from 1 to 64.
+pub fn batch_is_few()
+    ensures { BatchIsFew }
 {}

@@ -16,6 +16,7 @@ pub mod Refusing
 pub mod FirstFaults
 pub mod WrittenParts
 pub mod WrittenKinds
+pub mod WrittenTokens
 pub mod WritingLemmas
 pub mod Lengths
 pub mod ShortTexts

@@ -1,11 +1,9 @@
 -- What is written for a message stands for it, and is read back.
-use Rattle.std.proofs.Common.{◌≡◌, ℕ, ◌≤◌, false, List, length, Result, Ok, Err, refl, ap, ◌∙◌, subst, arith}
-use Rattle.std.specs.Prelude.{IfOk}
-use Rattle.std.specs.Global.{Vec}
+use Rattle.std.proofs.Common.{◌≡◌, ℕ, ◌≤◌, List, [], ◌++◌, length, Ok, ap, ◌∙◌, subst, arith}
+use Rattle.json.specs.Print.{print}
+use Rattle.json.specs.Written.{Written}
 use Rattle.serde_json.specs.Data.{depth}
-use Rattle.serde_json.specs.View.{view}
-use Rattle.serde_json.specs.declared.value.Value.{Value}
-use Rattle.serde_json.specs.Written.{has_float, compact_text}
+use Rattle.gi_messages.specs.Adding.{Added, tokens_of}
 use Rattle.gi_messages.specs.Limits.{most_bytes}
 use Rattle.gi_messages.specs.declared.message.Message.{Message}
 use Rattle.gi_messages.specs.declared.message.Message.TheVariants as messages
@@ -15,17 +13,9 @@ use Rattle.gi_messages.specs.Writing.{nomint_data, acknow_data, nomres_data, del
 use Rattle.gi_messages.proofs.MessageLemmas.{decoded_again}
 use Rattle.gi_messages.proofs.Plain.{IsPlain, json_of-compact_text}
 use Rattle.gi_messages.proofs.TableLemmas.{is_code}
-use Rattle.gi_messages.proofs.WrittenParts.{has_float-rows, has_float-lines, depth-rows, depth-lines, few_rows, lines_fit, lines_fit_for}
+use Rattle.gi_messages.proofs.WrittenTokens.{text_is}
+use Rattle.gi_messages.proofs.WrittenParts.{depth-rows, depth-lines, few_rows, lines_fit, lines_fit_for}
 use Rattle.gi_messages.proofs.WrittenKinds.{nomint_stands, acknow_stands, nomres_stands, delord_stands, delres_stands, of_kind-nomint, of_kind-acknow, of_kind-nomres, of_kind-delord, of_kind-delres, nomint_plain, acknow_plain, nomres_plain, delord_plain, delres_plain}
-
--- no number that is written is a float
-pub has_float-data_of : (m : Message) → has_float (data_of m) ≡ false
-unfolding nomint_data acknow_data nomres_data delord_data delres_data
-has_float-data_of (messages.Nomint m) = rw (has_float-lines m.lines) refl
-has_float-data_of (messages.Acknow m) = refl
-has_float-data_of (messages.Nomres m) = rw (has_float-lines m.lines) refl
-has_float-data_of (messages.Delord m) = rw (has_float-rows m.processed.rows) refl
-has_float-data_of (messages.Delres m) = rw (has_float-rows m.processed.rows, has_float-rows m.confirmed.rows) refl
 
 -- the values nest four deep
 pub depth-data_of : (m : Message) → depth (data_of m) ≤ 127
@@ -123,11 +113,10 @@ round_trip m h short = decoded_again (text_of m) m (text_of-spells m h short)
 
 -- ---- what `encode` answers
 
-pub is_text_of : {E : Type 0} (m : Message) (v : Value) (r : Result (Vec ℕ) E) → view v ≡ data_of m → IfOk r (λ bytes. has_float (view v) ≡ false → bytes.items ≡ compact_text (view v)) → IfOk r (λ bytes. bytes.items ≡ text_of m)
+-- the text of a message that was added to nothing
+pub is_text_of : {a b : Written} (m : Message) (bytes : List ℕ) → a.before ≡ [] → a.tokens ≡ [] → Added a b (tokens_of (data_of m)) → bytes ≡ b.before ++ print b.tokens → bytes ≡ text_of m
 unfolding text_of
-is_text_of m v (Ok bytes) is h = h (ap has_float is ∙ has_float-data_of m) ∙ ap compact_text is
-is_text_of m v (Err e) is h = tt
+is_text_of m bytes before none h is = is ∙ text_is (data_of m) before none h
 
-pub is_read_back : {E : Type 0} (m : Message) (r : Result (Vec ℕ) E) → IfOk r (λ bytes. bytes.items ≡ text_of m) → IfOk r (λ bytes. IsWritable m → length bytes.items ≤ most_bytes → decoded bytes.items ≡ Ok m)
-is_read_back m (Ok bytes) is = λ writable short. ap decoded is ∙ round_trip m writable (subst (λ (text : List ℕ). length text ≤ most_bytes) is short)
-is_read_back m (Err e) is = tt
+pub is_read_back : (m : Message) (bytes : List ℕ) → bytes ≡ text_of m → IsWritable m → length bytes ≤ most_bytes → decoded bytes ≡ Ok m
+is_read_back m bytes is writable short = ap decoded is ∙ round_trip m writable (subst (λ (text : List ℕ). length text ≤ most_bytes) is short)

@@ -1,5 +1,5 @@
 -- The parts of what is written for a message: its rows, lines and fields.
-use Rattle.std.proofs.Common.{◌≡◌, ℕ, ◌≤◌, false, List, [], ◌∷◌, length, map, All, Some, IsUtf8, refl, sym, ap, ◌∙◌, subst, arith}
+use Rattle.std.proofs.Common.{◌≡◌, ℕ, ◌≤◌, List, [], ◌∷◌, length, map, All, Some, IsUtf8, refl, sym, ap, ◌∙◌, subst, arith}
 use Rattle.std.specs.List.{AllByRecursion}
 use Rattle.std.proofs.lemmas.List.Elements.{All-from_recursion, recursion_from_All}
 use Rattle.std.proofs.lemmas.List.Sorted.{IsPermutation-refl, length_permutation}
@@ -9,7 +9,6 @@ use Rattle.jiff_core.specs.declared.civil.date.Date.{Date}
 use Rattle.serde_json.specs.Find.{get}
 use Rattle.serde_json.specs.Data.{Data, string, depth, items_depth}
 use Rattle.serde_json.specs.View.{items_of}
-use Rattle.serde_json.specs.Written.{has_float, items_have_float}
 use Rattle.gi_day.specs.Day.{IsGasYear, day_text}
 use Rattle.gi_day.proofs.DayLaws.{is_text, day_text-ascii}
 use Rattle.gi_pairs.specs.Code.{IsCode}
@@ -30,26 +29,6 @@ use Rattle.gi_messages.specs.Writing.{whole, row_data, rows_data, line_data, lin
 use Rattle.gi_messages.proofs.FieldLemmas.{all_of_each}
 use Rattle.gi_messages.proofs.Plain.{IsPlain, ArePlainItems}
 use Rattle.gi_messages.proofs.TableLemmas.{is_code, are_quantities}
-
--- ---- no number in rows and lines is a float
-
-each_whole : {X : Type 0} (f : X → Data) → ((x : X) → has_float (f x) ≡ false) → (xs : List X) → items_have_float (items_of (map f xs)) ≡ false
-each_whole f h [] = refl
-each_whole f h (x ∷ xs) = rw (h x) (each_whole f h xs)
-
-has_float-row : (r : Row) → has_float (row_data r) ≡ false
-unfolding row_data
-has_float-row r = rw (each_whole whole (λ n. refl) r.hours) refl
-
-has_float-line : (l : Line) → has_float (line_data l) ≡ false
-unfolding line_data
-has_float-line l = rw (each_whole whole (λ n. refl) l.hours) refl
-
-pub has_float-rows : (rs : List Row) → has_float (rows_data rs) ≡ false
-has_float-rows rs = each_whole row_data has_float-row rs
-
-pub has_float-lines : (ls : List Line) → has_float (lines_data ls) ≡ false
-has_float-lines ls = each_whole line_data has_float-line ls
 
 -- ---- rows and lines nest two deep
 

@@ -11,4 +11,5 @@ pub mod Decoding
 pub mod Grammar
 pub mod FirstFault
 pub mod Writing
+pub mod Adding
 pub mod Laws

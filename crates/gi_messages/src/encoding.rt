@@ -1,169 +1,101 @@
 //! Writing messages.
 
 ghost use Rattle.std.specs.Prelude.{◌≡◌, ◌≤◌, length, IfOk, Ok};
-ghost use Rattle.serde_json.specs.View.{view};
+ghost use Rattle.gi_messages.specs.Adding.{Adds};
 ghost use Rattle.gi_messages.specs.Decoding.{decoded};
 ghost use Rattle.gi_messages.specs.Grammar.{IsWritable};
 ghost use Rattle.gi_messages.specs.Limits.{most_bytes};
-ghost use Rattle.gi_messages.specs.Writing.{whole_numbers, line_data, lines_data, row_data, rows_data, nomint_data, acknow_data, nomres_data, delord_data, delres_data, data_of, text_of};
+ghost use Rattle.gi_messages.specs.Writing.{nomint_data, acknow_data, nomres_data, delord_data, delres_data, data_of, text_of};
 
+use crate::key::Key;
 use crate::kind::Kind;
-use crate::line::Line;
+use crate::line_writing::put_lines;
+use crate::members::{put_code, put_day, put_number, put_text};
 use crate::message::{Acknow, Delord, Delres, Message, Nomint, Nomres};
-use gi_pairs::{Quantity, Row};
-use serde_json::{Value, json};
+use crate::room::room_for;
+use crate::row_writing::put_rows;
+use json::Writer;
 use std::alloc::{AllocError, Global};
 
-fn quantities_value(alloc: Global, quantities: &[Quantity]) -> Result<Value, AllocError>
-    ensures { IfOk result (λ value. view value ≡ whole_numbers quantities.now) }
+/// Adds the object of a NOMINT.
+pub fn put_nomint(alloc: Global, out: &mut Writer, message: &Nomint) -> Result<(), AllocError>
+    ensures { Adds result out.old out.new (nomint_data message.now) }
 {
-    let mut values = Vec::with_capacity(alloc, quantities.len())?;
-    for quantity in quantities {
-        values.push(Value::from(quantity.value()))?;
-    }
-    Ok(Value::Array(values))
+    out.begin_object()?;
+    put_day(alloc, out, &message.day)?;
+    put_text(out, Key::Kind, Kind::Nomint.text())?;
+    put_lines(out, message.lines.as_slice())?;
+    put_code(out, Key::Point, &message.point)?;
+    put_code(out, Key::Portfolio, &message.portfolio)?;
+    put_number(out, Key::Version, u64::from(message.version))?;
+    out.end_object()
 }
 
-#[tactic(auto, unfolding(crate::specs::Writing::row_data))]
-fn row_value(alloc: Global, row: &Row) -> Result<Value, AllocError>
-    ensures { IfOk result (λ value. view value ≡ row_data row.now) }
+fn put_acknow(alloc: Global, out: &mut Writer, message: &Acknow) -> Result<(), AllocError>
+    ensures { Adds result out.old out.new (acknow_data message.now) }
 {
-    let hours = quantities_value(alloc, row.hours.as_slice())?;
-    json!(in alloc; {
-        "direction": row.direction.as_str(),
-        "hours": hours,
-        "initiating": row.pair.initiating.as_str(),
-        "matching": row.pair.matching.as_str()
-    })
+    out.begin_object()?;
+    put_day(alloc, out, &message.day)?;
+    put_text(out, Key::Kind, Kind::Acknow.text())?;
+    put_code(out, Key::Point, &message.point)?;
+    put_code(out, Key::Portfolio, &message.portfolio)?;
+    put_number(out, Key::Version, u64::from(message.version))?;
+    out.end_object()
 }
 
-/// The JSON array of the rows, in their order.
-pub fn rows_value(alloc: Global, rows: &[Row]) -> Result<Value, AllocError>
-    ensures { IfOk result (λ value. view value ≡ rows_data rows.now) }
+fn put_nomres(alloc: Global, out: &mut Writer, message: &Nomres) -> Result<(), AllocError>
+    ensures { Adds result out.old out.new (nomres_data message.now) }
 {
-    let mut values = Vec::with_capacity(alloc, rows.len())?;
-    for row in rows {
-        values.push(row_value(alloc, row)?)?;
-    }
-    Ok(Value::Array(values))
+    out.begin_object()?;
+    put_number(out, Key::Cycle, u64::from(message.cycle))?;
+    put_day(alloc, out, &message.day)?;
+    put_number(out, Key::First, u64::from(message.first))?;
+    put_text(out, Key::Kind, Kind::Nomres.text())?;
+    put_number(out, Key::Last, u64::from(message.last))?;
+    put_lines(out, message.lines.as_slice())?;
+    put_code(out, Key::Point, &message.point)?;
+    put_code(out, Key::Portfolio, &message.portfolio)?;
+    out.end_object()
 }
 
-#[tactic(auto, unfolding(crate::specs::Writing::line_data))]
-fn line_value(alloc: Global, line: &Line) -> Result<Value, AllocError>
-    ensures { IfOk result (λ value. view value ≡ line_data line.now) }
+fn put_delord(alloc: Global, out: &mut Writer, message: &Delord) -> Result<(), AllocError>
+    ensures { Adds result out.old out.new (delord_data message.now) }
 {
-    let hours = quantities_value(alloc, line.hours.as_slice())?;
-    json!(in alloc; {
-        "counterparty": line.counterparty.as_str(),
-        "direction": line.direction.as_str(),
-        "hours": hours
-    })
+    out.begin_object()?;
+    put_number(out, Key::Cycle, u64::from(message.cycle))?;
+    put_day(alloc, out, &message.day)?;
+    put_number(out, Key::First, u64::from(message.processed.first()))?;
+    put_text(out, Key::Kind, Kind::Delord.text())?;
+    put_number(out, Key::Last, u64::from(message.processed.last()))?;
+    put_code(out, Key::Point, &message.point)?;
+    put_rows(out, Key::Processed, message.processed.rows())?;
+    out.end_object()
 }
 
-fn lines_value(alloc: Global, lines: &[Line]) -> Result<Value, AllocError>
-    ensures { IfOk result (λ value. view value ≡ lines_data lines.now) }
+fn put_delres(alloc: Global, out: &mut Writer, message: &Delres) -> Result<(), AllocError>
+    ensures { Adds result out.old out.new (delres_data message.now) }
 {
-    let mut values = Vec::with_capacity(alloc, lines.len())?;
-    for line in lines {
-        values.push(line_value(alloc, line)?)?;
-    }
-    Ok(Value::Array(values))
+    out.begin_object()?;
+    put_rows(out, Key::Confirmed, message.confirmed.rows())?;
+    put_number(out, Key::Cycle, u64::from(message.cycle))?;
+    put_day(alloc, out, &message.day)?;
+    put_number(out, Key::First, u64::from(message.processed.first()))?;
+    put_text(out, Key::Kind, Kind::Delres.text())?;
+    put_number(out, Key::Last, u64::from(message.processed.last()))?;
+    put_code(out, Key::Point, &message.point)?;
+    put_rows(out, Key::Processed, message.processed.rows())?;
+    out.end_object()
 }
 
-/// The object of a NOMINT.
-#[tactic(auto, unfolding(crate::specs::Writing::nomint_data))]
-pub fn nomint_value(alloc: Global, message: &Nomint) -> Result<Value, AllocError>
-    ensures { IfOk result (λ value. view value ≡ nomint_data message.now) }
-{
-    let day = message.day.to_string(alloc)?;
-    let lines = lines_value(alloc, message.lines.as_slice())?;
-    json!(in alloc; {
-        "day": day.as_str(),
-        "kind": Kind::Nomint.text(),
-        "lines": lines,
-        "point": message.point.as_str(),
-        "portfolio": message.portfolio.as_str(),
-        "version": message.version
-    })
-}
-
-#[tactic(auto, unfolding(crate::specs::Writing::acknow_data))]
-fn acknow_value(alloc: Global, message: &Acknow) -> Result<Value, AllocError>
-    ensures { IfOk result (λ value. view value ≡ acknow_data message.now) }
-{
-    let day = message.day.to_string(alloc)?;
-    json!(in alloc; {
-        "day": day.as_str(),
-        "kind": Kind::Acknow.text(),
-        "point": message.point.as_str(),
-        "portfolio": message.portfolio.as_str(),
-        "version": message.version
-    })
-}
-
-#[tactic(auto, unfolding(crate::specs::Writing::nomres_data))]
-fn nomres_value(alloc: Global, message: &Nomres) -> Result<Value, AllocError>
-    ensures { IfOk result (λ value. view value ≡ nomres_data message.now) }
-{
-    let day = message.day.to_string(alloc)?;
-    let lines = lines_value(alloc, message.lines.as_slice())?;
-    json!(in alloc; {
-        "cycle": message.cycle,
-        "day": day.as_str(),
-        "first": message.first,
-        "kind": Kind::Nomres.text(),
-        "last": message.last,
-        "lines": lines,
-        "point": message.point.as_str(),
-        "portfolio": message.portfolio.as_str()
-    })
-}
-
-#[tactic(auto, unfolding(crate::specs::Writing::delord_data))]
-fn delord_value(alloc: Global, message: &Delord) -> Result<Value, AllocError>
-    ensures { IfOk result (λ value. view value ≡ delord_data message.now) }
-{
-    let day = message.day.to_string(alloc)?;
-    let processed = rows_value(alloc, message.processed.rows())?;
-    json!(in alloc; {
-        "cycle": message.cycle,
-        "day": day.as_str(),
-        "first": message.processed.first(),
-        "kind": Kind::Delord.text(),
-        "last": message.processed.last(),
-        "point": message.point.as_str(),
-        "processed": processed
-    })
-}
-
-#[tactic(auto, unfolding(crate::specs::Writing::delres_data))]
-fn delres_value(alloc: Global, message: &Delres) -> Result<Value, AllocError>
-    ensures { IfOk result (λ value. view value ≡ delres_data message.now) }
-{
-    let day = message.day.to_string(alloc)?;
-    let processed = rows_value(alloc, message.processed.rows())?;
-    let confirmed = rows_value(alloc, message.confirmed.rows())?;
-    json!(in alloc; {
-        "confirmed": confirmed,
-        "cycle": message.cycle,
-        "day": day.as_str(),
-        "first": message.processed.first(),
-        "kind": Kind::Delres.text(),
-        "last": message.processed.last(),
-        "point": message.point.as_str(),
-        "processed": processed
-    })
-}
-
-fn message_value(alloc: Global, message: &Message) -> Result<Value, AllocError>
-    ensures { IfOk result (λ value. view value ≡ data_of message.now) }
+fn put_message(alloc: Global, out: &mut Writer, message: &Message) -> Result<(), AllocError>
+    ensures { Adds result out.old out.new (data_of message.now) }
 {
     match message {
-        Message::Nomint(nomint) => nomint_value(alloc, nomint),
-        Message::Acknow(acknow) => acknow_value(alloc, acknow),
-        Message::Nomres(nomres) => nomres_value(alloc, nomres),
-        Message::Delord(delord) => delord_value(alloc, delord),
-        Message::Delres(delres) => delres_value(alloc, delres),
+        Message::Nomint(nomint) => put_nomint(alloc, out, nomint),
+        Message::Acknow(acknow) => put_acknow(alloc, out, acknow),
+        Message::Nomres(nomres) => put_nomres(alloc, out, nomres),
+        Message::Delord(delord) => put_delord(alloc, out, delord),
+        Message::Delres(delres) => put_delres(alloc, out, delres),
     }
 }
 
@@ -174,6 +106,7 @@ pub fn encode(alloc: Global, message: &Message) -> Result<Vec<u8>, AllocError>
     // The message is read back, where the text is not too large.
     ensures reads_back { IfOk result (λ bytes. IsWritable message.now → length bytes.items ≤ most_bytes → decoded bytes.items ≡ Ok message.now) }
 {
-    let value = message_value(alloc, message)?;
-    value.to_vec(alloc)
+    let mut out = Writer::new(Vec::with_capacity(alloc, room_for(message))?);
+    put_message(alloc, &mut out, message)?;
+    Ok(out.into_inner())
 }

@@ -12,12 +12,16 @@ mod kind;
 mod laws;
 mod line;
 mod line_reading;
+mod line_writing;
 mod lines;
+mod members;
 mod message;
 mod message_fault;
 mod names;
 pub mod parts;
 mod quantities;
+mod room;
+mod row_writing;
 mod rows;
 
 pub use decoding::decode;

@@ -1,0 +1,101 @@
+//! Several facts in one text.
+
+ghost use Rattle.std.specs.Prelude.{◌≡◌, IfOk};
+ghost use Rattle.serde_json.specs.View.{view, items_view};
+ghost use Rattle.gi_messages.specs.Adding.{Adds};
+ghost use Rattle.gi_messages.specs.Reading as reading;
+ghost use Rattle.gi_facts.specs.Batch.{GivesFacts, batch_of, batch_of_value, batch_text, facts_data, of_elements, one_fact};
+ghost use Rattle.gi_facts.specs.Decoding as decoding;
+
+use crate::decoding::fact;
+use crate::encoding::{encode_fact, put_fact, room_for_fact};
+use crate::fact::Fact;
+use crate::fact_fault::FactFault;
+use gi_messages::MOST_BYTES;
+use gi_messages::parts::{FieldFault, json};
+use json::Writer;
+use serde_json::Value;
+use std::alloc::{AllocError, Global};
+
+/// The most facts that are written as one text.
+pub const MOST_FACTS: usize = 64;
+
+fn room_for_facts(facts: &[Fact]) -> usize {
+    let mut room = 0usize;
+    for fact in facts {
+        room = room.saturating_add(room_for_fact(fact));
+    }
+    room.min(MOST_BYTES)
+}
+
+fn put_facts(alloc: Global, out: &mut Writer, facts: &[Fact]) -> Result<(), AllocError>
+    ensures { Adds result out.old out.new (facts_data facts.now) }
+{
+    out.begin_array()?;
+    for fact in facts {
+        put_fact(alloc, out, fact)?;
+    }
+    out.end_array()
+}
+
+/// The one text of the facts: of one fact its own, of several the JSON array of them with no
+/// spaces. It fails only for want of memory.
+pub fn encode_batch(alloc: Global, facts: &[Fact]) -> Result<Vec<u8>, AllocError>
+    ensures text { IfOk result (λ bytes. bytes.items ≡ batch_text facts.now) }
+{
+    if facts.len() == 1 {
+        return encode_fact(alloc, &facts[0]);
+    }
+    let mut out = Writer::new(Vec::with_capacity(alloc, room_for_facts(facts))?);
+    put_facts(alloc, &mut out, facts)?;
+    Ok(out.into_inner())
+}
+
+fn each_fact(alloc: Global, elements: &[Value]) -> Result<Vec<Fact>, FieldFault>
+    ensures { reading.Gives (λ found. found.items) result (reading.each decoding.fact (items_view elements.now)) }
+{
+    let mut facts = Vec::with_capacity(alloc, elements.len())?;
+    for element in elements {
+        facts.push(fact(alloc, element)?)?;
+    }
+    Ok(facts)
+}
+
+fn facts_of(alloc: Global, elements: &[Value]) -> Result<Vec<Fact>, FactFault>
+    ensures { GivesFacts (λ found. found.items) result (of_elements (items_view elements.now)) }
+{
+    let facts = each_fact(alloc, elements)?;
+    if facts.len() < 2 || MOST_FACTS < facts.len() {
+        return Err(FactFault::NotAFact);
+    }
+    Ok(facts)
+}
+
+fn one_fact(alloc: Global, value: &Value) -> Result<Vec<Fact>, FieldFault>
+    ensures { reading.Gives (λ found. found.items) result (one_fact (view value.now)) }
+{
+    let mut facts = Vec::with_capacity(alloc, 1)?;
+    facts.push(fact(alloc, value)?)?;
+    Ok(facts)
+}
+
+fn batch_of_value(alloc: Global, value: &Value) -> Result<Vec<Fact>, FactFault>
+    ensures { GivesFacts (λ found. found.items) result (batch_of_value (view value.now)) }
+{
+    match value {
+        Value::Array(elements) => facts_of(alloc, elements.as_slice()),
+        _ => Ok(one_fact(alloc, value)?),
+    }
+}
+
+/// The facts that the bytes are: one, or the elements of an array of 2 to 64 facts. `NotAFact` where
+/// they are neither, and `OutOfMemory` where memory runs out.
+#[tactic(auto, unfolding(crate::specs::Batch::batch_of))]
+pub fn decode_batch(alloc: Global, bytes: &[u8]) -> Result<Vec<Fact>, FactFault>
+    ensures exact { GivesFacts (λ found. found.items) result (batch_of bytes.now) }
+{
+    let Some(value) = json(alloc, bytes)? else {
+        return Err(FactFault::NotAFact);
+    };
+    batch_of_value(alloc, &value)
+}
