@@ -1,9 +1,11 @@
 //! Books of facts: their databases, what they hold, and the desk that is replayed from one.
 
+mod batches;
 mod desks;
 mod opened;
 mod rows;
 
+use crate::books::batches::fitting_text;
 use crate::books::opened::Opened;
 use gi_calls::{Fault, Subject, Words};
 use gi_store::StoreFault;
@@ -79,7 +81,7 @@ impl Books {
         done(fs::remove_dir_all(rt, name))
     }
 
-    /// Makes a call on databases and the folders of their files. `false` where it is none.
+    /// Makes a call on databases, the folders of their files, or facts alone. `false` where it is none.
     fn is_placed(
         &mut self,
         rt: &HostRuntime,
@@ -90,6 +92,10 @@ impl Books {
         match words.next() {
             "open_in_memory" => text.push_str(self.take_memory(rt)?)?,
             "open_file" => self.take_file(rt, words.rest(), text)?,
+            "fitting" => match fitting_text(rt.alloc(), words.rest())? {
+                Some(count) => text.push_str(count.as_str())?,
+                None => return Ok(false),
+            },
             "folder" => text.push_str(self.make_folder(rt, words.rest()))?,
             "remove_folder" => text.push_str(self.remove_folder(rt, words.rest()))?,
             _ => return Ok(false),

@@ -1,5 +1,5 @@
 -- What the transaction does that makes a book.
-use Rattle.std.proofs.Common.{◌≡◌, ℕ, List, [], Ok, true, sym, subst, IsTrue, arith}
+use Rattle.std.proofs.Common.{◌≡◌, ℕ, [], Ok, true, sym, subst, IsTrue, arith}
 use Rattle.sqlite.specs.State.{ExecutesInside, HasCleanDisk, Survives}
 use Rattle.sqlite.specs.Held.{Held, state}
 use Rattle.sqlite.proofs.StateLemmas.{survives_then}

@@ -6,3 +6,4 @@ pub mod FirstBook
 pub mod Readings
 pub mod Walk
 pub mod Numbering
+pub mod Fronts

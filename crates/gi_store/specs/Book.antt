@@ -1,25 +1,26 @@
 -- What contracts see of a book, and what is always true of it.
-use Rattle.std.specs.Prelude.{◌≡◌, ◌≢◌, ◌⊎◌, ℕ, ◌+◌, ◌<◌, ◌==◌, nat_lt, if◌then◌else◌, pos, List, [], ◌∷◌, ◌++◌, length, ⊤, Option, Some, None, Result, Err, IfSome, IfErr, MatchBool, MatchOption, IsTrue, IsPermutation, refl}
+use Rattle.std.specs.Prelude.{◌≡◌, ◌≢◌, ◌⊎◌, ℕ, ◌+◌, ◌<◌, ◌==◌, nat_lt, if◌then◌else◌, List, [], ◌∷◌, ◌++◌, length, ⊤, Option, Some, None, Result, Err, IfSome, IfErr, MatchBool, MatchOption, IsTrue, refl}
 use Rattle.std.specs.Coded.{Coded, code_by, coded×, coded_ℕ, coded_option}
-use Rattle.sqlite_value.specs.declared.value.Value.TheVariants.{Int}
-use Rattle.sqlite_value.specs.Order.{Row, column}
+use Rattle.sqlite_value.specs.Order.{Row}
 use Rattle.sqlite_trees.specs.Tree.{Trees}
 use Rattle.sqlite_schema.specs.declared.schema.Schema.{Schema}
 use Rattle.sqlite_rules.specs.Edit.{IsNoIndex}
 use Rattle.sqlite.specs.State.{State}
 use Rattle.sqlite.specs.Held.{Held, held_code}
 use Rattle.gi_facts.specs.declared.fact.Fact.{Fact}
+use Rattle.gi_facts.specs.Batch.{batch_text}
 use Rattle.gi_facts.specs.Writing.{fact_text}
 use Rattle.gi_store.specs.declared.store_fault.StoreFault.{StoreFault}
-use Rattle.gi_store.specs.declared.store_fault.StoreFault.TheVariants.{Version, Gap, Damaged, NotLoaded, NotNext, Store, OutOfMemory}
+use Rattle.gi_store.specs.declared.store_fault.StoreFault.TheVariants.{Version, Gap, Damaged, BatchSize, NotLoaded, NotNext, Store, OutOfMemory}
 use Rattle.gi_store.specs.FaultText.{IsFailure}
 use Rattle.gi_store.specs.Tables.{HasTables, facts_tree}
 use Rattle.gi_store.specs.Rows.{fact_rows, facts_in, row_of}
 use Rattle.gi_store.specs.Order.{ArePutInOrder}
 use Rattle.gi_store.specs.Facts.{AreFacts, StopsIn}
+use Rattle.gi_store.specs.Batches.{is_batch}
 use Rattle.gi_store.specs.Keeping.{IsFirstBook, IsIdle}
 
--- the connection, and how many rows are known since the last `load`
+-- the connection, and how many facts are known since the last `load`
 pub record BookState (S : Type 0) : Type 0 where
   pub connection : Held S
   pub loaded : Option ℕ
@@ -27,30 +28,20 @@ pub record BookState (S : Type 0) : Type 0 where
 abbrev pub book_code : {S : Type 0} → Coded S → Coded (BookState S)
 book_code {S} store = code_by (Held S × Option ℕ) (coded× (held_code store) (coded_option coded_ℕ)) (λ b. (b.connection, b.loaded)) (λ p. record { connection = p.0; loaded = p.1 }) (λ _. refl)
 
--- the rows have the numbers from this one on
-abbrev pub AreNumberedFrom : ℕ → List Row → Type 0
-AreNumberedFrom n [] = ⊤
-AreNumberedFrom n (row ∷ rows) = (column row 0 ≡ Int (pos n)) × AreNumberedFrom (n + 1) rows
-
--- the rows' numbers are 1 to k
-pub record AreNumbered (rows : List Row) (k : ℕ) : Type 0 where
-  pub ordered : List Row
-  pub same : IsPermutation rows ordered
-  pub each : AreNumberedFrom 1 ordered
-  pub count : length ordered ≡ k
-
--- the connection is open at a book whose rows are 1 to k
+-- the connection is open at a book whose rows cover the numbers 1 to k with facts
 pub record IsKnown (s : State) (k : ℕ) : Type 0 where
   pub is_open : IsTrue s.is_open
   pub tables : HasTables s.now.schema
-  pub numbered : AreNumbered (facts_in s.now) k
+  pub facts : List Fact
+  pub rows : AreFacts (facts_in s.now) facts
+  pub count : length facts ≡ k
 
 -- A book between its calls: nothing waits to be committed, and where it is loaded, its rows are known.
 pub record IsKept (s : State) (loaded : Option ℕ) : Type 0 where
   pub idle : IsIdle s
   pub known : IfSome loaded (IsKnown s)
 
--- A book counts its rows up to 4,294,967,294, so that the number that comes next is always a u32. With more it counts as not loaded.
+-- A book counts its facts up to 4,294,967,294, so that the number that comes next is always a u32. With more it counts as not loaded.
 abbrev pub counted : ℕ → Option ℕ
 counted n = if nat_lt n 4294967295 then Some n else None
 
@@ -65,7 +56,7 @@ pub record IsRead (s : State) (facts : List Fact) : Type 0 where
   pub book : IsFirstBook s.now
   pub rows : AreFacts (facts_in s.now) facts
 
--- A book of version 1 whose rows, in the order of their numbers, are facts from 1 on up to one of them, which is refused.
+-- A book of version 1 whose rows, in the order of their numbers, cover the numbers from 1 on with facts up to one of them, which is refused.
 pub record Stops (s : State) (fault : StoreFault) : Type 0 where
   pub book : IsFirstBook s.now
   pub ordered : List Row
@@ -103,10 +94,36 @@ SavesOrLeaves n fact old new = (db : Trees) → new.may_leave db → old.may_lea
 abbrev pub SavesOrNot : ℕ → Fact → Option ℕ → State → State → Type 0
 SavesOrNot n fact loaded old new = IfSome loaded (λ _. (db : Trees) → new.may_leave db → (db ≡ old.now.trees) ⊎ AddsFact old.now.schema n fact old.now.trees db)
 
--- the answer where so many rows are known: another number is refused, and the next one may fail
+-- the answer where so many facts are known: another number is refused, and the next one may fail
 abbrev pub AnswersNext : ℕ → ℕ → Result (Unit {0}) StoreFault → Type 0
 AnswersNext n k result = MatchBool (n == k + 1) (IfErr result IsFailure) (result ≡ Err (NotNext (k + 1)))
 
 -- the answer to `save_next n`, in the order of its refusals
 abbrev pub AnswersSave : ℕ → Option ℕ → Result (Unit {0}) StoreFault → Type 0
 AnswersSave n loaded result = MatchOption loaded (result ≡ Err NotLoaded) (λ k. AnswersNext n k result)
+
+-- ---- save_batch
+
+-- the row of the facts comes after the others, and all else but the indexes stays
+abbrev pub AddsFacts : Schema → ℕ → List Fact → Trees → Trees → Type 0
+AddsFacts schema n facts old new = (fact_rows schema new ≡ fact_rows schema old ++ row_of n (batch_text facts) ∷ []) × ((t : ℕ) → t ≢ facts_tree schema → IsNoIndex schema t → new t ≡ old t)
+
+-- the row of the facts is there, and each crash from now on leaves it
+pub record AreSaved (n : ℕ) (facts : List Fact) (old new : State) : Type 0 where
+  pub is_open : IsTrue new.is_open
+  pub tables : HasTables new.now.schema
+  pub schema : new.now.schema ≡ old.now.schema
+  pub rows : AddsFacts old.now.schema n facts old.now.trees new.now.trees
+  pub durable : (db : Trees) → new.may_leave db → db ≡ new.now.trees
+
+-- a crash leaves what it could leave before, or that with the row of the facts
+abbrev pub SavesAllOrLeaves : ℕ → List Fact → State → State → Type 0
+SavesAllOrLeaves n facts old new = (db : Trees) → new.may_leave db → old.may_leave db ⊎ AddsFacts old.now.schema n facts old.now.trees db
+
+-- Where facts are known, a crash leaves the rows as they were, or those with the row of the facts.
+abbrev pub SavesAllOrNone : ℕ → List Fact → Option ℕ → State → State → Type 0
+SavesAllOrNone n facts loaded old new = IfSome loaded (λ _. (db : Trees) → new.may_leave db → (db ≡ old.now.trees) ⊎ AddsFacts old.now.schema n facts old.now.trees db)
+
+-- the answer to `save_batch n`, in the order of its refusals
+abbrev pub AnswersBatch : ℕ → List Fact → Option ℕ → Result (Unit {0}) StoreFault → Type 0
+AnswersBatch n facts loaded result = MatchBool (is_batch facts) (AnswersSave n loaded result) (result ≡ Err BatchSize)

@@ -3,26 +3,24 @@ use Rattle.std.specs.Prelude.{◌≡◌, ◌⊎◌, ℕ, ◌+◌, ℤ, pos, ◌<
 use Rattle.sqlite_value.specs.declared.value.Value.TheVariants.{Int, Text as Words}
 use Rattle.sqlite_value.specs.Order.{Row, column}
 use Rattle.gi_facts.specs.declared.fact.Fact.{Fact}
-use Rattle.gi_facts.specs.Decoding.{fact_of}
+use Rattle.gi_facts.specs.Batch.{batch_of}
 use Rattle.gi_store.specs.declared.store_fault.StoreFault.{StoreFault}
 use Rattle.gi_store.specs.declared.store_fault.StoreFault.TheVariants.{Gap, Damaged, Store, OutOfMemory}
 
--- the row's body is a text that is this fact
-abbrev pub HasBody : Row → Fact → Type 0
-HasBody row fact = (text : List ℕ) × (column row 1 ≡ Words text) × (fact_of text ≡ Some fact)
+-- the row's body is a text that is these facts: one, or an array of 2 to 64
+abbrev pub HasBody : Row → List Fact → Type 0
+HasBody row facts = (text : List ℕ) × (column row 1 ≡ Words text) × (batch_of text ≡ Some facts)
 
--- the row with this number is this fact
-abbrev pub IsFactRow : ℕ → Row → Fact → Type 0
-IsFactRow n row fact = (column row 0 ≡ Int (pos n)) × HasBody row fact
+-- The row has this number, and covers it and those after it with these facts, a number each.
+abbrev pub Covers : ℕ → Row → List Fact → Type 0
+Covers n row facts = (column row 0 ≡ Int (pos n)) × HasBody row facts
 
--- the rows have the numbers from this one on, each is the fact at its place, and there are no more facts
+-- the rows cover the numbers from this one on with these facts, each row from the number that the one before leaves
 abbrev pub AreFactsFrom : ℕ → List Row → List Fact → Type 0
-AreFactsFrom n [] [] = ⊤
-AreFactsFrom n [] (fact ∷ facts) = ⊥
-AreFactsFrom n (row ∷ rows) [] = ⊥
-AreFactsFrom n (row ∷ rows) (fact ∷ facts) = IsFactRow n row fact × AreFactsFrom (n + 1) rows facts
+AreFactsFrom n [] facts = facts ≡ []
+AreFactsFrom n (row ∷ rows) facts = (batch : List Fact) × (rest : List Fact) × (facts ≡ batch ++ rest) × Covers n row batch × AreFactsFrom (n + length batch) rows rest
 
--- in the order of their numbers the rows are 1 to k, with none beside, and each is the fact at its place
+-- in the order of their numbers the rows cover the numbers from 1 on with these facts, and none is beside
 pub record AreFacts (rows : List Row) (facts : List Fact) : Type 0 where
   pub ordered : List Row
   pub same : IsPermutation rows ordered
@@ -32,13 +30,13 @@ pub record AreFacts (rows : List Row) (facts : List Fact) : Type 0 where
 abbrev pub IsAbove : ℕ → Row → Type 0
 IsAbove n row = (m : ℤ) × (column row 0 ≡ Int m) × (pos n <ℤ m)
 
--- the row with this number is no fact, or the number is below 1, where n comes next
+-- the row's number is below n, which comes next, or it is n and the body is neither a fact nor an array of 2 to 64 facts
 abbrev pub IsDamaged : ℕ → Row → ℤ → Type 0
-IsDamaged n row m = (column row 0 ≡ Int m) × ((m <ℤ pos 1) ⊎ ((m ≡ pos n) × ((fact : Fact) → ¬ HasBody row fact)))
+IsDamaged n row m = (column row 0 ≡ Int m) × ((m <ℤ pos n) ⊎ ((m ≡ pos n) × ((facts : List Fact) → ¬ HasBody row facts)))
 
 -- what the body of the row with this number is refused for
 abbrev pub IsBodyFault : Row → ℤ → StoreFault → Type 0
-IsBodyFault row number (Damaged m) = (m ≡ number) × ((fact : Fact) → ¬ HasBody row fact)
+IsBodyFault row number (Damaged m) = (m ≡ number) × ((facts : List Fact) → ¬ HasBody row facts)
 IsBodyFault row number Store = ⊤
 IsBodyFault row number OutOfMemory = ⊤
 IsBodyFault row number _ = ⊥
@@ -51,7 +49,7 @@ IsRowFault n row Store = ⊤
 IsRowFault n row OutOfMemory = ⊤
 IsRowFault n row _ = ⊥
 
--- The rows before one of these are the facts from 1 on, and that one is refused.
+-- The rows before one of these cover the numbers from 1 on with facts, and that one is refused.
 pub record StopsIn (rows : List Row) (fault : StoreFault) : Type 0 where
   pub before : List Row
   pub row : Row
@@ -59,7 +57,7 @@ pub record StopsIn (rows : List Row) (fault : StoreFault) : Type 0 where
   pub facts : List Fact
   pub is : rows ≡ before ++ row ∷ after
   pub good : AreFactsFrom 1 before facts
-  pub refused : IsRowFault (length before + 1) row fault
+  pub refused : IsRowFault (length facts + 1) row fault
 
 -- why rows are not all facts: want of memory and the database's failures aside, it is told of one of them
 abbrev pub IsReadFault : List Row → StoreFault → Type 0

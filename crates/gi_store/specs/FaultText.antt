@@ -5,7 +5,7 @@ use Rattle.sqlite.specs.declared.error.ErrorCode.TheVariants as code
 use Rattle.sqlite.specs.declared.error.Error.{Error}
 use Rattle.sqlite.specs.declared.error.Error.TheVariants.{SqliteFailure}
 use Rattle.gi_store.specs.declared.store_fault.StoreFault.{StoreFault}
-use Rattle.gi_store.specs.declared.store_fault.StoreFault.TheVariants.{Version, Gap, Damaged, NotLoaded, NotNext, Store, OutOfMemory}
+use Rattle.gi_store.specs.declared.store_fault.StoreFault.TheVariants.{Version, Gap, Damaged, BatchSize, NotLoaded, NotNext, Store, OutOfMemory}
 
 -- want of memory is told apart
 abbrev pub fault_of : Error → StoreFault
@@ -24,6 +24,7 @@ abbrev pub fault_text : StoreFault → List ℕ
 fault_text Version = codes "Version"
 fault_text (Gap n) = codes "Gap " ++ decimal n
 fault_text (Damaged n) = codes "Damaged " ++ signed_decimal n
+fault_text BatchSize = codes "BatchSize"
 fault_text NotLoaded = codes "NotLoaded"
 fault_text (NotNext n) = codes "NotNext " ++ decimal n
 fault_text Store = codes "Store"

@@ -5,6 +5,7 @@ pub mod Order
 pub mod Facts
 pub mod Keeping
 pub mod FaultText
+pub mod Batches
 pub mod Opening
 pub mod Book
 pub mod Laws

@@ -1,6 +1,7 @@
-//! A book of facts, one row each.
+//! A book of facts, a row for each batch of them.
 
-ghost use Rattle.std.specs.Prelude.{◌≡◌, ◌≢◌, ◌⊎◌, ◌++◌, ◌∷◌, [], length, Err, None, IfOk, IfErr, OnOk, OnErr};
+ghost use Rattle.std.specs.Prelude.{◌≡◌, ◌≢◌, ◌⊎◌, ◌+◌, ◌-◌, ◌++◌, ◌∷◌, [], length, Err, None, IfOk, IfErr, OnOk, OnErr};
+ghost use Rattle.std.specs.List.{AllByRecursion};
 ghost use Rattle.gi_store.specs.Clean.{IsClean};
 ghost use Rattle.sqlite.specs.Held.{Held, state};
 ghost use Rattle.gi_facts.specs.Grammar.{IsWritable};
@@ -8,7 +9,7 @@ ghost use Rattle.gi_store.specs.Facts.{AreFacts};
 ghost use Rattle.gi_store.specs.Rows.{facts_in};
 ghost use Rattle.gi_store.specs.FaultText.{IsFailure, IsRefusal};
 ghost use Rattle.gi_store.specs.Opening.{IsOpenFault};
-ghost use Rattle.gi_store.specs.Book.{AnswersSave, IsLoadFault, IsRead, IsSaved, SavesOrLeaves, SavesOrNot, counted};
+ghost use Rattle.gi_store.specs.Book.{AnswersBatch, AnswersSave, AreSaved, IsLoadFault, IsRead, IsSaved, SavesAllOrLeaves, SavesAllOrNone, SavesOrLeaves, SavesOrNot, counted};
 ghost use Rattle.gi_store.specs.Keeping.{AddsNoOutcome, IsReady, Keeps, KeepsOrMakes, LeavesOrMakes};
 ghost use Rattle.gi_store.specs.declared.store_fault.StoreFault.TheVariants.{Store, OutOfMemory};
 
@@ -16,10 +17,11 @@ use crate::loading::read_book;
 use crate::preparing::prepare;
 use crate::statements::add_fact;
 use crate::store_fault::StoreFault;
-use gi_facts::{Fact, encode_fact};
+use gi_facts::{Fact, MOST_FACTS, encode_batch};
 use sqlite::{Alter, Connection};
 use std::alloc::Global;
 use std::marker::Model;
+use std::slice;
 
 /// A book of facts in a database, in memory or in a file. It is loaded before it is written.
 pub struct BookStore<S: Alter> {
@@ -52,11 +54,11 @@ impl<S: Alter> Model for BookStore<S> {
     ghost invariant = { λ b. IsCounted b.loaded × (IsClean S.Store b.connection → IsKept (state S.Store b.connection) b.loaded) };
 }
 
-fn counted(rows: usize) -> Option<u32>
-    ensures { result ≡ counted rows }
+fn counted(facts: usize) -> Option<u32>
+    ensures { result ≡ counted facts }
 {
-    if rows < u32::MAX as usize {
-        Some(rows as u32)
+    if facts < u32::MAX as usize {
+        Some(facts as u32)
     } else {
         None
     }
@@ -85,7 +87,7 @@ impl<S: Alter + Drop> BookStore<S> {
 }
 
 impl<S: Alter> BookStore<S> {
-    /// How many rows there are, known since the last `load`. `None` where the book is not loaded.
+    /// How many facts there are, known since the last `load`. `None` where the book is not loaded.
     pub fn count(&self) -> Option<u32>
         ensures { result ≡ self.now.loaded }
     {
@@ -93,14 +95,14 @@ impl<S: Alter> BookStore<S> {
     }
 
     /// The facts of the book, from the first on. `Version` where it is no book of version 1. Then
-    /// the first by number of `Gap(n)`, where there is no row n and one with a higher number, and
-    /// `Damaged(n)`, where row n is no fact or n is below 1. `Store` and `OutOfMemory` where the
-    /// database fails or memory runs out. No row is changed, and after a refusal the book is not
-    /// loaded.
+    /// the first by number of `Gap(n)`, where n comes next and the row has a higher number, and
+    /// `Damaged(n)`, where row n is below the number that comes next, or is neither a fact nor an
+    /// array of 2 to 64 facts. `Store` and `OutOfMemory` where the database fails or memory runs
+    /// out. No row is changed, and after a refusal the book is not loaded.
     pub fn load(&mut self) -> Result<Vec<Fact>, StoreFault>
         ensures early { IsClean S.Store self.new.connection → IsClean S.Store self.old.connection }
 
-        // On `Ok` the rows are these facts, from 1 on, and there are no others.
+        // On `Ok` the rows cover the numbers from 1 on with these facts, and there are no others.
         ensures facts { IsClean S.Store self.new.connection → IfOk result (λ facts. IsRead (state S.Store self.new.connection) facts.items) }
 
         // A refusal has its cause, and is the first by number.
@@ -147,7 +149,44 @@ impl<S: Alter> BookStore<S> {
         ensures loaded { OnOk result (self.new.loaded ≡ counted n) }
         ensures not_loaded { IfErr result (λ fault. IsFailure fault → self.new.loaded ≡ None) }
     {
-        let Some(known) = self.loaded else {
+        self.save_batch(n, slice::from_ref(fact))
+    }
+
+    /// Saves from 1 to 64 facts by one INSERT: as the row with this number, which has to be the one
+    /// that comes next, and which covers it and those after it. In this order `BatchSize`, where
+    /// there are no facts or more than 64, `NotLoaded`, where the book is not loaded, `NotNext`, where
+    /// another number comes next, and `Store` and `OutOfMemory`, where the database fails or memory
+    /// runs out: then the row may be there or not, and the book is not loaded.
+    pub fn save_batch(&mut self, n: u32, facts: &[Fact]) -> Result<(), StoreFault>
+        requires { AllByRecursion IsWritable facts.now }
+        ensures early { IsClean S.Store self.new.connection → IsClean S.Store self.old.connection }
+
+        // Which refusal it is.
+        ensures answer { AnswersBatch n facts.now self.old.loaded result }
+        ensures unchanged { IfErr result (λ fault. IsFailure fault ⊎ (self.new ≡ self.old)) }
+
+        // A crash at any moment leaves what it could leave before, or the rows with this one.
+        ensures crash { IsClean S.Store self.new.connection → SavesAllOrLeaves n facts.now (state S.Store self.old.connection) (state S.Store self.new.connection) }
+
+        // Where the book is loaded, that is the rows as they were, or those with this one.
+        ensures before { IsClean S.Store self.new.connection → SavesAllOrNone n facts.now self.old.loaded (state S.Store self.old.connection) (state S.Store self.new.connection) }
+
+        // On `Ok` the row is there, and each crash leaves it.
+        ensures saved { IsClean S.Store self.new.connection → OnOk result (AreSaved n facts.now (state S.Store self.old.connection) (state S.Store self.new.connection)) }
+
+        // The facts of the book go on by these, in their order.
+        ensures facts { IsClean S.Store self.new.connection → OnOk result ((had : _) → AreFacts (facts_in (state S.Store self.old.connection).now) had → AreFacts (facts_in (state S.Store self.new.connection).now) (had ++ facts.now)) }
+
+        // After a refusal the rows that can be read are as before.
+        ensures kept { IsClean S.Store self.new.connection → OnErr result (Keeps (state S.Store self.old.connection) (state S.Store self.new.connection)) }
+        ensures loaded { OnOk result (self.new.loaded ≡ counted (n + length facts.now - 1)) }
+        ensures not_loaded { IfErr result (λ fault. IsFailure fault → self.new.loaded ≡ None) }
+    {
+        let loaded = self.loaded;
+        if facts.is_empty() || MOST_FACTS < facts.len() {
+            return Err(StoreFault::BatchSize);
+        }
+        let Some(known) = loaded else {
             return Err(StoreFault::NotLoaded);
         };
         let expected = known + 1;
@@ -155,9 +194,9 @@ impl<S: Alter> BookStore<S> {
             return Err(StoreFault::NotNext { expected });
         }
         self.loaded = None;
-        let body = encode_fact(self.alloc, fact)?;
+        let body = encode_batch(self.alloc, facts)?;
         add_fact(&mut self.connection, n, body.as_slice())?;
-        self.loaded = counted(n as usize);
+        self.loaded = counted(known as usize + facts.len());
         Ok(())
     }
 }

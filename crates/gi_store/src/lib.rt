@@ -1,13 +1,14 @@
-//! The book of a desk: an operator's facts, one row each, in a database.
+//! The book of a desk: an operator's facts in a database, a row for each batch of 1 to 64.
 //!
 //! A [`BookStore`] is handed a connection, to memory or to a file, and makes the book's two tables
-//! where they are missing ([`prepare`]). It is loaded before it is written, and each fact is saved
-//! as the row that comes next:
+//! where they are missing ([`prepare`]). It is loaded before it is written, and facts are saved as
+//! the row that comes next, which covers its number and those after it, one for each fact:
 //!
 //! ```text
 //! let mut book = BookStore::open(alloc, Connection::open(rt, file)?)?;
 //! let facts = book.load()?;                  // all of them, or the first gap or damaged row
 //! book.save_next(n, &fact)?;                 // row n, for good once this is `Ok`
+//! book.save_batch(n + 1, &facts)?;           // up to 64 facts in one row, by one insert
 //! ```
 //!
 //! A crash at any moment of a save leaves the rows as before or with that one. After a refused save
@@ -16,6 +17,7 @@
 //! (`IsClean`); in memory it always holds ([`memory_is_clean`]).
 #![tactic(auto)]
 
+mod batches;
 mod book_store;
 mod laws;
 mod loading;
@@ -27,6 +29,7 @@ mod store_fault;
 mod tables;
 mod version;
 
+pub use batches::{MOST_BYTES, fitting};
 pub use book_store::BookStore;
 pub use laws::memory_is_clean;
 pub use preparing::prepare;

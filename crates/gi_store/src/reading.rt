@@ -1,12 +1,12 @@
 //! Rows are read as facts.
 
-ghost use Rattle.std.specs.Prelude.{◌≡◌, IfOk, IfErr, IfSome};
+ghost use Rattle.std.specs.Prelude.{◌≡◌, ◌≤◌, IfOk, IfErr, IfSome};
 ghost use Rattle.sqlite_value.specs.Order.{column};
 ghost use Rattle.sqlite_value.specs.declared.value.Value.TheVariants.{Int};
-ghost use Rattle.gi_store.specs.Facts.{AreFactsFrom, HasBody, IsBodyFault, IsFactRow, IsReadFault, IsRowFault};
+ghost use Rattle.gi_store.specs.Facts.{AreFactsFrom, Covers, HasBody, IsBodyFault, IsReadFault, IsRowFault};
 
 use crate::store_fault::StoreFault;
-use gi_facts::{Fact, FactFault, decode_fact};
+use gi_facts::{Fact, FactFault, decode_batch};
 use sqlite::Row;
 use sqlite::types::ValueRef;
 use std::alloc::Global;
@@ -22,13 +22,13 @@ fn number_of(row: &Row) -> Result<i64, StoreFault>
     }
 }
 
-fn body_of(alloc: Global, row: &Row, number: i64) -> Result<Fact, StoreFault>
-    ensures body { IfOk result (HasBody row.now) }
+fn body_of(alloc: Global, row: &Row, number: i64) -> Result<Vec<Fact>, StoreFault>
+    ensures body { IfOk result (λ facts. HasBody row.now facts.items) }
     ensures refused { IfErr result (IsBodyFault row.now number) }
 {
     match row.get_ref(1) {
-        Ok(ValueRef::Text(text)) => match decode_fact(alloc, text) {
-            Ok(fact) => Ok(fact),
+        Ok(ValueRef::Text(text)) => match decode_batch(alloc, text) {
+            Ok(facts) => Ok(facts),
             Err(FactFault::NotAFact) => Err(StoreFault::Damaged(number)),
             Err(FactFault::OutOfMemory) => Err(StoreFault::OutOfMemory),
         },
@@ -37,37 +37,32 @@ fn body_of(alloc: Global, row: &Row, number: i64) -> Result<Fact, StoreFault>
     }
 }
 
-/// The fact that a row is, where the number that comes next is this one. Two rows of a table never
-/// have one number, so a number that came before is the database's failure.
-fn read_row(alloc: Global, row: &Row, next: u64) -> Result<Fact, StoreFault>
-    ensures fact { IfOk result (IsFactRow next row.now) }
+/// The facts that a row covers its numbers with, where the number that comes next is this one.
+fn read_row(alloc: Global, row: &Row, next: u64) -> Result<Vec<Fact>, StoreFault>
+    requires { 1 ≤ next }
+    ensures facts { IfOk result (λ facts. Covers next row.now facts.items) }
     ensures refused { IfErr result (IsRowFault next row.now) }
 {
     let number = number_of(row)?;
-    if number < 1 {
+    if number < 1 || (number as u64) < next {
         return Err(StoreFault::Damaged(number));
     }
-    let place = number as u64;
-    if next < place {
+    if next < number as u64 {
         return Err(StoreFault::Gap(next));
-    }
-    if place < next {
-        return Err(StoreFault::Store);
     }
     body_of(alloc, row, number)
 }
 
-/// The facts that rows are, which come in the order of their numbers. The first fault by number.
+/// The facts of rows that come in the order of their numbers. The first fault by number.
 pub fn read_facts(alloc: Global, rows: &[Row]) -> Result<Vec<Fact>, StoreFault>
     ensures facts { IfOk result (λ facts. AreFactsFrom 1 rows.now facts.items) }
     ensures refused { IfErr result (IsReadFault rows.now) }
 {
     let mut facts = Vec::new(alloc);
-    let mut next = 1u64;
     for row in rows {
-        let fact = read_row(alloc, row, next)?;
-        facts.push(fact)?;
-        next += 1;
+        let next = facts.len() as u64 + 1;
+        let mut batch = read_row(alloc, row, next)?;
+        facts.append(&mut batch)?;
     }
     Ok(facts)
 }

@@ -10,10 +10,13 @@ use std::fmt;
 pub enum StoreFault {
     /// The database is no book of version 1.
     Version,
-    /// No row has this number, and one has a higher number.
+    /// This number comes next, and the next row has a higher one.
     Gap(u64),
-    /// The row with this number is no fact, or its number is below 1.
+    /// The row with this number is neither a fact nor an array of 2 to 64 facts, or its number is
+    /// below the one that comes next.
     Damaged(i64),
+    /// There were no facts, or more than 64.
+    BatchSize,
     /// The book was not loaded, or a load was refused, the database failed or memory ran out since.
     NotLoaded,
     /// The fact that comes next has another number, this one.
@@ -67,6 +70,7 @@ impl fmt::Display for StoreFault {
             StoreFault::Version => f.write_str("Version"),
             StoreFault::Gap(n) => write!(f, "Gap {n}"),
             StoreFault::Damaged(n) => write!(f, "Damaged {n}"),
+            StoreFault::BatchSize => f.write_str("BatchSize"),
             StoreFault::NotLoaded => f.write_str("NotLoaded"),
             StoreFault::NotNext { expected } => write!(f, "NotNext {expected}"),
             StoreFault::Store => f.write_str("Store"),

@@ -1,12 +1,10 @@
-ghost use Rattle.std.specs.Prelude.{IfOk};
-ghost use Rattle.gi_facts.specs.Grammar.{IsWritable};
-
+use crate::books::batches::{fact_of, facts_of};
 use crate::books::desks;
 use crate::books::rows::row_text;
 use gi_calls::{Fault, Words};
 use gi_day::Calendar;
 use gi_desk::{Call, Desk};
-use gi_facts::{Fact, FactFault, decode_fact, encode_fact};
+use gi_facts::{Fact, encode_fact};
 use gi_initiator::Initiating;
 use gi_pairs::Code;
 use gi_store::{BookStore, StoreFault, prepare};
@@ -28,13 +26,6 @@ impl<S: Alter + Drop> Drop for Opened<S> {
             desk: _,
         } = self;
     }
-}
-
-/// The fact that a text is.
-fn fact_of(alloc: Global, text: &str) -> Result<Fact, FactFault>
-    ensures { IfOk result IsWritable }
-{
-    decode_fact(alloc, text.as_bytes())
 }
 
 /// What a call without a result answers.
@@ -149,7 +140,19 @@ impl<S: Alter> Opened<S> {
         Ok(Some(printed(alloc, book.save_next(n, &fact))?))
     }
 
-    /// How many rows are known.
+    /// Saves facts by one insert, the first under this number.
+    fn save_batch(&mut self, alloc: Global, n: u32, facts: &str) -> Result<Option<String>, Fault> {
+        let Some(book) = &mut self.book else {
+            return Ok(None);
+        };
+        let facts = match facts_of(alloc, facts) {
+            Ok(facts) => facts,
+            Err(fault) => return Ok(Some(format!(in alloc; "{fault}")?)),
+        };
+        Ok(Some(printed(alloc, book.save_batch(n, facts.as_slice()))?))
+    }
+
+    /// How many facts are known.
     fn count(&self, alloc: Global) -> Result<Option<String>, Fault> {
         let Some(book) = &self.book else {
             return Ok(None);
@@ -218,6 +221,10 @@ impl<S: Alter> Opened<S> {
             "load" => self.load(alloc),
             "save_next" => match words.number() {
                 Some(n) => self.save_next(alloc, n, words.rest()),
+                None => Ok(None),
+            },
+            "save_batch" => match words.number() {
+                Some(n) => self.save_batch(alloc, n, words.rest()),
                 None => Ok(None),
             },
             "count" => self.count(alloc),

@@ -1,6 +1,6 @@
-use Rattle.std.proofs.Common.{◌≡◌, ◌+◌, take}
+use Rattle.std.proofs.Common.{take}
 use Rattle.gi_store.specs.Facts.{AreFactsFrom}
 use Rattle.gi_store.proofs.reading.read_facts.Given as goal
 
 abbrev pub invariant-loop-row : goal.invariant-loop-row
-invariant-loop-row l = record { good : AreFactsFrom 1 (take l.row-index l.rows) l.facts.items; count : l.next ≡ l.row-index + 1 }
+invariant-loop-row l = AreFactsFrom 1 (take l.row-index l.rows) l.facts.items

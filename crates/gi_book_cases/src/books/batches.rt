@@ -1,0 +1,67 @@
+//! Facts as they are written in cases, with a space between two.
+//!
+//! `(63* FACT)` stands for 63 times ` FACT`.
+
+ghost use Rattle.std.specs.Prelude.{IfOk};
+ghost use Rattle.std.specs.List.{AllByRecursion};
+ghost use Rattle.gi_facts.specs.Grammar.{IsWritable};
+
+use gi_calls::Fault;
+use gi_facts::{Fact, FactFault, MOST_FACTS, decode_fact};
+use gi_store::fitting;
+use std::alloc::{AllocError, Global};
+
+/// How often the text has what, and what stands behind it. `None` where it has no copies.
+fn copies(text: &str) -> Option<(u16, &str, &str)> {
+    let (copies, after) = text.split_once(')')?;
+    let (count, what) = copies.split_once('*')?;
+    Some((count.parse::<u16>().ok()?, what, after))
+}
+
+/// The text with all of its copies.
+fn with_copies(alloc: Global, text: &str) -> Result<String, AllocError> {
+    let mut full = String::new(alloc);
+    for piece in text.split('(') {
+        match copies(piece) {
+            Some((count, what, after)) => {
+                full.push_str(what.repeat(alloc, usize::from(count))?.as_str())?;
+                full.push_str(after)?;
+            }
+            None => full.push_str(piece)?,
+        }
+    }
+    Ok(full)
+}
+
+/// The fact that a text is.
+pub(crate) fn fact_of(alloc: Global, text: &str) -> Result<Fact, FactFault>
+    ensures { IfOk result IsWritable }
+{
+    decode_fact(alloc, text.as_bytes())
+}
+
+/// The facts that the words of a text are.
+pub(crate) fn facts_of(alloc: Global, text: &str) -> Result<Vec<Fact>, FactFault>
+    ensures { IfOk result (λ facts. AllByRecursion IsWritable facts.items) }
+{
+    let text = with_copies(alloc, text)?;
+    let mut facts = Vec::new(alloc);
+    for word in text.split_ascii_whitespace() {
+        let fact = fact_of(alloc, word)?;
+        facts.push(fact).map_err(AllocError::from)?;
+    }
+    Ok(facts)
+}
+
+/// How many of the facts, from the first on, fit one row. `None` where there are none, or more than
+/// 64.
+pub(crate) fn fitting_text(alloc: Global, text: &str) -> Result<Option<String>, Fault> {
+    let Ok(facts) = facts_of(alloc, text) else {
+        return Ok(None);
+    };
+    if facts.is_empty() || MOST_FACTS < facts.len() {
+        return Ok(None);
+    }
+    let count = fitting(alloc, facts.as_slice())?;
+    Ok(Some(format!(in alloc; "{count}")?))
+}

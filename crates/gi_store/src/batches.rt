@@ -1,0 +1,27 @@
+//! How many facts one row takes.
+
+ghost use Rattle.std.specs.Prelude.{IfOk, IsTrue};
+ghost use Rattle.gi_store.specs.Batches.{IsLongestFront, is_batch};
+
+use gi_facts::{Fact, encode_fact};
+use std::alloc::{AllocError, Global};
+
+/// The longest body that the facts of one row have where they are several, in bytes.
+pub const MOST_BYTES: usize = 1_048_576;
+
+/// How many of the facts, from the first on, fit one row: as many as have a body of at most
+/// 1,048,576 bytes together, or else one. It fails only for want of memory.
+pub fn fitting(alloc: Global, facts: &[Fact]) -> Result<usize, AllocError>
+    requires { IsTrue (is_batch facts.now) }
+    ensures { IfOk result (IsLongestFront facts.now) }
+{
+    let mut left = MOST_BYTES - 1;
+    for (before, fact) in facts.iter().enumerate() {
+        let text = encode_fact(alloc, fact)?;
+        if left <= text.len() {
+            return Ok(before.max(1));
+        }
+        left -= text.len() + 1;
+    }
+    Ok(facts.len())
+}
