@@ -1,13 +1,16 @@
 -- What `match` answers: the lesser rule, from bytes to bytes.
-use Rattle.std.specs.Prelude.{◌≡◌, ◌<◌, ◌≤◌, ℕ, List, [], ◌∷◌, ◌++◌, length, Option, Err}
+use Rattle.std.specs.Prelude.{◌≡◌, ◌⊎◌, ◌<◌, ◌≤◌, ℕ, List, [], ◌∷◌, ◌++◌, length, Option, Result, Err, IfOk, IfErr}
 use Rattle.std.specs.Io.KnownBytes.{Appends}
 use Rattle.gi_messages.specs.Decoding.{decoded}
 use Rattle.gi_messages.specs.Grammar.{Spells}
+use Rattle.gi_messages.specs.Limits.{most_bytes}
 use Rattle.gi_messages.specs.Writing.{text_of}
 use Rattle.gi_messages.specs.declared.message.Message.{Message}
 use Rattle.gi_messages.specs.declared.message.Message.TheVariants as message
 use Rattle.gi_messages.specs.declared.message.Delord.{Delord}
 use Rattle.gi_messages.specs.declared.message.Delres.{Delres}
+use Rattle.gi_messages.specs.declared.message_fault.MessageFault.TheVariants.{TooLarge}
+use Rattle.gi_pairs.specs.Limits.{most_processed_rows}
 use Rattle.gi_pairs.specs.Table.{TableContents}
 use Rattle.gi_lesser.specs.Lesser.{HasShapeOf, IsLesser, lesser_of}
 use Rattle.gi_commands.specs.Lines.{HasLines, HasNoLines}
@@ -66,6 +69,18 @@ IsLineFault line bytes (fault.Message at why) = (at ≡ line) × (decoded bytes 
 IsLineFault line bytes (fault.WrongKind at) = (at ≡ line) × SpellsOther bytes
 IsLineFault line bytes fault.OutOfMemory = Unit {0}
 IsLineFault line bytes _ = ⊥
+
+-- what is read on a line: the DELORD that it spells, which has no more rows than a processed table may have, or why it spells none
+pub record IsTableOn (line : Line) (bytes : List ℕ) (result : Result Delord Fault) : Type 0 where
+  pub spelled : IfOk result (λ table. Spells bytes (message.Delord table))
+  pub few_rows : IfOk result (λ table. length table.processed.rows ≤ most_processed_rows)
+  pub refused : IfErr result (IsLineFault line bytes)
+  pub too_large : most_bytes < length bytes → result ≡ Err (fault.Message line TooLarge)
+
+-- the fault of two lines: the first one's, or where that spells a DELORD the second one's
+abbrev pub IsFirstLineFault : List ℕ → List ℕ → Fault → Type 0
+IsFirstLineFault first second why =
+    IsLineFault Order first why ⊎ (((order : Delord) × Spells first (message.Delord order)) × IsLineFault Own second why)
 
 -- of two lines, the first is refused so, or the second is and the first spells a DELORD
 abbrev pub IsRefusedAt : Line → List ℕ → Fault → Type 0

@@ -32,7 +32,6 @@ fn line_text(
     format!(in alloc; "cycle {cycle} start {date}T{hour}:{minute}Z first {first}\n")
 }
 
-/// A part of a time of day, which is never negative.
 fn part(number: i8) -> u8
     requires { pos 0 ≤ℤ number }
     ensures { pos result ≡ number }

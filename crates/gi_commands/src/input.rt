@@ -33,8 +33,6 @@ impl Calls {
     }
 }
 
-/// Calls the reader once, and notes the call: how many bytes it gave, or none where it was
-/// interrupted.
 fn read_chunk<R: Read>(
     input: &mut R,
     chunk: &mut [u8],

@@ -4,7 +4,7 @@ ghost use Rattle.gi_messages.specs.declared.message.Message.TheVariants as messa
 ghost use Rattle.gi_messages.specs.Limits.{most_bytes};
 ghost use Rattle.gi_pairs.specs.Limits.{most_processed_rows};
 ghost use Rattle.gi_commands.specs.Lines.{HasLines, HasNoLines};
-ghost use Rattle.gi_commands.specs.Match.{IsAnswer, IsRefused, IsLineFault, SameShape};
+ghost use Rattle.gi_commands.specs.Match.{IsAnswer, IsFirstLineFault, IsLineFault, IsRefused, IsTableOn, SameShape};
 
 use crate::fault::{Fault, Line};
 use crate::lines::{LINE_FEED, two_lines};
@@ -12,6 +12,7 @@ use gi_lesser::lesser_parallel;
 use gi_messages::{Delord, Delres, Message, MessageFault, decode, encode};
 use gi_pairs::Table;
 use std::alloc::Global;
+use std::thread;
 use std::thread::Threads;
 
 fn table_on(alloc: Global, line: Line, bytes: &[u8]) -> Result<Delord, Fault>
@@ -29,6 +30,52 @@ fn table_on(alloc: Global, line: Line, bytes: &[u8]) -> Result<Delord, Fault>
         Ok(Message::Delres(_)) => Err(Fault::WrongKind(line)),
         Err(MessageFault::OutOfMemory) => Err(Fault::OutOfMemory),
         Err(fault) => Err(Fault::Message(line, fault)),
+    }
+}
+
+/// What is read on both lines, at the same time.
+fn both_read(
+    rt: &(impl Threads + Sync),
+    alloc: Global,
+    order: &[u8],
+    own: &[u8],
+) -> (Result<Delord, Fault>, Result<Delord, Fault>)
+    ensures order { IsTableOn Line.Order order.now result.0 }
+    ensures own { IsTableOn Line.Own own.now result.1 }
+{
+    thread::join(
+        rt,
+        move || -> Result<Delord, Fault>
+            ensures { IsTableOn Line.Order order.entry.now result }
+        { table_on(alloc, Line::Order, order) },
+        move || -> Result<Delord, Fault>
+            ensures { IsTableOn Line.Own own.entry.now result }
+        { table_on(alloc, Line::Own, own) },
+    )
+}
+
+/// The tables on both lines.
+fn tables_on(
+    rt: &(impl Threads + Sync),
+    alloc: Global,
+    order: &[u8],
+    own: &[u8],
+) -> Result<(Delord, Delord), Fault>
+    ensures order { IfOk result (λ tables. Spells order.now (message.Delord tables.0)) }
+    ensures own { IfOk result (λ tables. Spells own.now (message.Delord tables.1)) }
+    ensures few_rows { IfOk result (λ tables. length tables.0.processed.rows ≤ most_processed_rows) }
+    ensures few_own_rows { IfOk result (λ tables. length tables.1.processed.rows ≤ most_processed_rows) }
+    ensures refused { IfErr result (IsFirstLineFault order.now own.now) }
+    ensures too_large { most_bytes < length order.now
+        → result ≡ Err (Fault.Message Line.Order MessageFault.TooLarge) }
+{
+    let (order, own) = both_read(rt, alloc, order, own);
+    match order {
+        Ok(order) => match own {
+            Ok(own) => Ok((order, own)),
+            Err(fault) => Err(fault),
+        },
+        Err(fault) => Err(fault),
     }
 }
 
@@ -54,8 +101,7 @@ pub fn answer(rt: &(impl Threads + Sync), alloc: Global, input: &[u8]) -> Result
         → result ≡ Err (Fault.Message Line.Order MessageFault.TooLarge) }
 {
     let (order_line, own_line) = two_lines(input)?;
-    let order = table_on(alloc, Line::Order, order_line)?;
-    let own = table_on(alloc, Line::Own, own_line)?;
+    let (order, own) = tables_on(rt, alloc, order_line, own_line)?;
     if !same_shape(&order, &own) {
         return Err(Fault::ShapeDiffers);
     }
