@@ -2,6 +2,8 @@ mod Breaking
 mod Kept
 mod Later
 mod Marking
+mod MarkingAll
+mod NextFacts
 mod Noting
 mod Points
 mod Reconciled
@@ -10,3 +12,4 @@ mod Sames
 mod Sent
 mod Sessions
 mod Standing
+mod Turns

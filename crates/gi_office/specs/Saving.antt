@@ -1,20 +1,23 @@
--- A turn that saves a fact: what it looks at, what it does to the book, and what its seat notes.
-use Rattle.std.specs.Prelude.{◌≡◌, ◌≢◌, ◌↔◌, ◌⊎◌, ℕ, ◌+◌, ◌-◌, List, length, Option, None, Some, if◌then◌else◌, Result, Ok, Err, IsTrue, Contains}
+-- Turns that save facts: what a turn looks at, what it does to the book, and what its seat notes.
+use Rattle.std.specs.Prelude.{◌≡◌, ◌↔◌, ◌⊎◌, ◌≤◌, ℕ, ◌+◌, ◌-◌, ◌^◌, nat_le, Bool, true, false, List, [], ◌∷◌, ◌++◌, length, take, drop, slice_get, Option, None, Some, if◌then◌else◌, Result, Ok, Err, IsTrue, Contains}
+use Rattle.std.specs.List.{AllByRecursion}
 use Rattle.sqlite_value.specs.Order.{Row}
 use Rattle.sqlite_trees.specs.declared.store.Store.{Ghosts}
 use Rattle.sqlite.specs.State.{State}
 use Rattle.sqlite.specs.Held.{state}
 use Rattle.gi_pairs.specs.declared.side.Side.{Side}
+use Rattle.gi_facts.specs.Batch.{most_facts}
 use Rattle.gi_facts.specs.Grammar.{IsWritable}
 use Rattle.gi_facts.specs.declared.fact.Fact.{Fact}
 use Rattle.gi_desk.specs.Machine.{DeskState}
-use Rattle.gi_desk.specs.Queries.{fact_at, unsaved}
 use Rattle.gi_desk.specs.declared.call.Call.TheVariants.{Halt, MarkSaved}
 use Rattle.gi_desk.specs.declared.reply.Answer.{Answer}
 use Rattle.gi_desk.specs.declared.reply.Answer.TheVariants as answers
-use Rattle.gi_store.specs.Book.{AddsFact, AnswersSave, BookState, IsLoadFault, IsRead, SavesOrLeaves, counted}
+use Rattle.gi_store.specs.Batches.{IsLongestFront}
+use Rattle.gi_store.specs.Book.{AddsFacts, AnswersBatch, BookState, IsLoadFault, IsRead, SavesAllOrLeaves, counted}
 use Rattle.gi_store.specs.Clean.{IsClean}
-use Rattle.gi_store.specs.Facts.{IsFactRow}
+use Rattle.gi_store.specs.Facts.{Covers}
+use Rattle.gi_store.specs.Keeping.{AddsNoOutcome, Keeps}
 use Rattle.gi_store.specs.Rows.{facts_in}
 use Rattle.gi_store.specs.declared.store_fault.StoreFault.{StoreFault}
 use Rattle.gi_store.specs.declared.store_fault.StoreFault.TheVariants.{NotLoaded, NotNext}
@@ -32,19 +35,31 @@ use Rattle.gi_office.specs.declared.turn.Turn.TheVariants as turns
 
 -- ---- the look
 
-abbrev pub next_look : Option (ℕ × Fact) → Look
-next_look None = looks.Nothing
-next_look (Some it) = looks.Next it.0 it.1
+-- the next facts to save, 64 at most
+abbrev pub next_facts : DeskState → List Fact
+next_facts s = take most_facts (drop s.saved s.facts)
 
--- the next fact to save, where the desk is not halted
+abbrev pub next_look : ℕ → List Fact → Look
+next_look n [] = looks.Nothing
+next_look n (fact ∷ facts) = looks.Next n (fact ∷ facts)
+
+-- the next facts to save, from this number on, where the desk is not halted
 abbrev pub look_of : DeskState → Look
-look_of s = if s.halted then looks.Halted else next_look (unsaved s)
+look_of s = if s.halted then looks.Halted else next_look (s.saved + 1) (next_facts s)
 
--- the fact can be written
+-- from 1 to 64 facts, which can be written, from this number on
+pub record AreNext (n : ℕ) (facts : List Fact) : Type 0 where
+  pub some : 1 ≤ length facts
+  pub few : length facts ≤ most_facts
+  pub writable : AllByRecursion IsWritable facts
+  pub first : 1 ≤ n
+  pub numbers : n + length facts ≤ 2 ^ 32
+
+-- the facts can be written
 abbrev pub CanBeWritten : Look → Type 0
 CanBeWritten looks.Halted = Unit {0}
 CanBeWritten looks.Nothing = Unit {0}
-CanBeWritten (looks.Next n fact) = IsWritable fact
+CanBeWritten (looks.Next n facts) = AreNext n facts
 
 -- What a lock gave is not told, but that it was an office like any other, in which this was seen.
 abbrev pub IsSeen : Side → Look → Type 0
@@ -52,32 +67,66 @@ IsSeen side look = (held : HeldState) × IsKept side held × (look ≡ look_of h
 
 -- ---- the book
 
--- a row has this number, and is this fact
+-- A row covers this number with the fact: so many of the row's facts stand before it.
 pub record Stands (n : ℕ) (fact : Fact) (s : State) : Type 0 where
   pub is_open : IsTrue s.is_open
   pub row : Row
+  pub first : ℕ
+  pub batch : List Fact
   pub there : Contains (facts_in s.now) row
-  pub is : IsFactRow n row fact
+  pub covers : Covers first row batch
+  pub before : ℕ
+  pub number : first + before ≡ n
+  pub is : slice_get batch before ≡ Some fact
 
--- The rows are as they were, or those with this fact's after them. So it is with what a crash leaves.
-pub record WritesAtMost (n : ℕ) (fact : Fact) (old new : State) : Type 0 where
-  pub rows : IsTrue new.is_open → (new.now ≡ old.now) ⊎ ((new.now.schema ≡ old.now.schema) × AddsFact old.now.schema n fact old.now.trees new.now.trees)
-  pub crash : SavesOrLeaves n fact old new
+-- each of the facts stands in the book, the first one under this number and the others under those after it
+abbrev pub Stand : ℕ → List Fact → State → Type 0
+Stand n facts s = (before : ℕ) (fact : Fact) → slice_get facts before ≡ Some fact → Stands (n + before) fact s
 
--- what is told where so many facts were read, and another one has the number
+-- The rows are as they were, or those with the row of the facts after them. So it is with what a crash leaves.
+pub record WritesAtMost (n : ℕ) (facts : List Fact) (old new : State) : Type 0 where
+  pub rows : IsTrue new.is_open → (new.now ≡ old.now) ⊎ ((new.now.schema ≡ old.now.schema) × AddsFacts old.now.schema n facts old.now.trees new.now.trees)
+  pub crash : SavesAllOrLeaves n facts old new
+
+-- no row is written, and a crash leaves what it could leave before
+pub record WritesNothing (old new : State) : Type 0 where
+  pub rows : Keeps old new
+  pub crash : AddsNoOutcome old new
+
+-- the book is loaded and counts a fact of this number
+abbrev pub is_ahead : ℕ → Option ℕ → Bool
+is_ahead n None = false
+is_ahead n (Some count) = nat_le n count
+
+-- the facts of the book were read, and those from this number on are these
+pub record HasFrom (n : ℕ) (facts : List Fact) (s : State) : Type 0 where
+  pub all : List Fact
+  pub read : IsRead s all
+  pub are : drop (n - 1) all ≡ facts
+
+-- what is told where so many facts were read, and those that come next are others
 abbrev pub next_after : Option ℕ → StoreFault
 next_after None = NotLoaded
 next_after (Some k) = NotNext (k + 1)
 
--- the facts of the book were read, and the one with this number is not this one
-abbrev pub HasAnother : ℕ → Fact → State → StoreFault → Type 0
-HasAnother n fact s fault = (facts : List Fact) × IsRead s facts × (fact_at facts n ≢ Some fact) × (fault ≡ next_after (counted (length facts)))
+-- from this number on there are facts, and they are the first so many of the others
+pub record GoesOnBy (n : ℕ) (facts all : List Fact) (count : ℕ) : Type 0 where
+  pub some : 1 ≤ count
+  pub within : count ≤ length facts
+  pub are : drop (n - 1) all ≡ take count facts
 
--- Why a fact does not stand in a book. Where the book had a row of its number, it was loaded again: that was refused, or the
--- row is another fact. Else the fact was not saved as the row that comes next.
-pub record IsWriteFault {S : Type 0} (store : Ghosts S) (old new : BookState S) (n : ℕ) (fact : Fact) (fault : StoreFault) : Type 0 where
-  pub ahead : old.loaded ≡ Some n → IsClean store new.connection → IsLoadFault (state store old.connection) fault ⊎ HasAnother n fact (state store new.connection) fault
-  pub behind : old.loaded ≢ Some n → AnswersSave n old.loaded (Err fault)
+-- the facts of the book were read, and from this number on there are none, or they are not the first of these
+pub record HasOthers (n : ℕ) (facts : List Fact) (s : State) (fault : StoreFault) : Type 0 where
+  pub all : List Fact
+  pub read : IsRead s all
+  pub others : (count : ℕ) → ¬ GoesOnBy n facts all count
+  pub told : fault ≡ next_after (counted (length all))
+
+-- Why none of the facts stands in a book. A book that was ahead was loaded again: that was refused, or its facts from this
+-- number on are others. In any other the longest front was not saved as the row that comes next.
+pub record IsWriteFault {S : Type 0} (store : Ghosts S) (old new : BookState S) (n : ℕ) (facts : List Fact) (front : ℕ) (fault : StoreFault) : Type 0 where
+  pub ahead : is_ahead n old.loaded ≡ true → IsClean store new.connection → IsLoadFault (state store old.connection) fault ⊎ HasOthers n facts (state store new.connection) fault
+  pub behind : is_ahead n old.loaded ≡ false → AnswersBatch n (take front facts) old.loaded (Err fault)
 
 -- ---- the seat
 
@@ -96,6 +145,33 @@ Marks side n fact old (Err (faults.Office fault)) new = IsRefused old fault new
 Marks side n fact old (Err (faults.Marked refusal)) new =
     (receipt : Receipt) × IsReceipt side old (MarkSaved n fact) receipt × (new ≡ noted old (MarkSaved n fact) receipt)
     × (receipt.reply.answer ≡ answers.Refused refusal)
+
+-- Each of the facts was marked from the seat, the first one under this number and the others under those after it, in order: each
+-- mark got its receipt, which says that the fact is saved, the seat noted it, and nothing else was noted.
+abbrev pub AreMarked : Side → ℕ → List Fact → List Receipt → SeatState → SeatState → Type 0
+AreMarked side n [] [] old new = new ≡ old
+AreMarked side n [] (receipt ∷ receipts) old new = ⊥
+AreMarked side n (fact ∷ facts) [] old new = ⊥
+AreMarked side n (fact ∷ facts) (receipt ∷ receipts) old new =
+    IsReceipt side old (MarkSaved n fact) receipt × (receipt.reply.answer ≡ answers.Saved n)
+    × AreMarked side (n + 1) facts receipts (noted old (MarkSaved n fact) receipt) new
+
+-- The first of the facts were marked, and stay so; the mark of the next one was refused, and that is told.
+pub record StopsMarking (side : Side) (n : ℕ) (facts : List Fact) (old : SeatState) (fault : SaveFault) (new : SeatState) : Type 0 where
+  pub marked : List Fact
+  pub fact : Fact
+  pub left : List Fact
+  pub are : facts ≡ marked ++ fact ∷ left
+  pub receipts : List Receipt
+  pub between : SeatState
+  pub noted : AreMarked side n marked receipts old between
+  pub refused : Marks side (n + length marked) fact between (Err fault) new
+
+-- all of the facts were marked, and the receipt of the last mark is told; or not all
+abbrev pub MarksAll : Side → ℕ → List Fact → SeatState → Result Turn SaveFault → SeatState → Type 0
+MarksAll side n facts old (Ok turns.Nothing) new = ⊥
+MarksAll side n facts old (Ok (turns.Saved last)) new = (receipts : List Receipt) × AreMarked side n facts (receipts ++ last ∷ []) old new
+MarksAll side n facts old (Err fault) new = StopsMarking side n facts old fault new
 
 -- the seat noted a halt, and the fault of the book is told; or the halt did not come to the desk
 abbrev pub Halts : Side → StoreFault → SeatState → Result Turn SaveFault → SeatState → Type 0
@@ -116,35 +192,43 @@ turn_of (Err fault) = Err (faults.Office fault)
 
 -- ---- the turn
 
--- It stands in the book, and was to be marked. A book that was not one fact ahead was one behind: it was saved as the next row.
-pub record StandsMarked {S : Type 0} (side : Side) (store : Ghosts S) (before after : BookState S) (n : ℕ) (fact : Fact) (old : SeatState) (result : Result Turn SaveFault) (new : SeatState) : Type 0 where
-  pub stands : IsClean store after.connection → Stands n fact (state store after.connection)
-  pub behind : before.loaded ≢ Some n → before.loaded ≡ Some (n - 1)
-  pub marks : Marks side n fact old result new
+-- The first so many of the facts stand in the book, and were to be marked. A book that was ahead has just these from the first
+-- number on. Any other was right behind, and took the longest front as its next row.
+pub record StandMarked {S : Type 0} (side : Side) (store : Ghosts S) (before after : BookState S) (n : ℕ) (facts : List Fact) (front : ℕ) (old : SeatState) (result : Result Turn SaveFault) (new : SeatState) : Type 0 where
+  pub count : ℕ
+  pub within : count ≤ length facts
+  pub stand : IsClean store after.connection → Stand n (take count facts) (state store after.connection)
+  pub ahead : is_ahead n before.loaded ≡ true → IsClean store after.connection → HasFrom n (take count facts) (state store after.connection)
+  pub behind : is_ahead n before.loaded ≡ false → (before.loaded ≡ Some (n - 1)) × (count ≡ front)
+  pub marks : MarksAll side n (take count facts) old result new
 
--- the book refused it, or has another one there, and the desk was to be halted
-pub record StandsNot {S : Type 0} (side : Side) (store : Ghosts S) (before after : BookState S) (n : ℕ) (fact : Fact) (old : SeatState) (result : Result Turn SaveFault) (new : SeatState) : Type 0 where
+-- the book refused them, or has others there, and the desk was to be halted
+pub record StandNot {S : Type 0} (side : Side) (store : Ghosts S) (before after : BookState S) (n : ℕ) (facts : List Fact) (front : ℕ) (old : SeatState) (result : Result Turn SaveFault) (new : SeatState) : Type 0 where
   pub fault : StoreFault
-  pub why : IsWriteFault store before after n fact fault
+  pub why : IsWriteFault store before after n facts front fault
   pub halts : Halts side fault old result new
 
--- one fact is saved: no other row comes into the book, and the seat notes one call at most
-pub record Saves {S : Type 0} (side : Side) (store : Ghosts S) (before after : BookState S) (n : ℕ) (fact : Fact) (old : SeatState) (result : Result Turn SaveFault) (new : SeatState) : Type 0 where
+-- The longest front of the facts that one row takes is saved: no other row comes into the book, and none into one that was ahead;
+-- and the seat notes a mark for each fact that stands there, in order, or one halt.
+pub record Saves {S : Type 0} (side : Side) (store : Ghosts S) (before after : BookState S) (n : ℕ) (facts : List Fact) (old : SeatState) (result : Result Turn SaveFault) (new : SeatState) : Type 0 where
+  pub front : ℕ
+  pub longest : IsLongestFront facts front
   pub early : IsClean store after.connection → IsClean store before.connection
-  pub writes : IsClean store after.connection → WritesAtMost n fact (state store before.connection) (state store after.connection)
-  pub told : StandsMarked side store before after n fact old result new ⊎ StandsNot side store before after n fact old result new
+  pub writes : IsClean store after.connection → WritesAtMost n (take front facts) (state store before.connection) (state store after.connection)
+  pub unwritten : is_ahead n before.loaded ≡ true → IsClean store after.connection → WritesNothing (state store before.connection) (state store after.connection)
+  pub told : StandMarked side store before after n facts front old result new ⊎ StandNot side store before after n facts front old result new
+
+-- there was no memory for a copy of the facts, or to see how many one row takes, and nothing was done
+abbrev pub TakesNone : {S : Type 0} → BookState S → BookState S → SeatState → Result Turn SaveFault → SeatState → Type 0
+TakesNone before after old result new = (result ≡ Err (faults.Office OutOfMemory)) × (after ≡ before) × (new ≡ old)
 
 -- what comes of what was seen
 abbrev pub Follows : {S : Type 0} → Side → Ghosts S → BookState S → BookState S → Look → SeatState → Result Turn SaveFault → SeatState → Type 0
 Follows side store before after looks.Halted old result new = (result ≡ Err faults.Halted) × (after ≡ before) × (new ≡ old)
 Follows side store before after looks.Nothing old result new = (result ≡ Ok turns.Nothing) × (after ≡ before) × (new ≡ old)
-Follows side store before after (looks.Next n fact) old result new = Saves side store before after n fact old result new
-
--- the copy of the fact was refused, and nothing was done
-abbrev pub LooksNot : {S : Type 0} → BookState S → BookState S → SeatState → Result Turn SaveFault → SeatState → Type 0
-LooksNot before after old result new = (result ≡ Err (faults.Office OutOfMemory)) × (after ≡ before) × (new ≡ old)
+Follows side store before after (looks.Next n facts) old result new = TakesNone before after old result new ⊎ Saves side store before after n facts old result new
 
 -- a turn, which looks under the lock, writes without it, and marks under it
 abbrev pub TakesTurn : {S : Type 0} → Side → Ghosts S → BookState S → BookState S → SeatState → Result Turn SaveFault → SeatState → Type 0
 TakesTurn side store before after old result new =
-    LooksNot before after old result new ⊎ ((look : Look) × IsSeen side look × Follows side store before after look old result new)
+    TakesNone before after old result new ⊎ ((look : Look) × IsSeen side look × Follows side store before after look old result new)

@@ -18,6 +18,21 @@ pub(crate) fn is_same_fact(fact: &Fact, other: &Fact) -> bool
     fact.is(other)
 }
 
+/// Whether the facts are equal, one by one.
+pub(crate) fn are_same_facts(facts: &[Fact], others: &[Fact]) -> bool
+    ensures { IsTrue result ↔ (facts.now ≡ others.now) }
+{
+    if facts.len() != others.len() {
+        return false;
+    }
+    for i in 0..facts.len() {
+        if !is_same_fact(&facts[i], &others[i]) {
+            return false;
+        }
+    }
+    true
+}
+
 /// Whether two contracts are equal.
 fn is_same_contract(contract: &Contract, other: &Contract) -> bool
     ensures { IsTrue result ↔ (contract.now ≡ other.now) }

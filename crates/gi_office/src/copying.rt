@@ -1,8 +1,12 @@
-//! Equal replies.
+//! Copies: equal replies, and the facts that are to be saved.
 
-ghost use Rattle.std.specs.Prelude.{◌≡◌, IfOk};
+ghost use Rattle.std.specs.Prelude.{◌≡◌, ◌≤◌, ◌+◌, ◌^◌, IfOk, length};
+ghost use Rattle.std.specs.List.{AllByRecursion};
+ghost use Rattle.gi_facts.specs.Grammar.{IsWritable};
+ghost use Rattle.gi_office.specs.Saving.{next_facts as next_facts_of};
 
-use gi_desk::{Packet, Packets, Reply};
+use gi_desk::{Desk, Fact, Packet, Packets, Reply, Role};
+use gi_facts::MOST_FACTS;
 use std::alloc::{AllocError, Global};
 
 /// Equal packets, in order.
@@ -24,4 +28,20 @@ pub(crate) fn reply_copy(alloc: Global, reply: &Reply) -> Result<Reply, AllocErr
         answer: reply.answer,
         out: Packets::from(packets_copy(alloc, reply.out.as_slice())?),
     })
+}
+
+/// The desk's next facts to save, 64 at most.
+pub(crate) fn next_facts<R: Role>(alloc: Global, desk: &Desk<R>) -> Result<Vec<Fact>, AllocError>
+    ensures facts { IfOk result (λ copies. copies.items ≡ next_facts_of desk.now) }
+    ensures writable { IfOk result (λ copies. AllByRecursion IsWritable copies.items) }
+    ensures numbers { IfOk result (λ copies. desk.now.saved + 1 + length copies.items ≤ 2 ^ 32) }
+{
+    let saved = desk.saved();
+    let count = (desk.len() - saved).min(MOST_FACTS as u32);
+    let mut copies = Vec::with_capacity(alloc, count as usize)?;
+    for before in 0..count {
+        let fact = desk.fact(saved + before + 1).unwrap();
+        copies.push(fact.copy()?)?;
+    }
+    Ok(copies)
 }

@@ -8,8 +8,9 @@ ghost use Rattle.gi_office.specs.Saving.{CanBeWritten, look_of};
 ghost use Rattle.gi_office.specs.Settling.{CountsAll, Settles};
 ghost use Rattle.gi_office.specs.Waiting.{waited_for};
 
-use crate::copying::reply_copy;
+use crate::copying::{next_facts, reply_copy};
 use crate::entry::Entry;
+use crate::facts::Facts;
 use crate::look::Look;
 use crate::note::Note;
 use crate::office_fault::OfficeFault;
@@ -158,7 +159,7 @@ impl<R: Role, L: Ledger> Held<R, L> {
         Ok(receipt)
     }
 
-    /// What is to be saved of the desk: a copy of its next fact, where it is not halted.
+    /// What is to be saved of the desk: copies of its next facts, where it is not halted.
     pub fn look(&self) -> Result<Look, AllocError>
         ensures value { IfOk result (λ look. look ≡ look_of self.now.desk) }
         ensures writable { IfOk result CanBeWritten }
@@ -166,13 +167,14 @@ impl<R: Role, L: Ledger> Held<R, L> {
         if self.desk.halted() {
             return Ok(Look::Halted);
         }
-        match self.desk.unsaved() {
-            Some((n, fact)) => Ok(Look::Next {
-                n,
-                fact: fact.copy()?,
-            }),
-            None => Ok(Look::Nothing),
+        let facts = next_facts(self.alloc, &self.desk)?;
+        if facts.is_empty() {
+            return Ok(Look::Nothing);
         }
+        Ok(Look::Next {
+            n: self.desk.saved() + 1,
+            facts: Facts::from(facts),
+        })
     }
 
     /// What became of fact number `n`; nothing while it may still be saved.

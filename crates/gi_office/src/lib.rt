@@ -14,8 +14,9 @@
 //! it and gives it back); to send what a reply lets out, and nothing else; and at the end to hand all
 //! seats back to [`Office::settle`]. Who makes turns that save ([`Office::save_turn`]) does so from a
 //! seat of its own, in one thread, always with the desk's own book, which is loaded: a fact is saved
-//! and lets out what it has by such a turn alone. It goes on until there is nothing to save, the desk
-//! is halted, or a turn answers a fault. Who serves sessions ([`Office::serve`]) gives each a seat of
+//! and lets out what it has by such a turn alone. A turn saves several facts, and what each lets out is
+//! in the notes of its seat, after a fault too. It goes on until there is nothing to save, the desk is
+//! halted, or a turn answers a fault. Who serves sessions ([`Office::serve`]) gives each a seat of
 //! its own, and all submissions whose order matters to one session, since nothing is said of the order
 //! between two; it takes the seats back from what is served, after a fault too ([`Session::into_parts`],
 //! [`Served::into_parts`]).
@@ -26,10 +27,12 @@
 //! let (seat, answer) = office.submit(&rt, seat, body);
 //! let receipt = answer?;                       // its place in the trail, and the desk's reply
 //! send(receipt.reply.out);                     // a repeat of what is saved is answered at once
+//! let noted = saver.notes().len();
 //! let (saver, turn) = office.save_turn(&rt, saver, &mut book);
-//! if let Turn::Saved(receipt) = turn? {
-//!     send(receipt.reply.out);                 // what was saved is told, and not before
+//! for note in &saver.notes()[noted..] {
+//!     send(note.reply.out);                    // what was saved is told, and not before
 //! }
+//! turn?;
 //! seats.push(seat)?;
 //! seats.push(saver)?;
 //! let settled = office.settle(seats)?;         // each reply is the desk's at its place in one life
@@ -42,7 +45,8 @@
 //!
 //! Begin with [`Held`], which says what one call does, then [`Office`], which takes the lock for it;
 //! [`Seat`], [`Entry`], [`Note`] and [`Receipt`] are what a call leaves. [`Unsettled`] tells where a
-//! seat and the trail differ. [`Session`], [`Gate`] and [`Served`] are for workers, one a seat.
+//! seat and the trail differ. [`Session`], [`Gate`] and [`Served`] are for workers, one a seat; a
+//! [`Waker`] is a gate that notifies who makes turns.
 //!
 //! Of offices that are over, those of one operator are put together by [`join_lives`], and those of the
 //! two operators set against each other by [`reconcile`]: what both confirmed and told is then one.
@@ -51,6 +55,7 @@
 mod comparing;
 mod copying;
 mod entry;
+mod facts;
 mod gate;
 mod held;
 mod joining;
@@ -73,10 +78,12 @@ mod turn;
 mod unreconciled;
 mod unsettled;
 mod waited;
+mod waker;
 mod work;
 mod writing;
 
 pub use entry::Entry;
+pub use facts::Facts;
 pub use gate::Gate;
 pub use held::{Held, MOST_SEATS};
 pub use joining::join_lives;
@@ -96,3 +103,4 @@ pub use turn::Turn;
 pub use unreconciled::Unreconciled;
 pub use unsettled::Unsettled;
 pub use waited::Waited;
+pub use waker::Waker;

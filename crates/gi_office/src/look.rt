@@ -1,4 +1,4 @@
-use gi_desk::Fact;
+use crate::facts::Facts;
 
 /// What is to be saved of a desk.
 #[derive(Debug, Drop)]
@@ -7,6 +7,6 @@ pub enum Look {
     Halted,
     /// All facts are saved.
     Nothing,
-    /// Fact number `n` is the next to save; this is a copy of it.
-    Next { n: u32, fact: Fact },
+    /// Fact number `n` is the next to save; these are copies of it and of those after it, 64 at most.
+    Next { n: u32, facts: Facts },
 }

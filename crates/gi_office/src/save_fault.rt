@@ -6,16 +6,16 @@ use gi_store::StoreFault;
 use std::error::Error;
 use std::fmt;
 
-/// Why a turn saved nothing.
+/// Why a turn did not save all that it had to.
 #[derive(Clone, Copy, Debug, PartialEq, Eq)]
 pub enum SaveFault {
     /// The desk is halted.
     Halted,
-    /// The book refused the fact, or has another one in its place. The desk is halted.
+    /// The book refused the facts, or has other ones in their place. The desk is halted.
     Store(StoreFault),
-    /// The copy of the fact, its mark or the halt was refused.
+    /// The copies of the facts, a mark or the halt was refused.
     Office(OfficeFault),
-    /// The fact stands in the book, and the desk refused its mark.
+    /// The facts stand in the book, and the desk refused the mark of one.
     Marked(Refusal),
 }
 

@@ -5,6 +5,7 @@ use crate::receipt::Receipt;
 pub enum Turn {
     /// All facts are saved.
     Nothing,
-    /// The next fact stands in the book, and this is the receipt of its mark.
+    /// The next facts stand in the book, from 1 to 64, and are marked. This is the receipt of the last
+    /// one's mark; those of all are among the notes of the seat.
     Saved(Receipt),
 }

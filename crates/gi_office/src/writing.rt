@@ -1,43 +1,50 @@
 //! What a turn does to the book, with no lock held: one call besides `count`.
 
-ghost use Rattle.std.specs.Prelude.{◌≡◌, ◌≢◌, ◌⊎◌, ◌↔◌, ◌-◌, IfErr, IsTrue, OnOk, Some};
-ghost use Rattle.std.specs.Option.{option_copied};
+ghost use Rattle.std.specs.Prelude.{◌≡◌, ◌⊎◌, ◌-◌, ◌≤◌, IfErr, IfOk, IfSome, None, OnOk, Some, false, length, take, true};
 ghost use Rattle.sqlite.specs.Held.{state};
-ghost use Rattle.gi_facts.specs.Grammar.{IsWritable};
-ghost use Rattle.gi_desk.specs.Queries.{fact_at};
-ghost use Rattle.gi_store.specs.Book.{AnswersSave, IsLoadFault, counted as counted_rows};
+ghost use Rattle.gi_store.specs.Batches.{IsLongestFront};
+ghost use Rattle.gi_store.specs.Book.{AnswersBatch, IsLoadFault, counted as counted_facts};
 ghost use Rattle.gi_store.specs.Clean.{IsClean};
 ghost use Rattle.gi_store.specs.Keeping.{AddsNoOutcome, Keeps};
-ghost use Rattle.gi_office.specs.Saving.{HasAnother, IsWriteFault, Stands, WritesAtMost, next_after as next_after_rows};
+ghost use Rattle.gi_office.specs.Saving.{AreNext, GoesOnBy, HasFrom, HasOthers, IsWriteFault, Stand, WritesAtMost, WritesNothing, is_ahead as is_ahead_of, next_after as next_after_facts};
 
-use crate::comparing::is_same_fact;
+use crate::comparing::are_same_facts;
 use gi_desk::Fact;
-use gi_facts::fact_round_trip;
+use gi_facts::batch_round_trip;
 use gi_store::{BookStore, StoreFault};
 use sqlite::Alter;
 
-/// The fact of this number, from 1.
-fn at(facts: &[Fact], n: u32) -> Option<&Fact>
-    ensures { option_copied result ≡ fact_at facts.now n }
+/// Whether a book that counts so many facts has one of this number.
+fn is_ahead(count: Option<u32>, n: u32) -> bool
+    ensures { result ≡ is_ahead_of n count }
 {
-    let before = n.checked_sub(1)?;
-    let fact = facts.get(before as usize)?;
-    Some(fact)
-}
-
-/// Whether the fact of this number is this one.
-fn is_there(facts: &[Fact], n: u32, fact: &Fact) -> bool
-    ensures { IsTrue result ↔ (fact_at facts.now n ≡ Some fact.now) }
-{
-    match at(facts, n) {
-        Some(there) => is_same_fact(there, fact),
+    match count {
+        Some(count) => n <= count,
         None => false,
     }
 }
 
-/// What is told where so many facts were read, and another one has the number.
+/// How many facts there are from number `n` on, where there are some and they are the first of these.
+fn goes_on_by(all: &[Fact], n: u32, facts: &[Fact]) -> Option<usize>
+    requires { 1 ≤ n }
+    ensures count { IfSome result (GoesOnBy n facts.now all.now) }
+    ensures others { result ≡ None → (count : _) → ¬ GoesOnBy n facts.now all.now count }
+{
+    let saved = n as usize - 1;
+    if all.len() <= saved || facts.len() < all.len() - saved {
+        return None;
+    }
+    let count = all.len() - saved;
+    if are_same_facts(&all[saved..], &facts[..count]) {
+        Some(count)
+    } else {
+        None
+    }
+}
+
+/// What is told where so many facts were read, and those that come next are others.
 fn next_after(read: usize) -> StoreFault
-    ensures { result ≡ next_after_rows (counted_rows read) }
+    ensures { result ≡ next_after_facts (counted_facts read) }
 {
     if read < u32::MAX as usize {
         StoreFault::NotNext {
@@ -48,52 +55,63 @@ fn next_after(read: usize) -> StoreFault
     }
 }
 
-/// Loads the book, and looks whether the row of this number is the fact.
-fn find<S: Alter>(book: &mut BookStore<S>, n: u32, fact: &Fact) -> Result<(), StoreFault>
+/// Loads the book: how many facts it has from number `n` on, where they are the first of these.
+fn find<S: Alter>(book: &mut BookStore<S>, n: u32, facts: &[Fact]) -> Result<usize, StoreFault>
+    requires { 1 ≤ n }
     ensures early { IsClean S.Store book.new.connection → IsClean S.Store book.old.connection }
-    ensures stands { IsClean S.Store book.new.connection → OnOk result (Stands n fact.now (state S.Store book.new.connection)) }
-    ensures refused { IsClean S.Store book.new.connection → IfErr result (λ fault. IsLoadFault (state S.Store book.old.connection) fault ⊎ HasAnother n fact.now (state S.Store book.new.connection) fault) }
+    ensures within { IfOk result (λ count. count ≤ length facts.now) }
+    ensures some { IfOk result (λ count. 1 ≤ count) }
+    ensures has { IsClean S.Store book.new.connection → IfOk result (λ count. HasFrom n (take count facts.now) (state S.Store book.new.connection)) }
+    ensures refused { IsClean S.Store book.new.connection → IfErr result (λ fault. IsLoadFault (state S.Store book.old.connection) fault ⊎ HasOthers n facts.now (state S.Store book.new.connection) fault) }
     ensures kept { IsClean S.Store book.new.connection → Keeps (state S.Store book.old.connection) (state S.Store book.new.connection) }
     ensures crash { IsClean S.Store book.new.connection → AddsNoOutcome (state S.Store book.old.connection) (state S.Store book.new.connection) }
 {
-    let facts = book.load()?;
-    if is_there(&facts, n, fact) {
-        Ok(())
-    } else {
-        Err(next_after(facts.len()))
+    let all = book.load()?;
+    match goes_on_by(&all, n, facts) {
+        Some(count) => Ok(count),
+        None => Err(next_after(all.len())),
     }
 }
 
-/// Saves the fact as the row that comes next.
-fn save<S: Alter>(book: &mut BookStore<S>, n: u32, fact: &Fact) -> Result<(), StoreFault>
-    requires { IsWritable fact.now }
+/// Saves the facts as the row that comes next.
+fn save<S: Alter>(book: &mut BookStore<S>, n: u32, facts: &[Fact]) -> Result<(), StoreFault>
+    requires { AreNext n facts.now }
     ensures early { IsClean S.Store book.new.connection → IsClean S.Store book.old.connection }
-    ensures stands { IsClean S.Store book.new.connection → OnOk result (Stands n fact.now (state S.Store book.new.connection)) }
-    ensures answer { AnswersSave n book.old.loaded result }
+    ensures stand { IsClean S.Store book.new.connection → OnOk result (Stand n facts.now (state S.Store book.new.connection)) }
+    ensures answer { AnswersBatch n facts.now book.old.loaded result }
     ensures next { OnOk result (book.old.loaded ≡ Some (n - 1)) }
-    ensures writes { IsClean S.Store book.new.connection → WritesAtMost n fact.now (state S.Store book.old.connection) (state S.Store book.new.connection) }
+    ensures writes { IsClean S.Store book.new.connection → WritesAtMost n facts.now (state S.Store book.old.connection) (state S.Store book.new.connection) }
 {
-    fact_round_trip();
-    book.save_next(n, fact)
+    batch_round_trip();
+    book.save_batch(n, facts)
 }
 
-/// Has the fact stand in the book as the row of its number. A book that is one fact ahead is loaded
-/// and not written; else the fact is saved as the row that comes next.
+/// Has the first of the facts stand in the book under number `n` and those after it: how many. A book
+/// that is ahead is loaded and not written; in any other so many of them, the longest front that one
+/// row takes, are saved as the row that comes next.
 pub(crate) fn write<S: Alter>(
     book: &mut BookStore<S>,
     n: u32,
-    fact: &Fact,
-) -> Result<(), StoreFault>
-    requires { IsWritable fact.now }
+    facts: &[Fact],
+    front: usize,
+) -> Result<usize, StoreFault>
+    requires next { AreNext n facts.now }
+    requires longest { IsLongestFront facts.now front }
     ensures early { IsClean S.Store book.new.connection → IsClean S.Store book.old.connection }
-    ensures stands { IsClean S.Store book.new.connection → OnOk result (Stands n fact.now (state S.Store book.new.connection)) }
-    ensures behind { book.old.loaded ≢ Some n → OnOk result (book.old.loaded ≡ Some (n - 1)) }
-    ensures refused { IfErr result (IsWriteFault S.Store book.old book.new n fact.now) }
-    ensures writes { IsClean S.Store book.new.connection → WritesAtMost n fact.now (state S.Store book.old.connection) (state S.Store book.new.connection) }
+    ensures some { IfOk result (λ count. 1 ≤ count) }
+    ensures within { IfOk result (λ count. count ≤ length facts.now) }
+    ensures stand { IsClean S.Store book.new.connection → IfOk result (λ count. Stand n (take count facts.now) (state S.Store book.new.connection)) }
+    ensures ahead { is_ahead_of n book.old.loaded ≡ true → IsClean S.Store book.new.connection → IfOk result (λ count. HasFrom n (take count facts.now) (state S.Store book.new.connection)) }
+    ensures behind { is_ahead_of n book.old.loaded ≡ false → IfOk result (λ count. (book.old.loaded ≡ Some (n - 1)) × (count ≡ front)) }
+    ensures refused { IfErr result (IsWriteFault S.Store book.old book.new n facts.now front) }
+    ensures writes { IsClean S.Store book.new.connection → WritesAtMost n (take front facts.now) (state S.Store book.old.connection) (state S.Store book.new.connection) }
+    ensures unwritten { is_ahead_of n book.old.loaded ≡ true → IsClean S.Store book.new.connection → WritesNothing (state S.Store book.old.connection) (state S.Store book.new.connection) }
 {
-    if book.count() == Some(n) {
-        find(book, n, fact)
-    } else {
-        save(book, n, fact)
+    if is_ahead(book.count(), n) {
+        return find(book, n, facts);
+    }
+    match save(book, n, &facts[..front]) {
+        Ok(()) => Ok(front),
+        Err(fault) => Err(fault),
     }
 }

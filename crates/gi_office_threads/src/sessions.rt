@@ -4,10 +4,14 @@ ghost use Rattle.std.specs.Prelude.{◌≡◌};
 
 use crate::gates::{FirstOnce, SecondFirst};
 use crate::making::{book_of, contract_of, desk_of, documents};
+use crossbeam_channel::{Receiver, unbounded};
 use gi_desk::{Answer, Fact};
 use gi_initiator::Initiating;
 use gi_matcher::Matching;
-use gi_office::{Gate, Office, Receipt, Seat, Served, Session, Settled, Turn, Waited, reconcile};
+use gi_office::{
+    Gate, Office, Receipt, Seat, Served, Session, Settled, Turn, Waited, Waker, reconcile,
+};
+use gi_pairs::Side;
 use gi_store::BookStore;
 use sqlite::MemStore;
 use std::alloc::Global;
@@ -88,21 +92,8 @@ fn recorded(receipt: &Receipt) -> Option<u32> {
     }
 }
 
-/// Makes a turn that saves a fact.
-fn saved<L: Ledger, W: Wait>(
-    rt: &W,
-    office: &Office<Initiating, L>,
-    seat: Seat<L>,
-    book: &mut BookStore<MemStore>,
-) -> Option<Seat<L>> {
-    let (seat, turn) = office.save_turn(rt, seat, book);
-    match turn {
-        Ok(Turn::Saved(_)) => Some(seat),
-        _ => None,
-    }
-}
-
-/// Saves two facts in the book, and waits for those of both receipts.
+/// Saves two facts in the book by one turn, after which nothing is left to save, and waits for those of
+/// both receipts.
 fn both_saved<L: Ledger, W: Wait>(
     rt: &W,
     office: &Office<Initiating, L>,
@@ -111,8 +102,11 @@ fn both_saved<L: Ledger, W: Wait>(
     first: &Receipt,
     second: &Receipt,
 ) -> Option<Seat<L>> {
-    let seat = saved(rt, office, seat, book)?;
-    let seat = saved(rt, office, seat, book)?;
+    let (seat, turn) = office.save_turn(rt, seat, book);
+    let (seat, next) = office.save_turn(rt, seat, book);
+    if !matches!(turn, Ok(Turn::Saved(_))) || !matches!(next, Ok(Turn::Nothing)) {
+        return None;
+    }
     if office.wait_saved(rt, first) != Waited::Saved {
         return None;
     }
@@ -218,12 +212,40 @@ fn idle<L: Ledger + Send + Sync, R: Threads + Wait + Sync>(
     Some((count, settled.desk().len()))
 }
 
+/// How many notices there are of this side, once nobody sends any more.
+fn notices<W: Wait>(rt: &W, alloc: Global, receiver: Receiver<Side>) -> Option<u32> {
+    let mut sides = Vec::new(alloc);
+    for side in receiver.iter(rt) {
+        sides.push(side).ok()?;
+    }
+    if sides.contains(&Side::M) {
+        return None;
+    }
+    u32::try_from(sides.len()).ok()
+}
+
+/// Sessions whose gate is a waker: how many facts they recorded, and how many notices there are of that.
+fn woken<L: Ledger + Send + Sync, R: Threads + Wait + Sync>(
+    rt: &R,
+    alloc: Global,
+    office: Office<Initiating, L>,
+    seats: Vec<Seat<L>>,
+) -> Option<(u32, u32)> {
+    let (sender, receiver) = unbounded(alloc).ok()?;
+    let waker = Waker::new(Side::I, sender);
+    let (seats, _) = served(rt, alloc, &office, &waker, seats, 5)?;
+    drop(waker);
+    let settled = office.settle(seats).ok()?;
+    Some((settled.desk().len(), notices(rt, alloc, receiver)?))
+}
+
 /// What sessions are tried.
 #[derive(Clone, Copy)]
 enum Trial {
     SecondFirst,
     FirstOnce,
     Idle,
+    Woken,
 }
 
 /// Serves sessions in one office, whose portfolios have contracts, which are saved.
@@ -241,6 +263,7 @@ fn done<L: Ledger + Send + Sync, R: Threads + Wait + Clock + Sync>(
         Trial::SecondFirst => (2, 3),
         Trial::FirstOnce => (16, 16),
         Trial::Idle => (2, 3),
+        Trial::Woken => (2, 2),
     };
     let desk = desk_of(alloc, contracts(alloc, portfolios)?)?;
     let book = book_of(alloc, &desk)?;
@@ -249,6 +272,7 @@ fn done<L: Ledger + Send + Sync, R: Threads + Wait + Clock + Sync>(
         Trial::SecondFirst => second_first(rt, alloc, office, seats, book),
         Trial::FirstOnce => first_once(rt, alloc, office, seats),
         Trial::Idle => idle(rt, alloc, office, seats),
+        Trial::Woken => woken(rt, alloc, office, seats),
     }
 }
 
@@ -285,4 +309,10 @@ fn a_session_is_ended_by_its_gate(rt: HostRuntime) {
 #[test]
 fn sessions_without_a_document_are_served(rt: HostRuntime) {
     assert_eq!(rt; in_an_office(&rt, rt.alloc(), Trial::Idle), Some((0, 2)));
+}
+
+// Two sessions submit five documents each, and a waker sends a notice of each.
+#[test]
+fn a_waker_notifies_of_each_answer(rt: HostRuntime) {
+    assert_eq!(rt; in_an_office(&rt, rt.alloc(), Trial::Woken), Some((12, 10)));
 }

@@ -1,10 +1,10 @@
-//! The turn that saves: it looks at the next fact under the lock, has it stand in the book with no
-//! lock held, and marks it under the lock.
+//! The turn that saves: it looks at the next facts under the lock, has the first of them stand in the
+//! book with no lock held, and marks them under the lock.
 
-ghost use Rattle.std.specs.Prelude.{◌≡◌, IfOk};
-ghost use Rattle.gi_facts.specs.Grammar.{IsWritable};
-ghost use Rattle.gi_office.specs.Saving.{CanBeWritten, Halts, IsSeen, Marks, Saves, TakesTurn, turn_of as turn_of_mark};
+ghost use Rattle.std.specs.Prelude.{◌≡◌, ◌⊎◌, IfOk};
+ghost use Rattle.gi_office.specs.Saving.{AreNext, CanBeWritten, Halts, IsSeen, Marks, MarksAll, Saves, TakesNone, TakesTurn, turn_of as turn_of_mark};
 
+use crate::facts::Facts;
 use crate::held::Held;
 use crate::look::Look;
 use crate::office::{Office, asked};
@@ -15,7 +15,7 @@ use crate::seat::Seat;
 use crate::turn::Turn;
 use crate::writing::write;
 use gi_desk::{Answer, Call, Fact, Role};
-use gi_store::{BookStore, StoreFault};
+use gi_store::{BookStore, StoreFault, fitting};
 use sqlite::Alter;
 use std::alloc::AllocError;
 use std::sync::Wait;
@@ -45,12 +45,15 @@ fn turn_of(answer: Result<Receipt, OfficeFault>) -> Result<Turn, SaveFault>
 }
 
 impl<R: Role, L: Ledger> Office<R, L> {
-    /// A turn of the thread that saves. It copies the desk's next fact under the lock, has it stand
-    /// in the book with no lock held, and marks it under the lock. `Halted` where the desk is
-    /// halted, and then `Nothing` where all facts are saved; a refused copy is `OutOfMemory`, and
-    /// nothing is done. Where the book refuses the fact, or is one fact ahead by another fact, the
-    /// desk is halted and the fault is `Store`. Where the mark or that halt does not come to the
-    /// desk it is `Office`, and the row may stand; the next turn is one like any other.
+    /// A turn of the thread that saves. It copies the desk's next facts under the lock, 64 at most, has
+    /// the first of them stand in the book with no lock held, and marks each of these under the lock,
+    /// in order. As many are saved as one row takes: one, or those whose body together is no longer
+    /// than 1,048,576 bytes. `Halted` where the desk is halted, and then `Nothing` where all facts are
+    /// saved; where memory for the copies is refused it is `Office`, and nothing is done. A book that is
+    /// ahead is loaded and not written: the facts that it has more are marked. Where the book refuses
+    /// the facts, or is ahead by other ones, the desk is halted and the fault is `Store`. Where a mark
+    /// or that halt does not come to the desk it is `Office`, and the row and the marks before it may
+    /// stand; the next turn is one like any other.
     pub fn save_turn<S: Alter, W: Wait>(
         &self,
         rt: &W,
@@ -74,29 +77,59 @@ impl<R: Role, L: Ledger> Office<R, L> {
     {
         let look = looked(&*self.held.lock(rt));
         match look {
-            Ok(Look::Next { n, fact }) => self.save(rt, seat, book, n, fact),
+            Ok(Look::Next { n, facts }) => self.save(rt, seat, book, n, facts),
             Ok(Look::Nothing) => Ok(Turn::Nothing),
             Ok(Look::Halted) => Err(SaveFault::Halted),
             Err(_) => Err(SaveFault::Office(OfficeFault::OutOfMemory)),
         }
     }
 
-    /// Has the fact stand in the book, and marks it; else it halts the desk.
+    /// Has the first of the facts stand in the book, and marks them; else it halts the desk.
     fn save<S: Alter, W: Wait>(
         &self,
         rt: &W,
         seat: &mut Seat<L>,
         book: &mut BookStore<S>,
         n: u32,
-        fact: Fact,
+        facts: Facts,
     ) -> Result<Turn, SaveFault>
-        requires { IsWritable fact }
-        ensures { Saves R.SIDE S.Store book.old book.new n fact seat.old result seat.new }
+        requires { AreNext n facts }
+        ensures { TakesNone book.old book.new seat.old result seat.new ⊎ Saves R.SIDE S.Store book.old book.new n facts seat.old result seat.new }
     {
-        match write(book, n, &fact) {
-            Ok(()) => self.mark(rt, seat, n, fact),
+        let mut facts = facts.into_vec();
+        let Ok(front) = fitting(*facts.allocator(), &facts) else {
+            return Err(SaveFault::Office(OfficeFault::OutOfMemory));
+        };
+        match write(book, n, &facts, front) {
+            Ok(count) => {
+                facts.truncate(count);
+                self.mark_all(rt, seat, n, facts)
+            }
             Err(fault) => self.stop(rt, seat, fault),
         }
+    }
+
+    /// Marks the facts from number `n` on, in order, until a mark is refused.
+    fn mark_all<W: Wait>(
+        &self,
+        rt: &W,
+        seat: &mut Seat<L>,
+        n: u32,
+        facts: Vec<Fact>,
+    ) -> Result<Turn, SaveFault>
+        requires { AreNext n facts.items }
+        ensures { MarksAll R.SIDE n facts.items seat.old result seat.new }
+    {
+        let mut turn = Turn::Nothing;
+        let mut marked = 0;
+        for fact in facts {
+            match self.mark(rt, seat, n + marked, fact) {
+                Ok(saved) => turn = saved,
+                Err(fault) => return Err(fault),
+            }
+            marked += 1;
+        }
+        Ok(turn)
     }
 
     fn mark<W: Wait>(

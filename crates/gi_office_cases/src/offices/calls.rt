@@ -1,9 +1,11 @@
 //! The calls of a seat as text: the word of the call, the seat's number, and what is called.
 
-use gi_calls::Words;
+use gi_calls::{Fault, Words};
 use gi_desk::{Body, Call};
+use gi_pairs::Code;
 use gi_processing::{Contract, Notice};
 use std::alloc::{AllocError, Global};
+use std::fmt::Write;
 
 /// The words as a contract.
 fn contract(words: Words<'_>) -> Option<Call> {
@@ -35,13 +37,41 @@ fn body_of(alloc: Global, text: &str) -> Result<Body, AllocError> {
     Ok(Body::from(Vec::from_slice(alloc, text.as_bytes())?))
 }
 
+/// A document of the portfolio with 64 lines, each with the greatest quantity in 24 hours: 23,292
+/// bytes as a fact, where the portfolio is of one letter and the version of one digit.
+fn long_document(alloc: Global, portfolio: Code, version: u32) -> Result<Body, Fault> {
+    let mut text = format!(in alloc;
+        "{{\"kind\":\"NOMINT\",\"point\":\"BORDER-1\",\"portfolio\":\"{portfolio}\",\"day\":\"2026-01-15\",\"version\":{version},\"lines\":["
+    )?;
+    let hours = "999999999999,".repeat(alloc, 23)?;
+    for line in 10..74u8 {
+        let comma = if line == 10 { "" } else { "," };
+        write!(
+            text,
+            "{comma}{{\"counterparty\":\"B{line}\",\"direction\":\"IM\",\"hours\":[{hours}999999999999]}}"
+        )?;
+    }
+    text.push_str("]}")?;
+    Ok(Body::from(text.into_bytes()))
+}
+
+/// The words as a submission of a long document.
+fn long(alloc: Global, words: Words<'_>) -> Result<Option<Call>, Fault> {
+    let mut words = words;
+    let (Some(portfolio), Some(version)) = (words.code(), words.number()) else {
+        return Ok(None);
+    };
+    Ok(Some(Call::Submit(long_document(alloc, portfolio, version)?)))
+}
+
 /// The call of this word.
-fn named(alloc: Global, word: &str, words: Words<'_>) -> Result<Option<Call>, AllocError> {
+fn named(alloc: Global, word: &str, words: Words<'_>) -> Result<Option<Call>, Fault> {
     let mut words = words;
     Ok(match word {
         "contract" => contract(words),
         "notice" => notice(words),
         "submit" => Some(Call::Submit(body_of(alloc, words.rest())?)),
+        "long" => return long(alloc, words),
         "close" => words.cycle().map(|id| Call::Close(id)),
         "deliver" => Some(Call::Deliver(body_of(alloc, words.rest())?)),
         "resend" => words.cycle().map(|id| Call::Resend(id)),
@@ -51,7 +81,7 @@ fn named(alloc: Global, word: &str, words: Words<'_>) -> Result<Option<Call>, Al
 }
 
 /// The number of the seat, and the call.
-pub fn call_of(alloc: Global, line: &str) -> Result<Option<(u8, Call)>, AllocError> {
+pub fn call_of(alloc: Global, line: &str) -> Result<Option<(u8, Call)>, Fault> {
     let mut words = Words::of(line);
     let word = words.next();
     let Some(seat) = words.byte() else {

@@ -118,6 +118,26 @@ impl<R: Role, L: Ledger> Opened<R, L> {
         Ok(true)
     }
 
+    /// Makes a call so often from its seat; the answer is that of the last time.
+    fn repeat<W: Wait>(
+        &mut self,
+        handle: &W,
+        alloc: Global,
+        words: Words<'_>,
+        text: &mut String,
+    ) -> Result<bool, Fault> {
+        let mut words = words;
+        let count = words.byte().unwrap_or(0);
+        let line = words.rest();
+        for _ in 0..count {
+            text.clear();
+            if !self.call(handle, alloc, line, text)? {
+                return Ok(false);
+            }
+        }
+        Ok(count > 0)
+    }
+
     /// Makes a turn that saves from a seat.
     fn save<W: Wait>(
         &mut self,
@@ -248,6 +268,7 @@ impl<R: Role, L: Ledger> Opened<R, L> {
             "open" => return self.open(alloc, words, text),
             "settle" => return self.settle(alloc, text),
             "entries" => return self.count_entries(text),
+            "times" => return self.repeat(handle, alloc, words, text),
             _ => {}
         }
         if let Some(number) = words.byte() {

@@ -1,6 +1,7 @@
 //! The book, and what turns that save come to.
 
 ghost use Rattle.std.specs.Prelude.{IfOk};
+ghost use Rattle.std.specs.List.{AllByRecursion};
 ghost use Rattle.gi_facts.specs.Grammar.{IsWritable};
 
 use super::texts::add_receipt;
@@ -25,6 +26,18 @@ pub fn fact_of(alloc: Global, text: &str) -> Result<Fact, FactFault>
     decode_fact(alloc, text.as_bytes())
 }
 
+/// The facts that the words of a text are.
+fn facts_of(alloc: Global, text: &str) -> Result<Vec<Fact>, FactFault>
+    ensures { IfOk result (λ facts. AllByRecursion IsWritable facts.items) }
+{
+    let mut facts = Vec::new(alloc);
+    for word in text.split_ascii_whitespace() {
+        let fact = fact_of(alloc, word)?;
+        facts.push(fact).map_err(AllocError::from)?;
+    }
+    Ok(facts)
+}
+
 /// Adds `ok` and a number, or why a call was refused.
 fn add_number(answer: Result<usize, StoreFault>, text: &mut String) -> Result<(), Fault> {
     match answer {
@@ -39,25 +52,25 @@ fn load(book: &mut BookStore<MemStore>) -> Result<usize, StoreFault> {
     Ok(book.load()?.len())
 }
 
-/// Saves a fact under a number, which is given.
-fn save_next(book: &mut BookStore<MemStore>, n: u32, fact: &Fact) -> Result<usize, StoreFault>
-    requires { IsWritable fact.now }
+/// Saves facts as one row, the first one under this number: how many there are in the book.
+fn save_batch(book: &mut BookStore<MemStore>, n: u32, facts: &[Fact]) -> Result<usize, StoreFault>
+    requires { AllByRecursion IsWritable facts.now }
 {
-    book.save_next(n, fact)?;
-    Ok(n as usize)
+    book.save_batch(n, facts)?;
+    Ok(book.count().unwrap_or(0) as usize)
 }
 
-/// Saves the fact of a text under a number.
+/// Saves the facts of a text as one row.
 fn save_text(
     alloc: Global,
     book: &mut BookStore<MemStore>,
     n: u32,
-    fact: &str,
+    facts: &str,
     text: &mut String,
 ) -> Result<bool, Fault> {
-    match fact_of(alloc, fact) {
-        Ok(fact) => {
-            add_number(save_next(book, n, &fact), text)?;
+    match facts_of(alloc, facts) {
+        Ok(facts) => {
+            add_number(save_batch(book, n, &facts), text)?;
             Ok(true)
         }
         Err(_) => Ok(false),
@@ -74,7 +87,7 @@ pub fn book_call(
     let mut words = Words::of(line);
     match words.next() {
         "load" => add_number(load(book), text)?,
-        "save_next" => match words.number() {
+        "save_batch" => match words.number() {
             Some(n) => return save_text(alloc, book, n, words.rest(), text),
             None => return Ok(false),
         },

@@ -1,10 +1,15 @@
-use Rattle.std.proofs.Common.{rules, ◌≡◌, Some}
-use Rattle.gi_desk.specs.Queries.{fact_at}
-use Rattle.gi_office.proofs.Standing.{read_stands}
+use Rattle.std.proofs.Common.{rules, ◌≡◌, inr, length, refl, subst, sym}
+use Rattle.gi_store.specs.Book.{counted}
+use Rattle.gi_office.specs.Saving.{GoesOnBy, next_after}
 use Rattle.gi_office.proofs.writing.find.Goals as goal
 
-pub returns-then-is_there-clause-stands : goal.returns-then-is_there-clause-stands
-returns-then-is_there-clause-stands g c clean =
-    let items = c.in_ok-facts.facts.items in
-    let is : fact_at items c.args.n ≡ Some c.args.fact.now = search (rules, c.is_there.ensures, c.if-is_there.true) in
-    read_stands c.args.n c.args.fact.now _ items (c.in_ok-facts.ensures.facts clean) is
+pub returns-clause-refused : goal.returns-clause-refused
+returns-clause-refused g c clean =
+    let all = c.in_ok-all.all.items in
+    let told : c.next_after.result ≡ next_after (counted (length all)) = search rules in
+    inr (record {
+      all = all;
+      read = c.in_ok-all.ensures.facts clean;
+      others = λ count goes. c.in-None.ensures.others refl count (subst (λ facts. GoesOnBy c.args.n c.args.facts.now facts count) (sym c.deref.ensures.value) goes);
+      told = told;
+    })
