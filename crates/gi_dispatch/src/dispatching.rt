@@ -60,7 +60,6 @@ fn explain<W: Write, E: Write>(
     }
 }
 
-/// Writes what is wrong with the words of a command.
 fn point_out<E: Write>(mistake: Mistake<'_>, errors: &mut E) -> Result<(), ProgramFault>
     ensures { result ≡ Err (ProgramFault.Command Fault.CommandLine) }
 {

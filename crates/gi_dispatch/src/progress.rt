@@ -10,6 +10,8 @@ const LONG: usize = 1000;
 pub struct Progress {
     errors: Stderr,
     is_told: bool,
+    /// How many lines it was last told are made.
+    lines: usize,
     hundredths: usize,
 }
 
@@ -19,13 +21,17 @@ impl Progress {
         Progress {
             errors,
             is_told,
+            lines: 0,
             hundredths: 0,
         }
     }
 }
 
 impl Watch for Progress {
+    ghost told = { λ progress. progress.lines };
+
     fn made(&mut self, lines: usize, all: usize) {
+        self.lines = lines;
         let hundredths = lines / (all / 100 + 1);
         if self.is_told && all >= LONG && hundredths > self.hundredths {
             self.hundredths = hundredths;

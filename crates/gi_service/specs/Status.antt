@@ -21,7 +21,7 @@ turn_status (Marked refusals.OutOfMemory) = 4
 turn_status _ = 1
 
 abbrev pub serve_status : ServeFault → ℕ
-serve_status (Turn side why) = turn_status why
+serve_status (Turn why) = turn_status why
 serve_status (Unreconciled unreconciled.OutOfMemory) = 4
 serve_status OutOfMemory = 4
 serve_status _ = 1

@@ -19,13 +19,11 @@ pub enum ProgramFault {
     Served(ServeFault),
 }
 
-/// The exit status where a running office gave up: 3 for a book that failed, 4 for want of memory,
-/// else 1.
 fn status_of_served(fault: &ServeFault) -> u8
     ensures { result ≡ serve_status fault.now }
 {
     match fault {
-        ServeFault::Turn { side: _, fault } => match fault {
+        ServeFault::Turn(fault) => match fault {
             SaveFault::Store(StoreFault::OutOfMemory) => 4,
             SaveFault::Store(_) => 3,
             SaveFault::Office(OfficeFault::OutOfMemory) => 4,

@@ -14,7 +14,6 @@ use std::io::{Read, Write};
 use std::sync::Wait;
 use std::thread::Threads;
 
-/// The script that the reader has left.
 fn script_of<R: Read>(alloc: Global, input: &mut R) -> Result<Script, Fault>
     ensures script { IfOk result (λ script. IfSome (R.remaining input.old) (IsInputOf script)) }
     ensures fault { IfErr result (λ fault. IfSome (R.remaining input.old) (λ bytes. IsScriptFault bytes fault)) }
@@ -23,7 +22,6 @@ fn script_of<R: Read>(alloc: Global, input: &mut R) -> Result<Script, Fault>
     Ok(read_office_script(alloc, bytes.as_slice())?)
 }
 
-/// What both offices make of the script that the reader has left.
 fn text_of<R: Read, T: Threads + Wait + Sync, V: Watch>(
     rt: &HostRuntime,
     threads: &T,
@@ -58,7 +56,6 @@ fn text_of<R: Read, T: Threads + Wait + Sync, V: Watch>(
     }
 }
 
-/// Writes the text, and answers how the offices ended.
 fn tell<W: Write>(served: Served, output: &mut W) -> Result<(), ProgramFault>
     ensures written { OnOk result (Appends (W.contents output.old) (W.contents output.new) (string_bytes served.text)) }
     ensures whole { OnOk result (served.end ≡ Ok tt) }

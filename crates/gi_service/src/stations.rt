@@ -19,7 +19,6 @@ use std::alloc::Global;
 use std::sync::Wait;
 use std::thread::Threads;
 
-/// The desk of these facts, all saved.
 fn desk_of<R: Role>(alloc: Global, point: Code, facts: Vec<Fact>) -> Result<Desk<R>, Fault>
     ensures saved { IfOk result (λ desk. desk.saved ≡ length desk.facts) }
     ensures runs { IfOk result (λ desk. desk.halted ≡ false) }
@@ -29,7 +28,6 @@ fn desk_of<R: Role>(alloc: Global, point: Code, facts: Vec<Fact>) -> Result<Desk
     Ok(Desk::replay(alloc, calendar, point, facts)?)
 }
 
-/// The desk of a book's facts, and the book, which is loaded.
 fn station<R: Role, P: Place>(
     alloc: Global,
     point: Code,

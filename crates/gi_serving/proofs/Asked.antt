@@ -1,6 +1,6 @@
 -- The word of a call is that of the reply which its seat noted.
-use Rattle.std.proofs.Common.{◌≡◌, inl, inr, refl, subst, ◌++◌, ◌∷◌, [], List, true, false, is_some, Option, None, Some, Result, Ok, Err, rules}
-use Rattle.std.specs.Prelude.{IfOk}
+use Rattle.std.proofs.Common.{◌≡◌, inl, inr, refl, subst, sym, ◌++◌, ◌∷◌, [], List, true, false, is_some, Option, None, Some, Result, Ok, Err, rules}
+use Rattle.std.specs.Prelude.{IfOk, IsOk}
 use Rattle.gi_desk.specs.declared.call.Call.{Call}
 use Rattle.gi_office.specs.Keeping.{SeatState}
 use Rattle.gi_office.specs.declared.office_fault.OfficeFault.{OfficeFault}
@@ -29,3 +29,8 @@ asked_last side old new others main after call answer word taken given h is some
 pub both_known : {T E : Type 0} (r : Result T E) (P Q R : T → Type 0) → ((x : T) → P x → Q x → R x) → IfOk r P → IfOk r Q → IfOk r R
 both_known (Ok x) P Q R of p q = of x p q
 both_known (Err e) P Q R of p q = tt
+
+-- a fact of an `Ok`, of the value that it is known to be
+pub of_value : {T E : Type 0} (r : Result T E) (x : T) (P : T → Type 0) → IsOk r → IfOk r (λ one. x ≡ one) → IfOk r P → P x
+of_value (Ok one) x P ok same p = subst P (sym same) p
+of_value (Err e) x P ok same p = let no : false ≡ true = ok in absurd cc

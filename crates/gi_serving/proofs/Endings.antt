@@ -1,45 +1,95 @@
--- How it ended, from what closing both offices came to.
-use Rattle.std.proofs.Common.{◌≡◌, ℕ, ◌+◌, List, Result, inl, inr, sym, subst}
+-- How it ended, from what was made and what closing both offices came to.
+use Rattle.std.proofs.Common.{arith, ◌≡◌, ℕ, ◌+◌, ◌-◌, List, [], ◌∷◌, drop, length, map, Result, Ok, Err, inl, inr, ap, ◌∙◌, sym, subst}
+use Rattle.std.specs.List.{range_with_len}
+use Rattle.std.proofs.lemmas.List.{length-append}
+use Rattle.std.proofs.lemmas.List.FromFn.{length-map-range_with_len}
 use Rattle.gi_office.specs.Keeping.{SeatState}
+use Rattle.gi_office.specs.Opening.{new_seat, new_seats}
+use Rattle.gi_office.specs.Settling.{SettledState}
+use Rattle.gi_office.specs.declared.unreconciled.Unreconciled.{Unreconciled}
+use Rattle.gi_office.specs.declared.unsettled.Unsettled.{Unsettled}
 use Rattle.gi_script.specs.declared.line.Line.{Line}
-use Rattle.gi_serving.specs.Closing.{IsClosed}
-use Rattle.gi_serving.specs.Ending.{AreAllSeats, IsCut, IsOver, IsTold}
-use Rattle.gi_serving.specs.Runs.{TellsAll, TellsFirst, pieces}
+use Rattle.gi_serving.specs.Closing.{AreLastLines, IsClosed, end_of}
+use Rattle.gi_serving.specs.Ending.{AreSamePlaces, Closes, IsCut, IsOver, IsTold, place_of}
+use Rattle.gi_serving.specs.Making.{OfficesState, Runs, RunsSome, new_offices}
+use Rattle.gi_serving.specs.Runs.{pieces}
 use Rattle.gi_serving.specs.declared.serve_fault.ServeFault.{ServeFault}
-use Rattle.gi_serving.proofs.Walking.{whole_first}
+use Rattle.gi_serving.specs.declared.serve_fault.ServeFault.TheVariants as faults
 
-pub cut : (sessions : ℕ) (lines : List Line) (text : List ℕ) (end : Result (Unit {0}) ServeFault) → TellsFirst lines text → IsCut end → IsOver sessions lines text end
-cut sessions lines text end told h = inl (record { told = told; cut = h })
+pub cut : (sessions count : ℕ) (lines : List Line) (text : List ℕ) (end : Result (Unit {0}) ServeFault) → RunsSome sessions lines count (new_offices sessions) text → IsCut end → IsOver sessions lines text end
+cut sessions count lines text end some h = inl (record {
+  reached = some.0;
+  runs = record { made = some.1.made; left = pieces (drop count lines); all = some.1.all; runs = some.1.runs };
+  cut = h;
+})
 
-pub counted_so : (sessions counted : ℕ) (lines : List Line) (text : List ℕ) (end : Result (Unit {0}) ServeFault) → counted ≡ sessions → IsOver counted lines text end → IsOver sessions lines text end
-counted_so sessions counted lines text end same h = subst (λ (n : ℕ). IsOver n lines text end) same h
+pub closes : (parts peer_parts sessions : ℕ) (reached : OfficesState) (old last new : List ℕ) (end result : Result (Unit {0}) ServeFault)
+    → IsClosed parts (sessions + 1) reached.initiating.seats peer_parts (sessions + 1) reached.matching.seats last end → IsTold old last end new result
+    → Closes parts peer_parts sessions reached old new result
+closes parts peer_parts sessions reached old last new end result closed (inl h) = inl h
+closes parts peer_parts sessions reached old last new end result closed (inr h) = inr (record {
+  last = last;
+  closed = subst (λ (e : Result (Unit {0}) ServeFault). IsClosed parts (sessions + 1) reached.initiating.seats peer_parts (sessions + 1) reached.matching.seats last e) (sym h.1) closed;
+  added = h.0;
+})
+
+-- what closing comes to is no cut
+not_cut : (parts seats : ℕ) (handed : List SeatState) (peer_parts peer_seats : ℕ) (peer_handed : List SeatState) (last : List ℕ) (end : Result (Unit {0}) ServeFault)
+    → IsClosed parts seats handed peer_parts peer_seats peer_handed last end → IsCut end → ⊥
+not_cut parts seats handed peer_parts peer_seats peer_handed last end closed cut = by closed.initiating closed.matching closed.last
+  where
+    ended : (e : Result (Unit {0}) ServeFault) → end ≡ e → IsCut e
+    ended e same = subst (λ (r : Result (Unit {0}) ServeFault). IsCut r) same cut
+
+    answered : (answer : Result (Unit {0}) Unreconciled) → IsCut (end_of answer) → ⊥
+    answered (Ok done) h = h
+    answered (Err fault) h = h
+
+    by : (initiating matching : Result SettledState Unsettled) → AreLastLines initiating matching last end → ⊥
+    by (Err fault) matching h = ended (Err (faults.Unsettled fault)) h.1
+    by (Ok initiating) (Err fault) h = ended (Err (faults.Unsettled fault)) h.1
+    by (Ok initiating) (Ok matching) h = answered h.answer (ended (end_of h.answer) h.end_is)
+
+pub told_so : (sessions parts peer_parts count : ℕ) (lines : List Line) (start reached : OfficesState) (text new : List ℕ) (result : Result (Unit {0}) ServeFault)
+    → start ≡ new_offices sessions → RunsSome sessions lines count start text → Closes parts peer_parts sessions reached text new result → IsCut result
+    → RunsSome sessions lines count (new_offices sessions) new
+told_so sessions parts peer_parts count lines start reached text new result first some (inl h) cut =
+    subst (λ (t : List ℕ). RunsSome sessions lines count (new_offices sessions) t) (sym h.0) (subst (λ (s : OfficesState). RunsSome sessions lines count s text) first some)
+told_so sessions parts peer_parts count lines start reached text new result first some (inr h) cut =
+    absurd (not_cut parts (sessions + 1) reached.initiating.seats peer_parts (sessions + 1) reached.matching.seats h.last result h.closed cut)
+
+-- how many seats an office has
+pub new_length : (sessions : ℕ) → length (new_seats (sessions + 1)) ≡ sessions + 1
+new_length sessions =
+    let last : List SeatState = new_seat (17 - (sessions + 1)) (sessions + 1) ∷ [] in
+    let others : List SeatState = map (new_seat 1) (range_with_len 1 ((sessions + 1) - 1)) in
+    let count : length others ≡ (sessions + 1) - 1 = length-map-range_with_len (new_seat 1) 1 ((sessions + 1) - 1) in
+    omega (arith, length-append others last, count)
 
 pub over :
-    (sessions parts peer_parts : ℕ) (lines : List Line) (front last text : List ℕ) (handed peer_handed : List SeatState) (end result : Result (Unit {0}) ServeFault)
-    → TellsAll (pieces lines) front → parts ≡ 16 → peer_parts ≡ 16 → AreAllSeats (sessions + 1) handed → AreAllSeats (sessions + 1) peer_handed
-    → IsClosed parts (sessions + 1) handed peer_parts (sessions + 1) peer_handed last end
-    → IsTold front last end text result
-    → IsOver sessions lines text result
-over sessions parts peer_parts lines front last text handed peer_handed end result told whole peer_whole all peer_all closed (inl h) =
-    inl (record { told = whole_first lines text (subst (λ (t : List ℕ). TellsAll (pieces lines) t) (sym h.0) told); cut = h.1 })
-over sessions parts peer_parts lines front last text handed peer_handed end result told whole peer_whole all peer_all closed (inr h) =
+    (sessions parts peer_parts count : ℕ) (lines : List Line) (start reached : OfficesState) (text new : List ℕ) (result : Result (Unit {0}) ServeFault)
+    → start ≡ new_offices sessions → parts ≡ 16 → peer_parts ≡ 16
+    → AreSamePlaces start.initiating.seats reached.initiating.seats → AreSamePlaces start.matching.seats reached.matching.seats
+    → Runs sessions (pieces lines) start text reached → RunsSome sessions lines count start text
+    → Closes parts peer_parts sessions reached text new result
+    → IsOver sessions lines new result
+over sessions parts peer_parts count lines start reached text new result first whole peer_whole ours theirs runs some (inl h) =
+    cut sessions count lines new result
+    (subst (λ (t : List ℕ). RunsSome sessions lines count (new_offices sessions) t) (sym h.0) (subst (λ (s : OfficesState). RunsSome sessions lines count s text) first some)) h.1
+over sessions parts peer_parts count lines start reached text new result first whole peer_whole ours theirs runs some (inr h) =
     inr (record {
-      front = front;
-      last = last;
-      text_is = h.0;
-      told = told;
-      handed = handed;
-      all = all;
-      peer_handed = peer_handed;
-      peer_all = peer_all;
-      closed = closed_so;
+      front = text;
+      last = h.last;
+      text_is = h.added;
+      reached = reached;
+      runs = subst (λ (s : OfficesState). Runs sessions (pieces lines) s text reached) first runs;
+      all = ours ∙ ap (λ (s : OfficesState). map place_of s.initiating.seats) first;
+      peer_all = theirs ∙ ap (λ (s : OfficesState). map place_of s.matching.seats) first;
+      closed = both_so;
     })
   where
-    whole_so : IsClosed 16 (sessions + 1) handed peer_parts (sessions + 1) peer_handed last end
-    whole_so = subst (λ (p : ℕ). IsClosed p (sessions + 1) handed peer_parts (sessions + 1) peer_handed last end) whole closed
+    whole_so : IsClosed 16 (sessions + 1) reached.initiating.seats peer_parts (sessions + 1) reached.matching.seats h.last result
+    whole_so = subst (λ (p : ℕ). IsClosed p (sessions + 1) reached.initiating.seats peer_parts (sessions + 1) reached.matching.seats h.last result) whole h.closed
 
-    both_so : IsClosed 16 (sessions + 1) handed 16 (sessions + 1) peer_handed last end
-    both_so = subst (λ (p : ℕ). IsClosed 16 (sessions + 1) handed p (sessions + 1) peer_handed last end) peer_whole whole_so
-
-    closed_so : IsClosed 16 (sessions + 1) handed 16 (sessions + 1) peer_handed last result
-    closed_so = subst (λ (e : Result (Unit {0}) ServeFault). IsClosed 16 (sessions + 1) handed 16 (sessions + 1) peer_handed last e) (sym h.1) both_so
+    both_so : IsClosed 16 (sessions + 1) reached.initiating.seats 16 (sessions + 1) reached.matching.seats h.last result
+    both_so = subst (λ (p : ℕ). IsClosed 16 (sessions + 1) reached.initiating.seats p (sessions + 1) reached.matching.seats h.last result) peer_whole whole_so

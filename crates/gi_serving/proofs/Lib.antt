@@ -3,4 +3,5 @@ mod Dealing
 mod Endings
 mod Ordering
 mod Places
+mod Turning
 mod Walking

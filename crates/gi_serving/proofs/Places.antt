@@ -1,19 +1,16 @@
 -- No call takes a seat's number or its parts.
-use Rattle.std.proofs.Common.{◌≡◌, ◌⊎◌, ◌<◌, ℕ, suc, ◌+◌, ◌-◌, List, [], ◌∷◌, ◌++◌, length, map, Result, Ok, Err, inl, inr, refl, ap, append_assoc, ◌∙◌, sym, arith}
+use Rattle.std.proofs.Common.{◌≡◌, ◌⊎◌, ◌<◌, ℕ, suc, ◌+◌, List, [], ◌∷◌, ◌++◌, append-nil, length, map, take, Vec, Result, Ok, Err, inl, inr, false, refl, ap, append_assoc, subst, ◌∙◌, sym, arith}
 use Rattle.std.proofs.lemmas.List.{length-append, length-map, map-append}
-use Rattle.std.proofs.lemmas.List.FromFn.{length-map-range_with_len}
-use Rattle.std.specs.List.{range_with_len}
 use Rattle.sqlite_trees.specs.declared.store.Store.{Ghosts}
 use Rattle.gi_pairs.specs.declared.side.Side.{Side}
 use Rattle.gi_facts.specs.declared.fact.Fact.{Fact}
 use Rattle.gi_desk.specs.declared.call.Call.{Call}
-use Rattle.gi_desk.specs.declared.call.Call.TheVariants.{Submit}
+use Rattle.gi_desk.specs.declared.call.Call.TheVariants.{MarkSaved, Submit}
 use Rattle.gi_store.specs.Book.{BookState}
 use Rattle.gi_store.specs.declared.store_fault.StoreFault.{StoreFault}
 use Rattle.gi_office.specs.Entering.{IsAnswered, noted}
 use Rattle.gi_office.specs.Keeping.{SeatState}
-use Rattle.gi_office.specs.Opening.{new_seat, new_seats}
-use Rattle.gi_office.specs.Saving.{Follows, Halts, Marks, StandsMarked, StandsNot, TakesTurn}
+use Rattle.gi_office.specs.Saving.{AreMarked, Follows, Halts, Marks, MarksAll, StandMarked, StandNot, StopsMarking, TakesTurn}
 use Rattle.gi_office.specs.Serving.{AreServed, AreSubmitted, ServedState, SessionState}
 use Rattle.gi_office.specs.declared.look.Look.{Look}
 use Rattle.gi_office.specs.declared.look.Look.TheVariants as looks
@@ -23,8 +20,8 @@ use Rattle.gi_office.specs.declared.save_fault.SaveFault.{SaveFault}
 use Rattle.gi_office.specs.declared.save_fault.SaveFault.TheVariants as savings
 use Rattle.gi_office.specs.declared.turn.Turn.{Turn}
 use Rattle.gi_office.specs.declared.turn.Turn.TheVariants as turns
-use Rattle.gi_serving.specs.Ending.{AreAllSeats, AreSamePlaces, place_of}
-use Rattle.gi_serving.specs.Submitting.{seat_in, seat_of}
+use Rattle.gi_serving.specs.Ending.{AreSamePlaces, place_of}
+use Rattle.gi_serving.specs.Submitting.{SessionsSubmit, begun_by, bodies_in, goes_on, receipts_in, seat_in, seat_of, short_of}
 
 -- ---- one seat
 
@@ -40,6 +37,20 @@ marked side n fact old (Err (savings.Store fault)) new h = absurd h
 marked side n fact old (Err (savings.Office fault)) new h = ap place_of h.0
 marked side n fact old (Err (savings.Marked refusal)) new h = ap place_of h.2
 
+all_marked : (side : Side) (n : ℕ) (facts : List Fact) (receipts : List Receipt) (old new : SeatState) → AreMarked side n facts receipts old new → place_of new ≡ place_of old
+all_marked side n [] [] old new h = ap place_of h
+all_marked side n [] (receipt ∷ receipts) old new h = absurd h
+all_marked side n (fact ∷ facts) [] old new h = absurd h
+all_marked side n (fact ∷ facts) (receipt ∷ receipts) old new h = all_marked side (n + 1) facts receipts (noted old (MarkSaved n fact) receipt) new h.2
+
+not_all : (side : Side) (n : ℕ) (facts : List Fact) (old : SeatState) (fault : SaveFault) (new : SeatState) → StopsMarking side n facts old fault new → place_of new ≡ place_of old
+not_all side n facts old fault new h = marked side (n + length h.marked) h.fact h.between (Err fault) new h.refused ∙ all_marked side n h.marked h.receipts old h.between h.noted
+
+marked_all : (side : Side) (n : ℕ) (facts : List Fact) (old : SeatState) (result : Result Turn SaveFault) (new : SeatState) → MarksAll side n facts old result new → place_of new ≡ place_of old
+marked_all side n facts old (Ok turns.Nothing) new h = absurd h
+marked_all side n facts old (Ok (turns.Saved last)) new h = all_marked side n facts (h.0 ++ last ∷ []) old new h.1
+marked_all side n facts old (Err fault) new h = not_all side n facts old fault new h
+
 stopped : (side : Side) (fault : StoreFault) (old : SeatState) (result : Result Turn SaveFault) (new : SeatState) → Halts side fault old result new → place_of new ≡ place_of old
 stopped side fault old (Ok turn) new h = absurd h
 stopped side fault old (Err savings.Halted) new h = absurd h
@@ -50,10 +61,11 @@ stopped side fault old (Err (savings.Marked refusal)) new h = absurd h
 followed : {S : Type 0} (side : Side) (store : Ghosts S) (before after : BookState S) (look : Look) (old : SeatState) (result : Result Turn SaveFault) (new : SeatState) → Follows side store before after look old result new → place_of new ≡ place_of old
 followed side store before after looks.Halted old result new h = ap place_of h.2
 followed side store before after looks.Nothing old result new h = ap place_of h.2
-followed side store before after (looks.Next n fact) old result new h = by h.told
+followed side store before after (looks.Next n facts) old result new (inl none) = ap place_of none.2
+followed side store before after (looks.Next n facts) old result new (inr saves) = by saves.told
   where
-    by : StandsMarked side store before after n fact old result new ⊎ StandsNot side store before after n fact old result new → place_of new ≡ place_of old
-    by (inl stands) = marked side n fact old result new stands.marks
+    by : StandMarked side store before after n facts saves.front old result new ⊎ StandNot side store before after n facts saves.front old result new → place_of new ≡ place_of old
+    by (inl stand) = marked_all side n (take stand.count facts) old result new stand.marks
     by (inr refused) = stopped side refused.fault old result new refused.halts
 
 pub turned : {S : Type 0} (side : Side) (store : Ghosts S) (before after : BookState S) (old : SeatState) (result : Result Turn SaveFault) (new : SeatState) → TakesTurn side store before after old result new → place_of new ≡ place_of old
@@ -80,17 +92,6 @@ same_length old new same = sym (length-map new place_of) ∙ ap (length {A = ℕ
 pub still_some : (old new : List SeatState) → AreSamePlaces old new → 0 < length old → 0 < length new
 still_some old new same some = omega (arith, some, same_length old new same)
 
-pub all_length : (sessions : ℕ) (handed : List SeatState) → AreAllSeats (sessions + 1) handed → length handed ≡ sessions + 1
-all_length before handed all =
-    let last : List SeatState = new_seat (17 - (before + 1)) (before + 1) ∷ [] in
-    let others : List SeatState = map (new_seat 1) (range_with_len 1 ((before + 1) - 1)) in
-    let count : length others ≡ (before + 1) - 1 = length-map-range_with_len (new_seat 1) 1 ((before + 1) - 1) in
-    omega (arith, same_length (new_seats (before + 1)) handed all, length-append others last, count)
-
-pub still_all : (sessions counted : ℕ) (old new : List SeatState) → counted ≡ sessions → AreAllSeats (sessions + 1) old → AreSamePlaces old new → AreAllSeats (counted + 1) new
-still_all sessions counted old new count all same =
-    same ∙ all ∙ ap (λ (n : ℕ). map place_of (new_seats (n + 1))) (sym count)
-
 -- ---- sessions
 
 submitted : (side : Side) (old : SeatState) (bodies : List (List ℕ)) (receipts : List Receipt) (new : SeatState) → AreSubmitted side old bodies receipts new → place_of new ≡ place_of old
@@ -106,37 +107,71 @@ served side may_end number (session ∷ sessions) (one ∷ others) h =
     ap (λ (place : ℕ × ℕ). place ∷ map place_of (map seat_in others)) (submitted side session.seat session.bodies one.receipts one.seat h.0.submitted)
     ∙ ap (λ (places : List (ℕ × ℕ)). place_of session.seat ∷ places) (served side may_end (number + 1) sessions others h.1)
 
-pub served_length : (side : Side) (may_end : ℕ → ℕ → Type 0) (number : ℕ) (sessions : List SessionState) (all : List ServedState) → AreServed side may_end number sessions all → length all ≡ length sessions
+served_length : (side : Side) (may_end : ℕ → ℕ → Type 0) (number : ℕ) (sessions : List SessionState) (all : List ServedState) → AreServed side may_end number sessions all → length all ≡ length sessions
 served_length side may_end number [] [] h = refl
 served_length side may_end number [] (one ∷ others) h = absurd h
 served_length side may_end number (session ∷ sessions) [] h = absurd h
 served_length side may_end number (session ∷ sessions) (one ∷ others) h = ap (λ (n : ℕ). suc n) (served_length side may_end (number + 1) sessions others h.1)
 
-pub served_fewer : (side : Side) (may_end : ℕ → ℕ → Type 0) (number : ℕ) (old front : List SeatState) (main : SeatState) (sessions : List SessionState) (all : List ServedState)
-    → old ≡ front ++ main ∷ [] → map seat_of sessions ≡ front → AreServed side may_end number sessions all → length all + 1 ≡ length old
-served_fewer side may_end number old front main sessions all taken seats h =
-    let many : length all ≡ length sessions = served_length side may_end number sessions all h in
-    let same : length (map seat_of sessions) ≡ length front = ap length seats in
-    omega (arith, many, length-map sessions seat_of, same, length-append front (main ∷ []), ap length taken)
-
--- all seats but the main one were those of the sessions
-pub served_places : (side : Side) (may_end : ℕ → ℕ → Type 0) (number : ℕ) (old front new : List SeatState) (main : SeatState) (sessions : List SessionState) (all : List ServedState)
-    → old ≡ front ++ main ∷ [] → map seat_of sessions ≡ front → AreServed side may_end number sessions all → new ≡ map seat_in all ++ main ∷ [] → AreSamePlaces old new
-served_places side may_end number old front new main sessions all taken seats h given =
-    ap (map place_of) given
-    ∙ map-append place_of (map seat_in all) (main ∷ [])
-    ∙ ap (λ (places : List (ℕ × ℕ)). places ++ place_of main ∷ []) (served side may_end number sessions all h ∙ ap (map place_of) seats)
-    ∙ sym (map-append place_of front (main ∷ []))
-    ∙ sym (ap (map place_of) taken)
+-- ---- sessions that begin
 
 -- one session more has its bodies
-pub one_begun : (sessions pushed : List SessionState) (session : SessionState) (seat : SeatState) (left rest all : List SeatState)
-    → pushed ≡ sessions ++ session ∷ [] → session.seat ≡ seat → left ≡ seat ∷ rest → map seat_of sessions ++ left ≡ all
-    → map seat_of pushed ++ rest ≡ all
-one_begun sessions pushed session seat left rest all push same next h =
-    ap (λ (ss : List SessionState). map seat_of ss ++ rest) push
-    ∙ ap (λ (ss : List SeatState). ss ++ rest) (map-append seat_of sessions (session ∷ []))
-    ∙ append_assoc (map seat_of sessions) (session.seat ∷ []) rest
-    ∙ ap (λ (s : SeatState). map seat_of sessions ++ s ∷ rest) same
-    ∙ ap (λ (l : List SeatState). map seat_of sessions ++ l) (sym next)
+pub one_begun : {Z : Type 0} (sessions pushed : List SessionState) (session : SessionState) (seat : SeatState) (left rest : List SeatState) (list : Vec (List ℕ) Z) (lists later : List (Vec (List ℕ) Z)) (all : List SessionState)
+    → pushed ≡ sessions ++ session ∷ [] → session.seat ≡ seat → session.bodies ≡ list.items → left ≡ seat ∷ rest → lists ≡ list ∷ later
+    → sessions ++ begun_by left (map bodies_in lists) ≡ all → pushed ++ begun_by rest (map bodies_in later) ≡ all
+one_begun sessions pushed session seat left rest list lists later all push same bodies next next_list h =
+    ap (λ (ss : List SessionState). ss ++ begun_by rest (map bodies_in later)) push
+    ∙ append_assoc sessions (session ∷ []) (begun_by rest (map bodies_in later))
+    ∙ ap (λ (s : SeatState). sessions ++ record { seat = s; bodies = session.bodies } ∷ begun_by rest (map bodies_in later)) same
+    ∙ ap (λ (bs : List (List ℕ)). sessions ++ record { seat = seat; bodies = bs } ∷ begun_by rest (map bodies_in later)) bodies
+    ∙ ap (λ (ls : List (Vec (List ℕ) _)). sessions ++ begun_by (seat ∷ rest) (map bodies_in ls)) (sym next_list)
+    ∙ ap (λ (ss : List SeatState). sessions ++ begun_by ss (map bodies_in lists)) (sym next)
     ∙ h
+
+pub all_begun : (sessions all : List SessionState) (left : List SeatState) (given : List (List (List ℕ))) → left ≡ [] → sessions ++ begun_by left given ≡ all → sessions ≡ all
+all_begun sessions all left given none h = sym (append-nil sessions) ∙ ap (λ (ss : List SeatState). sessions ++ begun_by ss given) (sym none) ∙ h
+
+-- each seat began a session, where there is a list for each
+seats_begun : (seats : List SeatState) (given : List (List (List ℕ))) → length seats ≡ length given → map seat_of (begun_by seats given) ≡ seats
+seats_begun [] given same = refl
+seats_begun (seat ∷ seats) [] same = absurd (omega (arith, same))
+seats_begun (seat ∷ seats) (bodies ∷ given) same = ap (λ (ss : List SeatState). seat ∷ ss) (seats_begun seats given (omega (arith, same)))
+
+front_length : (old front : List SeatState) (main : SeatState) (given : List (List (List ℕ))) → old ≡ front ++ main ∷ [] → length old ≡ length given + 1 → length front ≡ length given
+front_length old front main given taken many = omega (arith, ap length taken, length-append front (main ∷ []), many)
+
+-- as many are served as lists were given
+pub served_all : (side : Side) (old front : List SeatState) (main : SeatState) (given : List (List (List ℕ))) (sessions : List SessionState) (all : List ServedState)
+    → old ≡ front ++ main ∷ [] → length old ≡ length given + 1 → sessions ≡ begun_by front given → AreServed side goes_on 1 sessions all → length all ≡ length given
+served_all side old front main given sessions all taken many begun h =
+    let same : length front ≡ length given = front_length old front main given taken many in
+    let seats : map seat_of (begun_by front given) ≡ front = seats_begun front given same in
+    omega (arith, served_length side goes_on 1 sessions all h, ap length begun, length-map (begun_by front given) seat_of, ap length seats, same)
+
+-- all seats but the main one were those of the sessions
+pub served_places : (side : Side) (old front new : List SeatState) (main : SeatState) (given : List (List (List ℕ))) (sessions : List SessionState) (all : List ServedState)
+    → old ≡ front ++ main ∷ [] → length old ≡ length given + 1 → sessions ≡ begun_by front given → AreServed side goes_on 1 sessions all → new ≡ map seat_in all ++ main ∷ [] → AreSamePlaces old new
+served_places side old front new main given sessions all taken many begun h back =
+    ap (map place_of) back
+    ∙ map-append place_of (map seat_in all) (main ∷ [])
+    ∙ ap (λ (places : List (ℕ × ℕ)). places ++ place_of main ∷ []) (served side goes_on 1 sessions all h ∙ ap (map place_of) seats)
+    ∙ sym (map-append place_of front (main ∷ []))
+    ∙ sym (ap (map place_of) taken)
+  where
+    seats : map seat_of sessions ≡ front
+    seats = ap (map seat_of) begun ∙ seats_begun front given (front_length old front main given taken many)
+
+-- what the sessions made of the seats
+pub submit_so : (side : Side) (old front new : List SeatState) (main : SeatState) (given : List (List (List ℕ))) (sessions : List SessionState) (all : List ServedState) (receipts : List (List Receipt))
+    → old ≡ front ++ main ∷ [] → sessions ≡ begun_by front given → AreServed side goes_on 1 sessions all → new ≡ map seat_in all ++ main ∷ [] → receipts ≡ map receipts_in all → short_of false all ≡ false
+    → SessionsSubmit side given old receipts new
+submit_so side old front new main given sessions all receipts taken begun h back are well = record {
+  others = front;
+  main = main;
+  served = all;
+  old_is = taken;
+  new_is = back;
+  submitted = subst (λ (ss : List SessionState). AreServed side goes_on 1 ss all) begun h;
+  receipts_are = are;
+  memory = well;
+}

@@ -1,10 +1,11 @@
--- The first piece of the lines, and what is told of one piece more.
+-- The first piece of the lines, and a run of one piece more.
 use Rattle.std.proofs.Common.{get_or, is_none, option_map, false, true, ◌≡◌, ◌≤◌, ◌<◌, ℕ, suc, ◌+◌, max, length, drop-drop, List, [], ◌∷◌, ◌++◌, take, drop, Option, None, Some, refl, ap, append_assoc, append-nil, ◌∙◌, sym, subst, arith}
 use Rattle.std.proofs.lemmas.List.{at_drop_all, at_drop_more, drop_all}
 use Rattle.gi_pairs.specs.declared.side.Side.{Side}
 use Rattle.gi_script.specs.declared.line.Line.{Line}
 use Rattle.gi_serving.specs.Batches.{submission}
-use Rattle.gi_serving.specs.Runs.{AddsFirst, Batch, IsFirst, Piece, Single, Tells, TellsAll, TellsFirst, TellsTo, joined, lead, lead_by, pieces, put}
+use Rattle.gi_serving.specs.Making.{AddsFirst, MakesAndSaves, MakesBatch, MakesFirst, MakesLine, OfficesState, Runs, RunsSome, RunsTo, SavesAndSends}
+use Rattle.gi_serving.specs.Runs.{Batch, Piece, Single, joined, lead, lead_by, pieces, put, side_in}
 
 join : (line : Line) (later : List Line) → joined line (pieces later) ≡ Batch (line ∷ take (lead later) later) ∷ pieces (drop (lead later) later)
 join line [] = refl
@@ -32,53 +33,56 @@ single_first line later none = by (submission line.instruction) none
     by None none = refl
     by (Some it) none = absurd (omega (arith, none))
 
-pub one_more : (made : List Piece) (piece : Piece) (text said : List ℕ) → TellsAll made text → Tells piece said → TellsAll (made ++ piece ∷ []) (text ++ said)
-one_more [] piece text said all one = (said, [], one, refl, ap (λ (t : List ℕ). t ++ said) all ∙ sym (append-nil said))
-one_more (first ∷ made) piece text said all one =
-    (all.0, all.1 ++ said, all.2, one_more made piece all.1 said all.3 one, ap (λ (t : List ℕ). t ++ said) all.4 ∙ append_assoc all.0 all.1 said)
-
 -- ---- the walk over the pieces
 
-pub next_made : (lines left : List Line) (at count : ℕ) (old new : List ℕ) → left ≡ drop at lines → TellsTo lines at old → AddsFirst left count old new → TellsTo lines (at + count) new
-next_made lines left at count old new same to adds = record {
-  made = to.made ++ piece ∷ [];
-  all = to.all ∙ ap (λ (ps : List Piece). to.made ++ ps) on ∙ sym (append_assoc to.made (piece ∷ []) (pieces (drop (at + count) lines)));
-  tells = subst (λ (t : List ℕ). TellsAll (to.made ++ piece ∷ []) t) (sym adds.added) (one_more to.made piece old adds.said to.tells adds.is_first.tells);
+runs_more : (sessions : ℕ) (made : List Piece) (piece : Piece) (start now next : OfficesState) (text said : List ℕ) → Runs sessions made start text now → MakesAndSaves sessions piece now said next
+    → Runs sessions (made ++ piece ∷ []) start (text ++ said) next
+runs_more sessions [] piece start now next text said runs one =
+    (next, said, [], subst (λ (s : OfficesState). MakesAndSaves sessions piece s said next) runs.1 one, (refl, refl), ap (λ (t : List ℕ). t ++ said) runs.0 ∙ sym (append-nil said))
+runs_more sessions (first ∷ made) piece start now next text said runs one =
+    (runs.0, runs.1, runs.2 ++ said, runs.3, runs_more sessions made piece runs.0 now next runs.2 said runs.4 one, ap (λ (t : List ℕ). t ++ said) runs.5 ∙ append_assoc runs.1 runs.2 said)
+
+pub next_made : (sessions : ℕ) (lines left : List Line) (at count : ℕ) (start now next : OfficesState) (old new : List ℕ) → left ≡ drop at lines
+    → RunsTo sessions lines at start old now → AddsFirst sessions left count now old new next → RunsTo sessions lines (at + count) start new next
+next_made sessions lines left at count start now next old new same to adds = record {
+  made = to.made ++ adds.piece ∷ [];
+  all = to.all ∙ ap (λ (ps : List Piece). to.made ++ ps) on ∙ sym (append_assoc to.made (adds.piece ∷ []) (pieces (drop (at + count) lines)));
+  runs = subst (λ (t : List ℕ). Runs sessions (to.made ++ adds.piece ∷ []) start t next) (sym adds.added) (runs_more sessions to.made adds.piece start now next old adds.said to.runs adds.makes);
 }
   where
-    piece : Piece
-    piece = adds.is_first.piece
+    on : pieces (drop at lines) ≡ adds.piece ∷ pieces (drop (at + count) lines)
+    on = ap pieces (sym same) ∙ adds.first ∙ ap (λ (ls : List Line). adds.piece ∷ pieces ls) (ap (drop count) same ∙ drop-drop count at lines)
 
-    on : pieces (drop at lines) ≡ piece ∷ pieces (drop (at + count) lines)
-    on = ap pieces (sym same) ∙ adds.is_first.first ∙ ap (λ (ls : List Line). piece ∷ pieces ls) (ap (drop count) same ∙ drop-drop count at lines)
+pub begun : (sessions : ℕ) (lines : List Line) (start : OfficesState) (text : List ℕ) → text ≡ [] → RunsTo sessions lines 0 start text start
+begun sessions lines start text none = record { made = []; all = refl; runs = (none, refl) }
 
-pub begun : (lines : List Line) (text : List ℕ) → text ≡ [] → TellsTo lines 0 text
-begun lines text none = record { made = []; all = refl; tells = none }
+pub none_made : (sessions : ℕ) (lines : List Line) (told : ℕ) (start : OfficesState) (text : List ℕ) → told ≡ 0 → text ≡ [] → RunsSome sessions lines told start text
+none_made sessions lines told start text first none = (start, subst (λ (n : ℕ). RunsTo sessions lines n start text start) (sym first) (begun sessions lines start text none))
 
-pub so_far : (lines : List Line) (at : ℕ) (text : List ℕ) → TellsTo lines at text → TellsFirst lines text
-so_far lines at text to = record { made = to.made; left = pieces (drop at lines); all = to.all; tells = to.tells }
+pub so_far : (sessions : ℕ) (lines : List Line) (at told : ℕ) (start reached : OfficesState) (text new : List ℕ) → told ≡ at → new ≡ text → RunsTo sessions lines at start text reached → RunsSome sessions lines told start new
+so_far sessions lines at told start reached text new same kept to =
+    (reached, subst (λ (n : ℕ). RunsTo sessions lines n start new reached) (sym same) (subst (λ (t : List ℕ). RunsTo sessions lines at start t reached) (sym kept) to))
 
-pub to_the_end : (lines : List Line) (at : ℕ) (text : List ℕ) → length lines ≤ at → TellsTo lines at text → TellsAll (pieces lines) text
-to_the_end lines at text past to =
-    subst (λ (ps : List Piece). TellsAll ps text) (sym (to.all ∙ ap (λ (ls : List Line). to.made ++ pieces ls) (drop_all at lines past) ∙ append-nil to.made)) to.tells
-
-pub whole_first : (lines : List Line) (text : List ℕ) → TellsAll (pieces lines) text → TellsFirst lines text
-whole_first lines text all = record { made = pieces lines; left = []; all = sym (append-nil (pieces lines)); tells = all }
+pub to_the_end : (sessions : ℕ) (lines : List Line) (at : ℕ) (start reached : OfficesState) (text : List ℕ) → length lines ≤ at → RunsTo sessions lines at start text reached → Runs sessions (pieces lines) start text reached
+to_the_end sessions lines at start reached text past to =
+    subst (λ (ps : List Piece). Runs sessions ps start text reached) (sym (to.all ∙ ap (λ (ls : List Line). to.made ++ pieces ls) (drop_all at lines past) ∙ append-nil to.made)) to.runs
 
 -- ---- the first piece
 
-pub first_batch : (lines : List Line) (batch : ℕ) (text : List ℕ) → batch ≡ lead lines → 0 < batch → Tells (Batch (take batch lines)) text → IsFirst lines (max batch 1) text
-first_batch lines batch text is some tells = record {
+pub first_batch : (sessions : ℕ) (lines : List Line) (batch : ℕ) (old : OfficesState) (text : List ℕ) (new : OfficesState) → batch ≡ lead lines → 0 < batch → MakesBatch sessions (take batch lines) old text new
+    → MakesFirst sessions lines (max batch 1) old text new
+first_batch sessions lines batch old text new is some makes = record {
   piece = Batch (take batch lines);
   first = subst (λ (n : ℕ). pieces lines ≡ Batch (take n lines) ∷ pieces (drop n lines)) (sym is) (batch_first lines (subst (λ (n : ℕ). 0 < n) is some)) ∙ ap (λ (n : ℕ). Batch (take batch lines) ∷ pieces (drop n lines)) count;
-  tells = tells;
+  makes = makes;
 }
   where
     count : batch ≡ max batch 1
     count = omega (arith, some)
 
-first_one : (line : Line) (lines later : List Line) (batch : ℕ) (text : List ℕ) → lines ≡ line ∷ later → batch ≡ lead lines → batch ≡ 0 → Tells (Single line) text → IsFirst lines (max batch 1) text
-first_one line lines later batch text is counted none tells = record { piece = Single line; first = on; tells = tells }
+first_one : (sessions : ℕ) (line : Line) (lines later : List Line) (batch : ℕ) (old : OfficesState) (text : List ℕ) (new : OfficesState) → lines ≡ line ∷ later → batch ≡ lead lines → batch ≡ 0
+    → MakesLine (side_in line.instruction) line old text new → MakesFirst sessions lines (max batch 1) old text new
+first_one sessions line lines later batch old text new is counted none makes = record { piece = Single line; first = on; makes = makes }
   where
     alone : lead (line ∷ later) ≡ 0
     alone = ap lead (sym is) ∙ sym counted ∙ none
@@ -86,13 +90,21 @@ first_one line lines later batch text is counted none tells = record { piece = S
     on : pieces lines ≡ Single line ∷ pieces (drop (max batch 1) lines)
     on = ap pieces is ∙ single_first line later alone ∙ ap (λ (ls : List Line). Single line ∷ pieces (drop 1 ls)) (sym is) ∙ ap (λ (n : ℕ). Single line ∷ pieces (drop (max n 1) lines)) (sym none)
 
-pub none_first : (lines : List Line) (text : List ℕ) → text ≡ [] → TellsFirst lines text
-none_first lines text none = record { made = []; left = pieces lines; all = refl; tells = none }
+pub first_single : (sessions : ℕ) (line : Line) (lines : List Line) (batch : ℕ) (old : OfficesState) (text : List ℕ) (new : OfficesState) → 0 < length lines → line ≡ get_or lines 0 line → batch ≡ lead lines → batch ≡ 0
+    → MakesLine (side_in line.instruction) line old text new → MakesFirst sessions lines (max batch 1) old text new
+first_single sessions line [] batch old text new some at counted none makes = absurd (omega (arith, some))
+first_single sessions line (first ∷ later) batch old text new some at counted none makes =
+    first_one sessions line (first ∷ later) later batch old text new (ap (λ (l : Line). l ∷ later) (sym at)) counted none makes
 
-pub first_single : (line : Line) (lines : List Line) (batch : ℕ) (text : List ℕ) → 0 < length lines → line ≡ get_or lines 0 line → batch ≡ lead lines → batch ≡ 0 → Tells (Single line) text → IsFirst lines (max batch 1) text
-first_single line [] batch text some at counted none tells = absurd (omega (arith, some))
-first_single line (first ∷ later) batch text some at counted none tells =
-    first_one line (first ∷ later) later batch text (ap (λ (l : Line). l ∷ later) (sym at)) counted none tells
+pub first_added : (sessions : ℕ) (lines : List Line) (count : ℕ) (old between new : OfficesState) (said before after : List ℕ) → MakesFirst sessions lines count old said between → SavesAndSends between new → after ≡ before ++ said
+    → AddsFirst sessions lines count old before after new
+first_added sessions lines count old between new said before after makes saves added = record {
+  piece = makes.piece;
+  first = makes.first;
+  said = said;
+  makes = record { between = between; makes = makes.makes; saves = saves };
+  added = added;
+}
 
 -- ---- how many submissions come first
 

@@ -1,9 +1,11 @@
 -- What the main thread makes of the last seat of a side, which is its own: a call, or the turns that save; and what it was let out.
-use Rattle.std.specs.Prelude.{◌≡◌, ◌⊎◌, ℕ, List, [], ◌∷◌, ◌++◌, ◌-◌, length, slice_get, IfSome, drop, flat_map, Bool, true, false, Option, None, Some, Result, Ok, Err}
+use Rattle.std.specs.Prelude.{◌≡◌, ◌⊎◌, ℕ, List, [], ◌∷◌, ◌++◌, ◌+◌, ◌-◌, All, is_some, length, slice_get, IfSome, drop, flat_map, Bool, true, false, Option, None, Some, Result, Ok, Err}
 use Rattle.gi_carrier.specs.Carrier.{given}
 use Rattle.gi_desk.specs.declared.call.Call.{Call}
 use Rattle.gi_desk.specs.declared.call.Call.TheVariants as calls
 use Rattle.gi_desk.specs.declared.packet.Packet.{Packet}
+use Rattle.gi_desk.specs.declared.reply.Answer.TheVariants as answers
+use Rattle.gi_facts.specs.declared.fact.Fact.{Fact}
 use Rattle.gi_office.specs.Entering.{IsAnswered, IsReceipt, noted}
 use Rattle.gi_office.specs.Keeping.{IsFull, SeatState}
 use Rattle.gi_office.specs.declared.note.Note.{Note}
@@ -14,12 +16,11 @@ use Rattle.gi_office.specs.declared.save_fault.SaveFault.TheVariants as savings
 use Rattle.gi_office.specs.declared.turn.Turn.{Turn}
 use Rattle.gi_office.specs.declared.turn.Turn.TheVariants as turns
 use Rattle.gi_pairs.specs.declared.side.Side.{Side}
-use Rattle.gi_pairs.specs.declared.side.Side.TheVariants.{I, M}
 use Rattle.gi_script.specs.declared.instruction.Instruction.{Instruction}
 use Rattle.gi_script.specs.declared.instruction.Instruction.TheVariants as instructions
 use Rattle.gi_script.specs.declared.line.Line.{Line}
-use Rattle.gi_simulation.specs.Simulation.{LinkState, with_packets}
-use Rattle.gi_serving.specs.Runs.{is_made, line_text}
+use Rattle.gi_simulation.specs.Simulation.{LinkState, moved_on, with_packets}
+use Rattle.gi_serving.specs.Runs.{is_made, is_told, line_text}
 use Rattle.gi_serving.specs.Words.{word_of}
 use Rattle.gi_serving.specs.declared.word.Word.{Word}
 use Rattle.gi_serving.specs.declared.word.Word.TheVariants as words
@@ -55,21 +56,43 @@ Carries side None old word new = (new ≡ old) × (word ≡ Some words.Nothing)
 Carries side (Some body) old word new = AsksLast side old (calls.Deliver body) word new
 
 -- What an instruction makes of the seats of its side, and the word of it. What a running office does not take makes nothing.
-abbrev pub Makes : Side → Instruction → LinkState → List SeatState → Option Word → List SeatState → Type 0
-Makes side (instructions.Call at call) way old word new = AsksLast side old call word new
-Makes side (instructions.Carry at) way old word new = Carries side (given way.plan way.carrier) old word new
-Makes side (instructions.Plan at plan) way old word new = (new ≡ old) × (word ≡ None)
-Makes side (instructions.Save at count) way old word new = (new ≡ old) × (word ≡ None)
-Makes side (instructions.Deliver at packet) way old word new = (new ≡ old) × (word ≡ None)
-Makes side (instructions.Restart at keep) way old word new = (new ≡ old) × (word ≡ None)
+abbrev pub MakesSeats : Side → Instruction → LinkState → List SeatState → Option Word → List SeatState → Type 0
+MakesSeats side (instructions.Call at call) way old word new = AsksLast side old call word new
+MakesSeats side (instructions.Carry at) way old word new = Carries side (given way.plan way.carrier) old word new
+MakesSeats side (instructions.Plan at plan) way old word new = (new ≡ old) × (word ≡ None)
+MakesSeats side (instructions.Save at count) way old word new = (new ≡ old) × (word ≡ None)
+MakesSeats side (instructions.Deliver at packet) way old word new = (new ≡ old) × (word ≡ None)
+MakesSeats side (instructions.Restart at keep) way old word new = (new ≡ old) × (word ≡ None)
 
--- What a line by itself makes of the seats of both sides, by the way to its side, and its text. Those of the other side are as they
--- were.
-abbrev pub MakesLine : Side → Line → LinkState → LinkState → List SeatState → List SeatState → List ℕ → List SeatState → List SeatState → Type 0
-MakesLine I line way peer_way old peer_old text new peer_new =
-    (peer_new ≡ peer_old) × ((word : Option Word) × Makes I line.instruction way old word new × (text ≡ line_text line word))
-MakesLine M line way peer_way old peer_old text new peer_new =
-    (new ≡ old) × ((word : Option Word) × Makes M line.instruction peer_way peer_old word peer_new × (text ≡ line_text line word))
+-- what it makes of the way to its side: `carry` makes the carrier's move, and a plan line sets the plan
+abbrev pub way_after : Instruction → LinkState → LinkState
+way_after (instructions.Call at call) way = way
+way_after (instructions.Carry at) way = moved_on way
+way_after (instructions.Plan at plan) way = record { carrier = way.carrier; plan = plan }
+way_after (instructions.Save at count) way = way
+way_after (instructions.Deliver at packet) way = way
+way_after (instructions.Restart at keep) way = way
+
+-- an office under way: its seats, the main thread's last; how many of the notes of that one were sent; and the way to it
+pub record SideState : Type 0 where
+  pub seats : List SeatState
+  pub sent : ℕ
+  pub way : LinkState
+
+-- what an instruction makes of its side
+pub record Makes (side : Side) (instruction : Instruction) (old : SideState) (word : Option Word) (new : SideState) : Type 0 where
+  pub seats : MakesSeats side instruction old.way old.seats word new.seats
+  pub way : new.way ≡ way_after instruction old.way
+  pub sent : new.sent ≡ old.sent
+
+-- what a line by itself makes of its side, and its text
+pub record MakesAt (side : Side) (line : Line) (old : SideState) (text : List ℕ) (new : SideState) : Type 0 where
+  pub word : Option Word
+  pub told : is_some word ≡ is_told line.instruction
+  pub makes : Makes side line.instruction old word new
+  pub text_is : text ≡ line_text line word
+
+-- ---- the turns that save
 
 -- a turn that saves: whether it saved a fact; a halted desk saves none
 abbrev pub saved_of : Result Turn SaveFault → Result Bool SaveFault
@@ -79,6 +102,27 @@ saved_of (Err savings.Halted) = Ok false
 saved_of (Err (savings.Store fault)) = Err (savings.Store fault)
 saved_of (Err (savings.Office fault)) = Err (savings.Office fault)
 saved_of (Err (savings.Marked refusal)) = Err (savings.Marked refusal)
+
+-- the mark of a fact, which is saved
+abbrev pub IsMark : Note → Type 0
+IsMark note = (n : ℕ) × (fact : Fact) × (note.call ≡ calls.MarkSaved n fact) × (note.reply.answer ≡ answers.Saved n)
+
+-- a seat noted marks, and nothing else
+pub record NotesMarks (old new : SeatState) : Type 0 where
+  pub marks : List Note
+  pub are_marks : All IsMark marks
+  pub new_is : new ≡ record old { notes = old.notes ++ marks; amount = old.amount + length marks }
+
+-- the last seat, and no other
+pub record MarksLast (old new : List SeatState) : Type 0 where
+  pub others : List SeatState
+  pub main : SeatState
+  pub after : SeatState
+  pub old_is : old ≡ others ++ main ∷ []
+  pub new_is : new ≡ others ++ after ∷ []
+  pub notes : NotesMarks main after
+
+-- ---- what was let out
 
 abbrev pub out_in : Note → List Packet
 out_in note = note.reply.out

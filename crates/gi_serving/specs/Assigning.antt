@@ -1,5 +1,5 @@
 -- Which session gets which submission of a batch: the portfolios go round the sessions in order of first appearance.
-use Rattle.std.specs.Prelude.{ℕ, ◌+◌, ◌%◌, List, [], ◌∷◌, map, Bool, Option, None, Some, nat_eq}
+use Rattle.std.specs.Prelude.{◌≤◌, ℕ, ◌+◌, ◌%◌, List, [], ◌∷◌, map, Bool, Option, None, Some, nat_eq}
 use Rattle.std.specs.List.{flat_map, position_or_len}
 use Rattle.std.specs.Cmp.Lexicographic.{pointwise}
 use Rattle.gi_messages.specs.Decoding.{decoded}
@@ -34,3 +34,7 @@ session_of sessions order (Some portfolio) = place_in order portfolio % sessions
 abbrev pub sessions_of : ℕ → List (List ℕ) → List ℕ
 sessions_of sessions bodies =
     let portfolios = portfolios_of bodies in map (session_of sessions (in_order portfolios)) portfolios
+
+-- a number of so many sessions
+abbrev pub IsNumber : ℕ → ℕ → Type 0
+IsNumber sessions number = (1 ≤ number) × (number ≤ sessions)

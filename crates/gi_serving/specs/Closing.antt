@@ -58,9 +58,9 @@ pub record IsReconciled (front : List ℕ) (initiating matching : SettledState) 
 -- The last lines of two offices that settled so, and how it ended: they are set against each other where both settled; else the
 -- first fault, of the initiating side before the matching side, ends it, and there is no further line.
 abbrev pub AreLastLines : Result SettledState Unsettled → Result SettledState Unsettled → List ℕ → Result (Unit {0}) ServeFault → Type 0
-AreLastLines (Err fault) matching text end = (text ≡ settling_lines (Err fault) matching) × (end ≡ Err (faults.Unsettled I fault))
+AreLastLines (Err fault) matching text end = (text ≡ settling_lines (Err fault) matching) × (end ≡ Err (faults.Unsettled fault))
 AreLastLines (Ok initiating) (Err fault) text end =
-    (text ≡ settling_lines (Ok initiating) (Err fault)) × (end ≡ Err (faults.Unsettled M fault))
+    (text ≡ settling_lines (Ok initiating) (Err fault)) × (end ≡ Err (faults.Unsettled fault))
 AreLastLines (Ok initiating) (Ok matching) text end =
     IsReconciled (settling_lines (Ok initiating) (Ok matching)) initiating matching text end
 

@@ -6,7 +6,8 @@ use Rattle.gi_office.specs.declared.save_fault.SaveFault.{SaveFault}
 use Rattle.gi_office.specs.declared.save_fault.SaveFault.TheVariants as savings
 use Rattle.gi_script.specs.declared.line.Line.{Line}
 use Rattle.gi_serving.specs.Closing.{IsClosed}
-use Rattle.gi_serving.specs.Runs.{TellsAll, TellsFirst, pieces}
+use Rattle.gi_serving.specs.Making.{OfficesState, Runs, RunsFirst, new_offices}
+use Rattle.gi_serving.specs.Runs.{pieces}
 use Rattle.gi_serving.specs.declared.serve_fault.ServeFault.{ServeFault}
 use Rattle.gi_serving.specs.declared.serve_fault.ServeFault.TheVariants as faults
 
@@ -33,30 +34,40 @@ IsTurnFault (savings.Marked refusal) = Unit {0}
 abbrev pub IsCut : Result (Unit {0}) ServeFault → Type 0
 IsCut (Ok done) = ⊥
 IsCut (Err faults.OutOfMemory) = Unit {0}
-IsCut (Err (faults.Turn side fault)) = IsTurnFault fault
-IsCut (Err (faults.Unsettled side fault)) = ⊥
+IsCut (Err (faults.Turn fault)) = IsTurnFault fault
+IsCut (Err (faults.Unsettled fault)) = ⊥
 IsCut (Err (faults.Unreconciled fault)) = ⊥
 
--- Some of the pieces were told before it was cut off, the first ones in order, and nothing else.
-pub record IsCutOff (lines : List Line) (text : List ℕ) (end : Result (Unit {0}) ServeFault) : Type 0 where
-  pub told : TellsFirst lines text
+-- Both offices were closed, and the last lines were added to the text, which ends with them; or memory ran out, and it is as it was.
+pub record ClosesWell (parts peer_parts sessions : ℕ) (reached : OfficesState) (old new : List ℕ) (end : Result (Unit {0}) ServeFault) : Type 0 where
+  pub last : List ℕ
+  pub closed : IsClosed parts (sessions + 1) reached.initiating.seats peer_parts (sessions + 1) reached.matching.seats last end
+  pub added : new ≡ old ++ last
+
+abbrev pub Closes : ℕ → ℕ → ℕ → OfficesState → List ℕ → List ℕ → Result (Unit {0}) ServeFault → Type 0
+Closes parts peer_parts sessions reached old new end =
+    ((new ≡ old) × IsCut end) ⊎ ClosesWell parts peer_parts sessions reached old new end
+
+-- Some of the pieces were made and told of before it was cut off, the first ones in order, and nothing else is told.
+pub record IsCutOff (sessions : ℕ) (lines : List Line) (text : List ℕ) (end : Result (Unit {0}) ServeFault) : Type 0 where
+  pub reached : OfficesState
+  pub runs : RunsFirst sessions lines (new_offices sessions) text reached
   pub cut : IsCut end
 
--- All pieces were told in order, and behind them are the last lines, of both offices, each handed all its seats: those of its
--- sessions, and the main thread's.
+-- All pieces were made and told of in order, and behind that are the last lines of both offices, each handed all its seats as they
+-- are then: those of its sessions, and the main thread's.
 pub record IsWhole (sessions : ℕ) (lines : List Line) (text : List ℕ) (end : Result (Unit {0}) ServeFault) : Type 0 where
   pub front : List ℕ
   pub last : List ℕ
   pub text_is : text ≡ front ++ last
-  pub told : TellsAll (pieces lines) front
-  pub handed : List SeatState
-  pub all : AreAllSeats (sessions + 1) handed
-  pub peer_handed : List SeatState
-  pub peer_all : AreAllSeats (sessions + 1) peer_handed
-  pub closed : IsClosed 16 (sessions + 1) handed 16 (sessions + 1) peer_handed last end
+  pub reached : OfficesState
+  pub runs : Runs sessions (pieces lines) (new_offices sessions) front reached
+  pub all : AreAllSeats (sessions + 1) reached.initiating.seats
+  pub peer_all : AreAllSeats (sessions + 1) reached.matching.seats
+  pub closed : IsClosed 16 (sessions + 1) reached.initiating.seats 16 (sessions + 1) reached.matching.seats last end
 
 abbrev pub IsOver : ℕ → List Line → List ℕ → Result (Unit {0}) ServeFault → Type 0
-IsOver sessions lines text end = IsCutOff lines text end ⊎ IsWhole sessions lines text end
+IsOver sessions lines text end = IsCutOff sessions lines text end ⊎ IsWhole sessions lines text end
 
 -- the last lines are added to the text, and it ended so; or memory ran out, and nothing is added
 abbrev pub IsTold : List ℕ → List ℕ → Result (Unit {0}) ServeFault → List ℕ → Result (Unit {0}) ServeFault → Type 0

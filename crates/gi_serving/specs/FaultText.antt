@@ -5,7 +5,7 @@ use Rattle.gi_serving.specs.declared.serve_fault.ServeFault.{ServeFault}
 use Rattle.gi_serving.specs.declared.serve_fault.ServeFault.TheVariants.{Turn, Unsettled, Unreconciled, OutOfMemory}
 
 abbrev pub serve_fault_text : ServeFault → List ℕ
-serve_fault_text (Turn side fault) = save_fault_text fault
-serve_fault_text (Unsettled side fault) = unsettled_text fault
+serve_fault_text (Turn fault) = save_fault_text fault
+serve_fault_text (Unsettled fault) = unsettled_text fault
 serve_fault_text (Unreconciled fault) = unreconciled_text fault
 serve_fault_text OutOfMemory = codes "OutOfMemory"

@@ -4,6 +4,7 @@ pub mod Batches
 pub mod Closing
 pub mod Ending
 pub mod FaultText
+pub mod Making
 pub mod Runs
 pub mod Submitting
 pub mod Words

@@ -1,13 +1,12 @@
--- The pieces of a script, one after the other, and what is told of them.
-use Rattle.std.specs.Prelude.{◌≡◌, ℕ, suc, List, [], ◌∷◌, ◌++◌, count_by, drop, length, Bool, true, false, Option, None, Some, is_some}
+-- The pieces of a script, one after the other, and of which of them something is told.
+use Rattle.std.specs.Prelude.{ℕ, suc, List, [], ◌∷◌, Bool, true, false, Option, None, Some}
 use Rattle.gi_desk.specs.declared.call.Call.{Call}
 use Rattle.gi_desk.specs.declared.call.Call.TheVariants as calls
 use Rattle.gi_pairs.specs.declared.side.Side.{Side}
-use Rattle.gi_pairs.specs.declared.side.Side.TheVariants.{I, M}
 use Rattle.gi_script.specs.declared.instruction.Instruction.{Instruction}
 use Rattle.gi_script.specs.declared.instruction.Instruction.TheVariants as instructions
 use Rattle.gi_script.specs.declared.line.Line.{Line}
-use Rattle.gi_serving.specs.Batches.{batch_text, submission}
+use Rattle.gi_serving.specs.Batches.{submission}
 use Rattle.gi_serving.specs.Words.{step_line}
 use Rattle.gi_serving.specs.declared.word.Word.{Word}
 
@@ -62,29 +61,6 @@ abbrev pub line_text : Line → Option Word → List ℕ
 line_text line None = []
 line_text line (Some word) = step_line line.number (side_in line.instruction) word
 
--- how many submissions a batch has at a side
-abbrev pub is_for : Side → Option (Side × List ℕ) → Bool
-is_for I (Some (I, body)) = true
-is_for M (Some (M, body)) = true
-is_for side _ = false
-
-abbrev pub is_at : Side → Line → Bool
-is_at side line = is_for side (submission line.instruction)
-
-abbrev pub submissions_at : Side → List Line → ℕ
-submissions_at side lines = count_by (is_at side) lines
-
--- One line, with a word, of a step by itself. Of a batch a line for each submission, in order, each with a word of its side.
-abbrev pub Tells : Piece → List ℕ → Type 0
-Tells (Single line) text = (word : Option Word) × (is_some word ≡ is_told line.instruction) × (text ≡ line_text line word)
-Tells (Batch lines) text =
-    (words peer_words : List Word)
-    × (length words ≡ submissions_at I lines) × (length peer_words ≡ submissions_at M lines) × (text ≡ batch_text lines words peer_words)
-
-abbrev pub TellsAll : List Piece → List ℕ → Type 0
-TellsAll [] text = text ≡ []
-TellsAll (piece ∷ later) text = (said rest : List ℕ) × Tells piece said × TellsAll later rest × (text ≡ said ++ rest)
-
 -- how many of the first lines are submissions
 abbrev pub lead_by : Option (Side × List ℕ) → ℕ → ℕ
 lead_by None later = 0
@@ -93,30 +69,3 @@ lead_by (Some it) later = suc later
 abbrev pub lead : List Line → ℕ
 lead [] = 0
 lead (line ∷ later) = lead_by (submission line.instruction) (lead later)
-
--- ---- what is told of a run
-
--- the first piece of the lines, which has so many, and its text
-pub record IsFirst (lines : List Line) (count : ℕ) (text : List ℕ) : Type 0 where
-  pub piece : Piece
-  pub first : pieces lines ≡ piece ∷ pieces (drop count lines)
-  pub tells : Tells piece text
-
--- the text of the first piece was added
-pub record AddsFirst (lines : List Line) (count : ℕ) (old new : List ℕ) : Type 0 where
-  pub said : List ℕ
-  pub is_first : IsFirst lines count said
-  pub added : new ≡ old ++ said
-
--- The text of the first pieces, and of no others.
-pub record TellsFirst (lines : List Line) (text : List ℕ) : Type 0 where
-  pub made : List Piece
-  pub left : List Piece
-  pub all : pieces lines ≡ made ++ left
-  pub tells : TellsAll made text
-
--- the text of the pieces of so many lines
-pub record TellsTo (lines : List Line) (count : ℕ) (text : List ℕ) : Type 0 where
-  pub made : List Piece
-  pub all : pieces lines ≡ made ++ pieces (drop count lines)
-  pub tells : TellsAll made text

@@ -1,8 +1,8 @@
 //! Which session gets which submission of a batch.
 
-ghost use Rattle.std.specs.Prelude.{◌≡◌, ◌≤◌, ◌<◌, IfOk, map};
+ghost use Rattle.std.specs.Prelude.{◌≡◌, ◌≤◌, ◌<◌, All, IfOk, map};
 ghost use Rattle.std.specs.List.{position};
-ghost use Rattle.gi_serving.specs.Assigning.{in_order as order_of, is_same, place_in, portfolios_of, session_of, sessions_of as sessions_for};
+ghost use Rattle.gi_serving.specs.Assigning.{IsNumber, in_order as order_of, is_same, place_in, portfolios_of, session_of, sessions_of as sessions_for};
 
 use gi_desk::Body;
 use gi_pairs::Code;
@@ -53,7 +53,8 @@ fn in_order(alloc: Global, portfolios: &[Option<Code>]) -> Result<Vec<Code>, All
 fn session(sessions: u8, order: &[Code], portfolio: Option<Code>) -> u8
     requires some { 1 ≤ sessions }
     requires few { sessions < 16 }
-    ensures { result ≡ session_of sessions order.now portfolio }
+    ensures session { result ≡ session_of sessions order.now portfolio }
+    ensures number { IsNumber sessions result }
 {
     match portfolio {
         Some(code) => (place(order, code) % sessions as usize) as u8 + 1,
@@ -68,7 +69,8 @@ fn session(sessions: u8, order: &[Code], portfolio: Option<Code>) -> u8
 pub fn sessions_of(alloc: Global, sessions: u8, bodies: &[Body]) -> Result<Vec<u8>, AllocError>
     requires some { 1 ≤ sessions }
     requires few { sessions < 16 }
-    ensures { IfOk result (λ numbers. numbers.items ≡ sessions_for sessions bodies.now) }
+    ensures sessions { IfOk result (λ numbers. numbers.items ≡ sessions_for sessions bodies.now) }
+    ensures numbers { IfOk result (λ numbers. All (IsNumber sessions) numbers.items) }
 {
     let portfolios = portfolios(alloc, bodies)?;
     let order = in_order(alloc, &portfolios)?;

@@ -1,10 +1,10 @@
 //! A batch: submissions, which the sessions of an office make at once.
 
-ghost use Rattle.std.specs.Prelude.{◌≡◌, ◌≤◌, ◌<◌, ◌+◌, ◌++◌, ◌∷◌, [], IfOk, OnErr, OnOk, false, length, map, true, vec_capacity};
-ghost use Rattle.gi_serving.specs.Ending.{AreSamePlaces};
+ghost use Rattle.std.specs.Prelude.{◌≡◌, ◌≤◌, ◌<◌, ◌+◌, ◌++◌, ◌∷◌, [], All, IfOk, OnErr, OnOk, drop, false, length, map, slice_get, true, vec_capacity};
+ghost use Rattle.gi_serving.specs.Assigning.{IsNumber};
 ghost use Rattle.gi_serving.specs.Batches.{submission as submission_in};
-ghost use Rattle.gi_serving.specs.Runs.{submissions_at};
-ghost use Rattle.gi_serving.specs.Submitting.{bodies_of, body_for, dealt, is_short, seat_in, seat_of, short_of};
+ghost use Rattle.gi_serving.specs.Ending.{AreSamePlaces};
+ghost use Rattle.gi_serving.specs.Submitting.{AreWords, SessionsSubmit, SubmitsBatch, begun_by, bodies_in, bodies_of, body_for, dealt, dealt_to_all, in_order, is_short, receipts_in, seat_in, short_of, word_for};
 
 use crate::assigning::sessions_of;
 use crate::pieces::submission;
@@ -47,8 +47,7 @@ fn add_body(bodies: &mut Vec<Body>, side: Side, line: &Line) -> Result<(), Alloc
 /// The submissions at a side, in order.
 #[tactic(auto, using(crate::proofs::Dealing::line_more))]
 pub(crate) fn bodies_at(alloc: Global, side: Side, lines: &[Line]) -> Result<Vec<Body>, AllocError>
-    ensures bodies { IfOk result (λ bodies. bodies.items ≡ bodies_of side lines.now) }
-    ensures count { IfOk result (λ bodies. length bodies.items ≡ submissions_at side lines.now) }
+    ensures { IfOk result (λ bodies. bodies.items ≡ bodies_of side lines.now) }
 {
     let mut bodies = Vec::new(alloc);
     for line in lines {
@@ -76,25 +75,27 @@ fn given(
     Ok(dealt)
 }
 
-/// The bodies that each seat is given.
-fn dealt_to<L: Ledger>(
+/// The bodies that each of so many sessions is given.
+#[tactic(auto, using(crate::proofs::Dealing::dealt_more, crate::proofs::Dealing::as_many))]
+fn dealt_to(
     alloc: Global,
-    seats: &[Seat<L>],
+    sessions: u8,
     numbers: &[u8],
     bodies: &[Body],
 ) -> Result<Vec<Vec<Body>>, AllocError>
     requires { length numbers.now ≡ length bodies.now }
-    ensures { IfOk result (λ dealt. length dealt.items ≡ length seats.now) }
+    ensures count { IfOk result (λ dealt. length dealt.items ≡ sessions) }
+    ensures dealt { IfOk result (λ dealt. map bodies_in dealt.items ≡ dealt_to_all sessions numbers.now bodies.now) }
 {
-    let mut dealt = Vec::with_capacity(alloc, seats.len())?;
-    for seat in seats {
-        dealt.push(given(alloc, seat.number(), numbers, bodies)?)?;
+    let mut dealt = Vec::with_capacity(alloc, sessions as usize)?;
+    for before in 0..sessions {
+        dealt.push(given(alloc, before + 1, numbers, bodies)?)?;
     }
     Ok(dealt)
 }
 
 /// A session for each seat, with what it is given.
-#[tactic(auto, using(crate::proofs::Places::one_begun))]
+#[tactic(auto, using(crate::proofs::Places::one_begun, crate::proofs::Places::all_begun))]
 fn begun<L: Ledger>(
     seats: Vec<Seat<L>>,
     dealt: Vec<Vec<Body>>,
@@ -103,7 +104,7 @@ fn begun<L: Ledger>(
     requires all { length seats.items ≤ length dealt.items }
     requires none { sessions.items ≡ [] }
     requires room { length seats.items ≤ vec_capacity sessions }
-    ensures { map seat_of result.items ≡ seats.items }
+    ensures { result.items ≡ begun_by seats.items (map bodies_in dealt.items) }
 {
     let mut dealt = dealt.into_iter();
     let mut sessions = sessions;
@@ -138,6 +139,7 @@ fn ended<L: Ledger>(
     requires none_yet { receipts.items ≡ [] }
     requires receipts { length served.items ≤ vec_capacity receipts }
     ensures seats { IfOk result (λ ended. ended.0.items ≡ map seat_in served.items ++ main ∷ []) }
+    ensures receipts { IfOk result (λ ended. map in_order ended.1.items ≡ map receipts_in served.items) }
     ensures memory { OnOk result (short_of false served.items ≡ false) }
     ensures short { OnErr result (short_of false served.items ≡ true) }
 {
@@ -172,39 +174,39 @@ fn rooms_for<L: Ledger>(alloc: Global, count: usize) -> Result<Rooms<L>, AllocEr
     Ok((sessions, seats, receipts))
 }
 
-/// What came of the next submission of the session.
-fn next_word(receipts: &mut Vec<Vec<Receipt>>, number: u8) -> Word {
-    let Some(before) = number.checked_sub(1) else {
-        return Word::SeatFull;
-    };
-    let Some(list) = receipts.get_mut(before as usize) else {
-        return Word::SeatFull;
-    };
-    match list.pop() {
+/// What came of the next body of a session.
+fn next_word(receipts: &mut Vec<Receipt>) -> Word
+    ensures word { result ≡ word_for (slice_get (in_order receipts.old) 0) }
+    ensures left { in_order receipts.new ≡ drop 1 (in_order receipts.old) }
+{
+    match receipts.pop() {
         Some(receipt) => Word::of(&receipt.reply.answer),
         None => Word::SeatFull,
     }
 }
 
 /// What came of each submission, in order; `SeatFull` of what was left undone.
+#[tactic(auto, using(crate::proofs::Dealing::none_told, crate::proofs::Dealing::all_told))]
 fn words_of(
     alloc: Global,
     numbers: &[u8],
     receipts: Vec<Vec<Receipt>>,
 ) -> Result<Vec<Word>, AllocError>
-    ensures { IfOk result (λ words. length words.items ≡ length numbers.now) }
+    requires { All (IsNumber (length receipts.items)) numbers.now }
+    ensures { IfOk result (λ words. AreWords numbers.now (map in_order receipts.items) words.items) }
 {
     let mut receipts = receipts;
     let mut words = Vec::with_capacity(alloc, numbers.len())?;
     for number in numbers {
-        words.push(next_word(&mut receipts, *number))?;
+        let list = &mut receipts[*number as usize - 1];
+        words.push(next_word(list))?;
     }
     Ok(words)
 }
 
 /// Has sessions submit what is dealt to their seats, of which the last one is the main thread's: all
 /// seats, and the receipts of each session, the last one first.
-#[tactic(auto, using(crate::proofs::Places::served_length, crate::proofs::Places::served_places))]
+#[tactic(auto, using(crate::proofs::Places::served_all, crate::proofs::Places::served_places, crate::proofs::Places::submit_so))]
 fn serve_all<R: Role + Send, L: Ledger + Send, T: Threads + Wait + Sync>(
     rt: &T,
     office: &Office<R, L>,
@@ -212,12 +214,13 @@ fn serve_all<R: Role + Send, L: Ledger + Send, T: Threads + Wait + Sync>(
     dealt: Vec<Vec<Body>>,
     rooms: Rooms<L>,
 ) -> Result<(Vec<Seat<L>>, Vec<Vec<Receipt>>), AllocError>
-    requires some { 0 < length seats.items }
-    requires dealt { length seats.items ≤ length dealt.items }
+    requires dealt { length seats.items ≡ length dealt.items + 1 }
     requires sessions { (rooms.0.items ≡ []) × (length seats.items ≤ vec_capacity rooms.0) }
     requires seats { (rooms.1.items ≡ []) × (length seats.items ≤ vec_capacity rooms.1) }
     requires receipts { (rooms.2.items ≡ []) × (length seats.items ≤ vec_capacity rooms.2) }
-    ensures { IfOk result (λ served. AreSamePlaces seats.items served.0.items) }
+    ensures places { IfOk result (λ served. AreSamePlaces seats.items served.0.items) }
+    ensures count { IfOk result (λ served. length served.1.items ≡ length dealt.items) }
+    ensures done { IfOk result (λ served. SessionsSubmit R.SIDE (map bodies_in dealt.items) seats.items (map in_order served.1.items) served.0.items) }
 {
     let (sessions, back, receipts) = rooms;
     let mut seats = seats;
@@ -230,6 +233,7 @@ fn serve_all<R: Role + Send, L: Ledger + Send, T: Threads + Wait + Sync>(
 
 /// Submits a batch's bodies at one office, by its sessions at once; the last seat is the main thread's.
 /// The seats come back, with what came of each submission, in order.
+#[tactic(auto, using(crate::proofs::Dealing::submits_batch))]
 pub(crate) fn submitted<R: Role + Send, L: Ledger + Send, T: Threads + Wait + Sync>(
     rt: &T,
     alloc: Global,
@@ -242,10 +246,10 @@ pub(crate) fn submitted<R: Role + Send, L: Ledger + Send, T: Threads + Wait + Sy
     requires few { sessions < 16 }
     requires seats { length seats.items ≡ sessions + 1 }
     ensures places { IfOk result (λ submitted. AreSamePlaces seats.items submitted.0.items) }
-    ensures words { IfOk result (λ submitted. length submitted.1.items ≡ length bodies.items) }
+    ensures all { IfOk result (λ submitted. SubmitsBatch R.SIDE sessions bodies.items seats.items submitted.1.items submitted.0.items) }
 {
     let numbers = sessions_of(alloc, sessions, &bodies)?;
-    let dealt = dealt_to(alloc, &seats, &numbers, &bodies)?;
+    let dealt = dealt_to(alloc, sessions, &numbers, &bodies)?;
     let rooms = rooms_for(alloc, seats.len())?;
     let (seats, receipts) = serve_all(rt, office, seats, dealt, rooms)?;
     let words = words_of(alloc, &numbers, receipts)?;

@@ -1,16 +1,20 @@
 //! Both offices under way, and what a line or a batch of a script makes of them.
 
-ghost use Rattle.std.specs.Prelude.{◌≡◌, ◌≤◌, ◌<◌, ◌+◌, IfErr, IfOk, Err, IsOk, OnOk, length, string_bytes};
+ghost use Rattle.std.specs.Prelude.{◌≡◌, ◌≤◌, ◌<◌, ◌+◌, IfErr, IfOk, Err, IsOk, OnOk, false, length, string_bytes};
 ghost use Rattle.std.specs.Thread.{IsSync};
-ghost use Rattle.gi_serving.specs.Asking.{MakesLine, Sends};
+ghost use Rattle.gi_pairs.specs.declared.side.Side.TheVariants.{I, M};
+ghost use Rattle.gi_serving.specs.Asking.{Sends};
 ghost use Rattle.gi_serving.specs.Closing.{IsClosed};
 ghost use Rattle.gi_serving.specs.Ending.{AreSamePlaces, IsCut};
-ghost use Rattle.gi_serving.specs.Runs.{Batch, Single, Tells, side_in};
+ghost use Rattle.gi_serving.specs.Making.{MakesBatch, MakesLine, SavesAndSends, new_offices, offices_of};
+ghost use Rattle.gi_serving.specs.Runs.{side_in};
+ghost use Rattle.gi_serving.specs.Submitting.{SubmitsBatch};
 
 use crate::batch::{bodies_at, submitted};
 use crate::closing::{Closed, close_both};
 use crate::running::Running;
 use crate::serve_fault::ServeFault;
+use crate::station::Station;
 use crate::telling::{add_line, batch_text};
 use crate::word::Word;
 use gi_desk::Body;
@@ -75,6 +79,39 @@ fn put<A: Drop>(place: &mut A, value: A)
 }
 
 impl<L: Ledger, K: Ledger, S: Alter + Drop> Both<L, K, S> {
+    /// Opens both offices, each with so many sessions.
+    pub(crate) fn open(
+        sessions: u8,
+        initiating: Station<Initiating, S>,
+        matching: Station<Matching, S>,
+    ) -> Result<Both<L, K, S>, AllocError>
+        requires some { 1 ≤ sessions }
+        requires few { sessions < 16 }
+        requires name { initiating.blank.name ≡ L.name }
+        requires whole { initiating.blank.parts ≡ L.parts }
+        requires parts { initiating.blank.parts ≡ 16 }
+        requires saved { initiating.desk.saved ≡ length initiating.desk.facts }
+        requires runs { initiating.desk.halted ≡ false }
+        requires peer_name { matching.blank.name ≡ K.name }
+        requires peer_whole { matching.blank.parts ≡ K.parts }
+        requires peer_parts { matching.blank.parts ≡ 16 }
+        requires peer_saved { matching.desk.saved ≡ length matching.desk.facts }
+        requires peer_runs { matching.desk.halted ≡ false }
+        ensures sessions { IfOk result (λ both. both.sessions ≡ sessions) }
+        ensures new { IfOk result (λ both. offices_of both.initiating both.matching ≡ new_offices sessions) }
+    {
+        let alloc = initiating.alloc;
+        let initiating = Running::<Initiating, L, S>::open(initiating, sessions);
+        let matching = Running::<Matching, K, S>::open(matching, sessions);
+        let (initiating, matching) = both_of(initiating, matching)?;
+        Ok(Both {
+            alloc,
+            sessions,
+            initiating,
+            matching,
+        })
+    }
+
     /// Makes a line that is no submission: its text.
     pub(crate) fn line<W: Wait>(&mut self, rt: &W, line: &Line) -> Result<String, AllocError>
         requires ours { 0 < length self.old.initiating.seats.items }
@@ -82,10 +119,8 @@ impl<L: Ledger, K: Ledger, S: Alter + Drop> Both<L, K, S> {
         ensures sessions { self.new.sessions ≡ self.old.sessions }
         ensures ours { AreSamePlaces self.old.initiating.seats.items self.new.initiating.seats.items }
         ensures theirs { AreSamePlaces self.old.matching.seats.items self.new.matching.seats.items }
-        ensures text { IfOk result (λ text. Tells (Single line.now) (string_bytes text)) }
         ensures made { IfOk result (λ text. MakesLine (side_in line.now.instruction) line.now
-            self.old.initiating.way self.old.matching.way self.old.initiating.seats.items self.old.matching.seats.items
-            (string_bytes text) self.new.initiating.seats.items self.new.matching.seats.items) }
+            (offices_of self.old.initiating self.old.matching) (string_bytes text) (offices_of self.new.initiating self.new.matching)) }
     {
         let side = side_of(&line.instruction);
         let word = match side {
@@ -123,19 +158,14 @@ impl<L: Ledger, K: Ledger, S: Alter + Drop> Both<L, K, S> {
         ensures sessions { self.new.sessions ≡ self.old.sessions }
         ensures ours { AreSamePlaces self.old.initiating.seats.items self.new.initiating.seats.items }
         ensures theirs { AreSamePlaces self.old.matching.seats.items self.new.matching.seats.items }
+        ensures saves { OnOk result (SavesAndSends (offices_of self.old.initiating self.old.matching) (offices_of self.new.initiating self.new.matching)) }
         ensures cut { IfErr result (λ fault. IsCut (Err fault)) }
     {
         if let Err(fault) = self.initiating.save_all(rt) {
-            return Err(ServeFault::Turn {
-                side: Side::I,
-                fault,
-            });
+            return Err(ServeFault::Turn(fault));
         }
         if let Err(fault) = self.matching.save_all(rt) {
-            return Err(ServeFault::Turn {
-                side: Side::M,
-                fault,
-            });
+            return Err(ServeFault::Turn(fault));
         }
         match self.send() {
             Ok(()) => Ok(()),
@@ -172,7 +202,12 @@ impl<L: Ledger + Send + Sync, K: Ledger + Send + Sync, S: Alter + Drop> Both<L, 
         ensures sessions { self.new.sessions ≡ self.old.sessions }
         ensures ours { OnOk result (AreSamePlaces self.old.initiating.seats.items self.new.initiating.seats.items) }
         ensures theirs { OnOk result (AreSamePlaces self.old.matching.seats.items self.new.matching.seats.items) }
-        ensures words { IfOk result (λ words. (length words.0.items ≡ length bodies.items) × (length words.1.items ≡ length peer_bodies.items)) }
+        ensures sent { self.new.initiating.sent ≡ self.old.initiating.sent }
+        ensures peer_sent { self.new.matching.sent ≡ self.old.matching.sent }
+        ensures way { self.new.initiating.way ≡ self.old.initiating.way }
+        ensures peer_way { self.new.matching.way ≡ self.old.matching.way }
+        ensures submits { IfOk result (λ words. SubmitsBatch I self.old.sessions bodies.items self.old.initiating.seats.items words.0.items self.new.initiating.seats.items) }
+        ensures peer_submits { IfOk result (λ words. SubmitsBatch M self.old.sessions peer_bodies.items self.old.matching.seats.items words.1.items self.new.matching.seats.items) }
     {
         let (alloc, sessions) = (self.alloc, self.sessions);
         let seats = mem::replace(&mut self.initiating.seats, Vec::new(alloc));
@@ -183,11 +218,13 @@ impl<L: Ledger + Send + Sync, K: Ledger + Send + Sync, S: Alter + Drop> Both<L, 
             rt,
             move || -> Result<(Vec<Seat<L>>, Vec<Word>), AllocError>
                 requires { IsSync T.row × (1 ≤ sessions) × (sessions < 16) × (length seats.items ≡ sessions + 1) }
-                ensures { IfOk result (λ submitted. AreSamePlaces seats.items submitted.0.items × (length submitted.1.items ≡ length bodies.items)) }
+                ensures { IfOk result (λ submitted. AreSamePlaces seats.items submitted.0.items
+                    × SubmitsBatch I sessions bodies.items seats.items submitted.1.items submitted.0.items) }
             { submitted(rt, alloc, office, sessions, seats, bodies) },
             move || -> Result<(Vec<Seat<K>>, Vec<Word>), AllocError>
                 requires { IsSync T.row × (1 ≤ sessions) × (sessions < 16) × (length peer_seats.items ≡ sessions + 1) }
-                ensures { IfOk result (λ submitted. AreSamePlaces peer_seats.items submitted.0.items × (length submitted.1.items ≡ length peer_bodies.items)) }
+                ensures { IfOk result (λ submitted. AreSamePlaces peer_seats.items submitted.0.items
+                    × SubmitsBatch M sessions peer_bodies.items peer_seats.items submitted.1.items submitted.0.items) }
             { submitted(rt, alloc, peer, sessions, peer_seats, peer_bodies) },
         );
         let ((seats, words), (peer_seats, peer_words)) = both_of(ours, theirs)?;
@@ -207,7 +244,8 @@ impl<L: Ledger + Send + Sync, K: Ledger + Send + Sync, S: Alter + Drop> Both<L, 
         ensures sessions { self.new.sessions ≡ self.old.sessions }
         ensures ours { OnOk result (AreSamePlaces self.old.initiating.seats.items self.new.initiating.seats.items) }
         ensures theirs { OnOk result (AreSamePlaces self.old.matching.seats.items self.new.matching.seats.items) }
-        ensures text { IfOk result (λ text. Tells (Batch lines.now) (string_bytes text)) }
+        ensures made { IfOk result (λ text. MakesBatch self.old.sessions lines.now
+            (offices_of self.old.initiating self.old.matching) (string_bytes text) (offices_of self.new.initiating self.new.matching)) }
     {
         let bodies = bodies_at(self.alloc, Side::I, lines)?;
         let peer_bodies = bodies_at(self.alloc, Side::M, lines)?;

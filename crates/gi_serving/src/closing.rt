@@ -8,7 +8,6 @@ use gi_desk::Role;
 use gi_initiator::Initiating;
 use gi_matcher::Matching;
 use gi_office::{Office, Seat, Settled, Unreconciled, Unsettled, reconcile};
-use gi_pairs::Side;
 use gi_reports::counts_line;
 use std::alloc::{AllocError, Global};
 use std::sync::ledger::Ledger;
@@ -112,17 +111,11 @@ fn last_lines(
         (Ok(initiating), Ok(matching)) => reconciled(alloc, lines, initiating, matching),
         (Err(fault), _) => Ok(Closed {
             text: lines,
-            end: Err(ServeFault::Unsettled {
-                side: Side::I,
-                fault: *fault,
-            }),
+            end: Err(ServeFault::Unsettled(*fault)),
         }),
         (Ok(_), Err(fault)) => Ok(Closed {
             text: lines,
-            end: Err(ServeFault::Unsettled {
-                side: Side::M,
-                fault: *fault,
-            }),
+            end: Err(ServeFault::Unsettled(*fault)),
         }),
     }
 }

@@ -38,6 +38,7 @@ mod pieces;
 mod running;
 mod serve_fault;
 mod serving;
+mod station;
 mod telling;
 mod watch;
 mod word;

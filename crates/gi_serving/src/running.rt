@@ -3,13 +3,15 @@
 ghost use Rattle.std.specs.Prelude.{◌≡◌, ◌≤◌, ◌<◌, ◌+◌, ◌++◌, IfErr, IfOk, OnOk, false, is_some, length, true};
 ghost use Rattle.gi_carrier.specs.Carrier.{given};
 ghost use Rattle.gi_office.specs.Opening.{new_seats};
-ghost use Rattle.gi_serving.specs.Asking.{Answers, AsksLast, Carries, LetsOut, Makes, out_behind, saved_of};
+ghost use Rattle.gi_simulation.specs.Simulation.{moved_on, new_link};
+ghost use Rattle.gi_serving.specs.Asking.{Answers, AsksLast, Carries, LetsOut, MakesSeats, MarksLast, NotesMarks, out_behind, saved_of, way_after};
 ghost use Rattle.gi_serving.specs.Ending.{AreSamePlaces, IsTurnFault, place_of};
 ghost use Rattle.gi_serving.specs.Runs.{is_made, is_told};
 ghost use Rattle.gi_serving.specs.Words.{word_in};
 
+use crate::station::Station;
 use crate::word::Word;
-use gi_desk::{Body, Call, Desk, Packet, Role};
+use gi_desk::{Body, Call, Packet, Role};
 use gi_office::{Note, Office, OfficeFault, Receipt, SaveFault, Seat, Turn};
 use gi_script::Instruction;
 use gi_simulation::Link;
@@ -17,7 +19,7 @@ use gi_store::BookStore;
 use sqlite::Alter;
 use std::alloc::{AllocError, Global};
 use std::sync::Wait;
-use std::sync::ledger::{Blank, Ledger};
+use std::sync::ledger::Ledger;
 
 /// An office under way.
 #[derive(Drop)]
@@ -85,6 +87,47 @@ fn saved(turn: Result<Turn, SaveFault>) -> Result<bool, SaveFault>
     }
 }
 
+/// Makes a turn that saves from the seat: whether it saved a fact.
+#[tactic(auto, using(crate::proofs::Places::turned))]
+fn turned<R: Role, L: Ledger, S: Alter, W: Wait>(
+    rt: &W,
+    office: &Office<R, L>,
+    book: &mut BookStore<S>,
+    seat: Seat<L>,
+) -> (Seat<L>, Result<bool, SaveFault>)
+    ensures place { place_of result.0 ≡ place_of seat }
+    ensures marks { OnOk result.1 (NotesMarks seat result.0) }
+    ensures fault { IfErr result.1 IsTurnFault }
+{
+    let (seat, turn) = office.save_turn(rt, seat, book);
+    (seat, saved(turn))
+}
+
+/// Makes turns that save from the seat, until there is nothing to save or the desk is halted.
+#[tactic(auto, using(crate::proofs::Turning::none_marked, crate::proofs::Turning::marks_more))]
+fn saved_all<R: Role, L: Ledger, S: Alter, W: Wait>(
+    rt: &W,
+    office: &Office<R, L>,
+    book: &mut BookStore<S>,
+    seat: Seat<L>,
+) -> (Seat<L>, Result<(), SaveFault>)
+    ensures place { place_of result.0 ≡ place_of seat }
+    ensures marks { OnOk result.1 (NotesMarks seat result.0) }
+    ensures fault { IfErr result.1 IsTurnFault }
+{
+    let mut main = seat;
+    for _ in rt.forever() {
+        let (back, saved) = turned(rt, office, book, main);
+        main = back;
+        match saved {
+            Ok(true) => {}
+            Ok(false) => return (main, Ok(())),
+            Err(fault) => return (main, Err(fault)),
+        }
+    }
+    unreachable!()
+}
+
 fn add_copies(packets: &mut Vec<Packet>, more: &[Packet]) -> Result<(), AllocError>
     ensures { OnOk result (packets.new.items ≡ packets.old.items ++ more.now) }
 {
@@ -107,22 +150,24 @@ fn out_since(alloc: Global, notes: &[Note], sent: usize) -> Result<Vec<Packet>, 
 
 impl<R: Role, L: Ledger, S: Alter + Drop> Running<R, L, S> {
     /// Opens the office, with a seat for each session and one for the main thread.
-    pub(crate) fn open(
-        alloc: Global,
-        blank: Blank,
-        desk: Desk<R>,
-        book: BookStore<S>,
-        sessions: u8,
-    ) -> Result<Running<R, L, S>, AllocError>
-        requires name { blank.name ≡ L.name }
-        requires whole { blank.parts ≡ L.parts }
-        requires parts { blank.parts ≡ 16 }
+    pub(crate) fn open(station: Station<R, S>, sessions: u8) -> Result<Running<R, L, S>, AllocError>
+        requires name { station.blank.name ≡ L.name }
+        requires whole { station.blank.parts ≡ L.parts }
+        requires parts { station.blank.parts ≡ 16 }
         requires few { sessions < 16 }
-        requires saved { desk.saved ≡ length desk.facts }
-        requires runs { desk.halted ≡ false }
+        requires saved { station.desk.saved ≡ length station.desk.facts }
+        requires runs { station.desk.halted ≡ false }
         ensures office { IfOk result (λ running. running.office.seats ≡ sessions + 1) }
         ensures seats { IfOk result (λ running. running.seats.items ≡ new_seats (sessions + 1)) }
+        ensures sent { IfOk result (λ running. running.sent ≡ 0) }
+        ensures way { IfOk result (λ running. running.way ≡ new_link) }
     {
+        let Station {
+            alloc,
+            blank,
+            desk,
+            book,
+        } = station;
         let way = Link::new(alloc)?;
         match Office::<R, L>::new(alloc, blank, desk, sessions as usize + 1) {
             Ok((office, seats)) => Ok(Running {
@@ -143,6 +188,8 @@ impl<R: Role, L: Ledger, S: Alter + Drop> Running<R, L, S> {
         requires { 0 < length self.old.seats.items }
         ensures office { self.new.office ≡ self.old.office }
         ensures seats { AreSamePlaces self.old.seats.items self.new.seats.items }
+        ensures sent { self.new.sent ≡ self.old.sent }
+        ensures way { self.new.way ≡ self.old.way }
         ensures told { IfOk result (λ word. is_some word ≡ is_made call) }
         ensures asked { IfOk result (λ word. AsksLast R.SIDE self.old.seats.items call word self.new.seats.items) }
     {
@@ -157,6 +204,8 @@ impl<R: Role, L: Ledger, S: Alter + Drop> Running<R, L, S> {
         requires { 0 < length self.old.seats.items }
         ensures office { self.new.office ≡ self.old.office }
         ensures seats { AreSamePlaces self.old.seats.items self.new.seats.items }
+        ensures sent { self.new.sent ≡ self.old.sent }
+        ensures way { OnOk result (self.new.way ≡ moved_on self.old.way) }
         ensures told { IfOk result (λ word. is_some word ≡ true) }
         ensures carried { IfOk result (λ word. Carries R.SIDE (given self.old.way.plan self.old.way.carrier) self.old.seats.items word self.new.seats.items) }
     {
@@ -176,8 +225,10 @@ impl<R: Role, L: Ledger, S: Alter + Drop> Running<R, L, S> {
         requires { 0 < length self.old.seats.items }
         ensures office { self.new.office ≡ self.old.office }
         ensures seats { AreSamePlaces self.old.seats.items self.new.seats.items }
+        ensures sent { self.new.sent ≡ self.old.sent }
+        ensures way { OnOk result (self.new.way ≡ way_after instruction.now self.old.way) }
         ensures told { IfOk result (λ word. is_some word ≡ is_told instruction.now) }
-        ensures made { IfOk result (λ word. Makes R.SIDE instruction.now self.old.way self.old.seats.items word self.new.seats.items) }
+        ensures made { IfOk result (λ word. MakesSeats R.SIDE instruction.now self.old.way self.old.seats.items word self.new.seats.items) }
     {
         match instruction {
             Instruction::Call { side: _, call } => self.ask(rt, call.copy()?),
@@ -190,36 +241,21 @@ impl<R: Role, L: Ledger, S: Alter + Drop> Running<R, L, S> {
         }
     }
 
-    /// Makes a turn that saves: whether it saved a fact.
-    #[tactic(auto, using(crate::proofs::Places::put_back, crate::proofs::Places::turned))]
-    fn turn<W: Wait>(&mut self, rt: &W) -> Result<bool, SaveFault>
-        requires { 0 < length self.old.seats.items }
-        ensures office { self.new.office ≡ self.old.office }
-        ensures seats { AreSamePlaces self.old.seats.items self.new.seats.items }
-        ensures fault { IfErr result IsTurnFault }
-    {
-        let main = self.seats.pop().unwrap();
-        let (main, turn) = self.office.save_turn(rt, main, &mut self.book);
-        self.seats.push_reserved(main);
-        saved(turn)
-    }
-
     /// Makes turns that save until there is nothing to save or the desk is halted.
-    #[tactic(auto, using(crate::proofs::Places::same_again, crate::proofs::Places::still_some))]
+    #[tactic(auto, using(crate::proofs::Places::put_back, crate::proofs::Turning::last_marks))]
     pub(crate) fn save_all<W: Wait>(&mut self, rt: &W) -> Result<(), SaveFault>
         requires { 0 < length self.old.seats.items }
         ensures office { self.new.office ≡ self.old.office }
         ensures seats { AreSamePlaces self.old.seats.items self.new.seats.items }
+        ensures sent { self.new.sent ≡ self.old.sent }
+        ensures way { self.new.way ≡ self.old.way }
+        ensures marks { OnOk result (MarksLast self.old.seats.items self.new.seats.items) }
         ensures fault { IfErr result IsTurnFault }
     {
-        for _ in rt.forever() {
-            match self.turn(rt) {
-                Ok(true) => {}
-                Ok(false) => return Ok(()),
-                Err(fault) => return Err(fault),
-            }
-        }
-        unreachable!()
+        let main = self.seats.pop().unwrap();
+        let (main, saved) = saved_all(rt, &self.office, &mut self.book, main);
+        self.seats.push_reserved(main);
+        saved
     }
 
     /// What the main seat let out since it was last asked.

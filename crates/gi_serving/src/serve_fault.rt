@@ -1,17 +1,16 @@
 ghost use Rattle.std.specs.Prelude.{◌≡◌, Some};
 
 use gi_office::{SaveFault, Unreconciled, Unsettled};
-use gi_pairs::Side;
 use std::error::Error;
 use std::fmt;
 
 /// Why two offices did not serve a script to its end, or not well.
 #[derive(Clone, Copy, Debug, PartialEq, Eq)]
 pub enum ServeFault {
-    /// A turn that saves ended by this fault, at that side.
-    Turn { side: Side, fault: SaveFault },
-    /// What a seat noted is not what stands in the trail, at that side.
-    Unsettled { side: Side, fault: Unsettled },
+    /// A turn that saves ended by this fault.
+    Turn(SaveFault),
+    /// What a seat noted is not what stands in the trail.
+    Unsettled(Unsettled),
     /// The two offices are not reconciled.
     Unreconciled(Unreconciled),
     /// Memory ran out.
@@ -25,8 +24,8 @@ impl fmt::Display for ServeFault {
 
     fn fmt<W: fmt::Write>(&self, f: &mut fmt::Formatter<W>) -> fmt::Result {
         match self {
-            ServeFault::Turn { side: _, fault } => write!(f, "{fault}"),
-            ServeFault::Unsettled { side: _, fault } => write!(f, "{fault}"),
+            ServeFault::Turn(fault) => write!(f, "{fault}"),
+            ServeFault::Unsettled(fault) => write!(f, "{fault}"),
             ServeFault::Unreconciled(fault) => write!(f, "{fault}"),
             ServeFault::OutOfMemory => f.write_str("OutOfMemory"),
         }

@@ -2,14 +2,16 @@
 
 ghost use Rattle.std.specs.Prelude.{◌≡◌, ◌≤◌, ◌<◌, ◌+◌, Err, IfErr, IfOk, OnErr, OnOk, [], false, is_none, length, max, string_bytes};
 ghost use Rattle.gi_serving.specs.Batches.{submission as submission_in};
-ghost use Rattle.gi_serving.specs.Ending.{AreAllSeats, AreSamePlaces, IsCut, IsOver, IsTold};
-ghost use Rattle.gi_serving.specs.Runs.{AddsFirst, IsFirst, TellsAll, TellsFirst, lead, pieces};
+ghost use Rattle.gi_serving.specs.Closing.{IsClosed};
+ghost use Rattle.gi_serving.specs.Ending.{AreAllSeats, AreSamePlaces, Closes, IsCut, IsOver, IsTold};
+ghost use Rattle.gi_serving.specs.Making.{AddsFirst, MakesFirst, Runs, RunsSome, new_offices, offices_of};
+ghost use Rattle.gi_serving.specs.Runs.{lead, pieces};
 
 use crate::both::Both;
 use crate::closing::Closed;
 use crate::pieces::submission;
-use crate::running::Running;
 use crate::serve_fault::ServeFault;
+use crate::station::Station;
 use crate::watch::Watch;
 use gi_desk::Desk;
 use gi_initiator::Initiating;
@@ -68,7 +70,8 @@ fn made<
     ensures sessions { both.new.sessions ≡ both.old.sessions }
     ensures ours { OnOk result (AreSamePlaces both.old.initiating.seats.items both.new.initiating.seats.items) }
     ensures theirs { OnOk result (AreSamePlaces both.old.matching.seats.items both.new.matching.seats.items) }
-    ensures text { IfOk result (λ text. IsFirst lines.now (max batch 1) (string_bytes text)) }
+    ensures made { IfOk result (λ text. MakesFirst both.old.sessions lines.now (max batch 1)
+        (offices_of both.old.initiating both.old.matching) (string_bytes text) (offices_of both.new.initiating both.new.matching)) }
 {
     if batch == 0 {
         both.line(rt, &lines[0])
@@ -78,7 +81,7 @@ fn made<
 }
 
 /// Makes these and then the turns that save, and tells of them. Nothing is told where it is cut off.
-#[tactic(auto, using(crate::proofs::Places::same_again, crate::proofs::Places::same_length, crate::proofs::Places::still_some))]
+#[tactic(auto, using(crate::proofs::Places::same_again, crate::proofs::Places::same_length, crate::proofs::Places::still_some, crate::proofs::Walking::first_added))]
 fn step<
     L: Ledger + Send + Sync,
     K: Ledger + Send + Sync,
@@ -99,7 +102,8 @@ fn step<
     ensures sessions { both.new.sessions ≡ both.old.sessions }
     ensures ours { OnOk result (AreSamePlaces both.old.initiating.seats.items both.new.initiating.seats.items) }
     ensures theirs { OnOk result (AreSamePlaces both.old.matching.seats.items both.new.matching.seats.items) }
-    ensures told { OnOk result (AddsFirst lines.now (max batch 1) (string_bytes text.old) (string_bytes text.new)) }
+    ensures made { OnOk result (AddsFirst both.old.sessions lines.now (max batch 1)
+        (offices_of both.old.initiating both.old.matching) (string_bytes text.old) (string_bytes text.new) (offices_of both.new.initiating both.new.matching)) }
     ensures kept { OnErr result (string_bytes text.new ≡ string_bytes text.old) }
     ensures cut { IfErr result (λ fault. IsCut (Err fault)) }
 {
@@ -115,8 +119,9 @@ fn step<
     }
 }
 
-/// Makes all lines, batch by batch, and adds what it tells of them to the text.
-#[tactic(auto, using(crate::proofs::Places::same_again, crate::proofs::Places::same_length, crate::proofs::Walking::next_made, crate::proofs::Walking::begun, crate::proofs::Walking::so_far, crate::proofs::Walking::to_the_end))]
+/// Makes all lines, batch by batch, and adds what it tells of them to the text, which has in the end
+/// just the lines that the watch was told are made.
+#[tactic(auto, using(crate::proofs::Places::same_again, crate::proofs::Places::same_length, crate::proofs::Walking::begun, crate::proofs::Walking::so_far, crate::proofs::Walking::to_the_end))]
 fn run<
     L: Ledger + Send + Sync,
     K: Ledger + Send + Sync,
@@ -131,13 +136,15 @@ fn run<
     watch: &mut V,
 ) -> Result<(), ServeFault>
     requires none { string_bytes text.old ≡ [] }
+    requires begun { V.told watch.old ≡ 0 }
     requires ours { length both.old.initiating.seats.items ≡ both.old.sessions + 1 }
     requires theirs { length both.old.matching.seats.items ≡ both.old.sessions + 1 }
     ensures sessions { both.new.sessions ≡ both.old.sessions }
     ensures ours { OnOk result (AreSamePlaces both.old.initiating.seats.items both.new.initiating.seats.items) }
     ensures theirs { OnOk result (AreSamePlaces both.old.matching.seats.items both.new.matching.seats.items) }
-    ensures told { TellsFirst lines.now (string_bytes text.new) }
-    ensures whole { OnOk result (TellsAll (pieces lines.now) (string_bytes text.new)) }
+    ensures told { RunsSome both.old.sessions lines.now (V.told watch.new) (offices_of both.old.initiating both.old.matching) (string_bytes text.new) }
+    ensures whole { OnOk result (Runs both.old.sessions (pieces lines.now)
+        (offices_of both.old.initiating both.old.matching) (string_bytes text.new) (offices_of both.new.initiating both.new.matching)) }
     ensures cut { IfErr result (λ fault. IsCut (Err fault)) }
 {
     let mut at = 0;
@@ -165,18 +172,12 @@ fn told(text: &mut String, closed: Closed) -> Result<(), ServeFault>
 }
 
 /// Closes both offices, adds the last lines, and says how it ended.
-#[tactic(auto, using(crate::proofs::Endings::cut, crate::proofs::Walking::whole_first))]
+#[tactic(auto, using(crate::proofs::Endings::closes))]
 fn closed<L: Ledger, K: Ledger, S: Alter + Drop>(
     both: Both<L, K, S>,
-    lines: &[Line],
     text: &mut String,
 ) -> Result<(), ServeFault>
-    requires parts { L.parts ≡ 16 }
-    requires peer_parts { K.parts ≡ 16 }
-    requires ours { AreAllSeats (both.sessions + 1) both.initiating.seats.items }
-    requires theirs { AreAllSeats (both.sessions + 1) both.matching.seats.items }
-    requires told { TellsAll (pieces lines.now) (string_bytes text.old) }
-    ensures { IsOver both.sessions lines.now (string_bytes text.new) result }
+    ensures { Closes L.parts K.parts both.sessions (offices_of both.initiating both.matching) (string_bytes text.old) (string_bytes text.new) result }
 {
     match both.close() {
         Ok(closed) => told(text, closed),
@@ -185,7 +186,7 @@ fn closed<L: Ledger, K: Ledger, S: Alter + Drop>(
 }
 
 /// Makes all lines, and closes.
-#[tactic(auto, using(crate::proofs::Places::all_length, crate::proofs::Places::still_all, crate::proofs::Endings::counted_so, crate::proofs::Endings::cut))]
+#[tactic(auto, using(crate::proofs::Endings::cut, crate::proofs::Endings::over))]
 fn end_of<
     L: Ledger + Send + Sync,
     K: Ledger + Send + Sync,
@@ -200,21 +201,23 @@ fn end_of<
     watch: &mut V,
 ) -> Result<(), ServeFault>
     requires none { string_bytes text.old ≡ [] }
+    requires begun { V.told watch.old ≡ 0 }
     requires parts { L.parts ≡ 16 }
     requires peer_parts { K.parts ≡ 16 }
-    requires ours { AreAllSeats (both.sessions + 1) both.initiating.seats.items }
-    requires theirs { AreAllSeats (both.sessions + 1) both.matching.seats.items }
-    ensures { IsOver both.sessions lines.now (string_bytes text.new) result }
+    requires new { offices_of both.initiating both.matching ≡ new_offices both.sessions }
+    ensures over { IsOver both.sessions lines.now (string_bytes text.new) result }
+    ensures told { IsCut result → RunsSome both.sessions lines.now (V.told watch.new) (new_offices both.sessions) (string_bytes text.new) }
 {
     let mut both = both;
-    if let Err(fault) = run(rt, &mut both, lines, text, watch) {
-        return Err(fault);
+    match run(rt, &mut both, lines, text, watch) {
+        Ok(()) => closed(both, text),
+        Err(fault) => Err(fault),
     }
-    closed(both, lines, text)
 }
 
-#[tactic(auto, using(crate::proofs::Endings::cut, crate::proofs::Walking::none_first))]
-fn with_both<
+/// Opens both offices, makes all lines, and closes.
+#[tactic(auto, using(crate::proofs::Walking::none_made))]
+fn serve_by<
     L: Ledger + Send + Sync,
     K: Ledger + Send + Sync,
     S: Alter + Drop,
@@ -222,88 +225,41 @@ fn with_both<
     V: Watch,
 >(
     rt: &T,
-    alloc: Global,
-    script: &Script,
     sessions: u8,
-    initiating: Running<Initiating, L, S>,
-    blank: Blank,
-    matching: (Desk<Matching>, BookStore<S>),
+    initiating: Station<Initiating, S>,
+    matching: Station<Matching, S>,
+    lines: &[Line],
     text: &mut String,
     watch: &mut V,
 ) -> Result<(), ServeFault>
     requires none { string_bytes text.old ≡ [] }
-    requires name { blank.name ≡ K.name }
-    requires whole { blank.parts ≡ K.parts }
-    requires parts { blank.parts ≡ 16 }
+    requires begun { V.told watch.old ≡ 0 }
     requires some { 1 ≤ sessions }
     requires few { sessions < 16 }
-    requires ours { L.parts ≡ 16 }
-    requires office { initiating.office.seats ≡ sessions + 1 }
-    requires seats { AreAllSeats (sessions + 1) initiating.seats.items }
-    requires saved { matching.0.saved ≡ length matching.0.facts }
-    requires runs { matching.0.halted ≡ false }
-    ensures { IsOver sessions script.now.lines (string_bytes text.new) result }
+    requires name { initiating.blank.name ≡ L.name }
+    requires whole { initiating.blank.parts ≡ L.parts }
+    requires parts { initiating.blank.parts ≡ 16 }
+    requires saved { initiating.desk.saved ≡ length initiating.desk.facts }
+    requires runs { initiating.desk.halted ≡ false }
+    requires peer_name { matching.blank.name ≡ K.name }
+    requires peer_whole { matching.blank.parts ≡ K.parts }
+    requires peer_parts { matching.blank.parts ≡ 16 }
+    requires peer_saved { matching.desk.saved ≡ length matching.desk.facts }
+    requires peer_runs { matching.desk.halted ≡ false }
+    ensures over { IsOver sessions lines.now (string_bytes text.new) result }
+    ensures told { IsCut result → RunsSome sessions lines.now (V.told watch.new) (new_offices sessions) (string_bytes text.new) }
 {
-    let (desk, book) = matching;
-    let Ok(matching) = Running::<Matching, K, S>::open(alloc, blank, desk, book, sessions) else {
-        return Err(ServeFault::OutOfMemory);
-    };
-    let both = Both {
-        alloc,
-        sessions,
-        initiating,
-        matching,
-    };
-    end_of(rt, both, script.lines(), text, watch)
-}
-
-#[tactic(auto, using(crate::proofs::Endings::cut, crate::proofs::Walking::none_first))]
-fn with_one<L: Ledger + Send + Sync, S: Alter + Drop, T: Threads + Wait + Sync, V: Watch>(
-    rt: &T,
-    alloc: Global,
-    script: &Script,
-    sessions: u8,
-    blank: Blank,
-    initiating: (Desk<Initiating>, BookStore<S>),
-    matching: (Desk<Matching>, BookStore<S>),
-    text: &mut String,
-    watch: &mut V,
-) -> Result<(), ServeFault>
-    requires none { string_bytes text.old ≡ [] }
-    requires name { blank.name ≡ L.name }
-    requires whole { blank.parts ≡ L.parts }
-    requires parts { blank.parts ≡ 16 }
-    requires some { 1 ≤ sessions }
-    requires few { sessions < 16 }
-    requires saved { initiating.0.saved ≡ length initiating.0.facts }
-    requires runs { initiating.0.halted ≡ false }
-    requires peer_saved { matching.0.saved ≡ length matching.0.facts }
-    requires peer_runs { matching.0.halted ≡ false }
-    ensures { IsOver sessions script.now.lines (string_bytes text.new) result }
-{
-    let (desk, book) = initiating;
-    let Ok(initiating) = Running::<Initiating, L, S>::open(alloc, blank, desk, book, sessions)
-    else {
-        return Err(ServeFault::OutOfMemory);
-    };
-    with_both::<L, Brand, S, T, V>(
-        rt,
-        alloc,
-        script,
-        sessions,
-        initiating,
-        Blank::new(16),
-        matching,
-        text,
-        watch,
-    )
+    match Both::<L, K, S>::open(sessions, initiating, matching) {
+        Ok(both) => end_of(rt, both, lines, text, watch),
+        Err(_) => Err(ServeFault::OutOfMemory),
+    }
 }
 
 /// Serves a script by both offices, each with so many sessions, from 1 to 15, from desks that are not
 /// halted and whose facts are all saved, and their books, which are loaded. The text has a line of each
 /// step, and then the last lines of both offices, handed all their seats. Where memory runs out, or a turn
 /// that saves answers a fault, that is the end, and the text has the lines of what was done before. The
-/// watch is told after each batch and each other line how many lines are made.
+/// watch is told after each batch and each other line how many lines are made and told of.
 pub fn serve<S: Alter + Drop, T: Threads + Wait + Sync, V: Watch>(
     rt: &T,
     alloc: Global,
@@ -319,19 +275,28 @@ pub fn serve<S: Alter + Drop, T: Threads + Wait + Sync, V: Watch>(
     requires runs { initiating.0.halted ≡ false }
     requires peer_saved { matching.0.saved ≡ length matching.0.facts }
     requires peer_runs { matching.0.halted ≡ false }
-    ensures { IsOver sessions script.now.lines (string_bytes result.text) result.end }
+    ensures over { IsOver sessions script.now.lines (string_bytes result.text) result.end }
+    ensures told { IsCut result.end → RunsSome sessions script.now.lines (V.told watch.new) (new_offices sessions) (string_bytes result.text) }
 {
-    let mut text = String::new(alloc);
-    let end = with_one::<Brand, S, T, V>(
-        rt,
+    let lines = script.lines();
+    watch.made(0, lines.len());
+    let (desk, book) = initiating;
+    let initiating = Station {
         alloc,
-        script,
-        sessions,
-        Blank::new(16),
-        initiating,
-        matching,
-        &mut text,
-        watch,
+        blank: Blank::new(16),
+        desk,
+        book,
+    };
+    let (desk, book) = matching;
+    let matching = Station {
+        alloc,
+        blank: Blank::new(16),
+        desk,
+        book,
+    };
+    let mut text = String::new(alloc);
+    let end = serve_by::<Brand, Brand, S, T, V>(
+        rt, sessions, initiating, matching, lines, &mut text, watch,
     );
     watch.ended();
     Served { text, end }

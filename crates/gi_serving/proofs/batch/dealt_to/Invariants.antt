@@ -1,5 +1,6 @@
-use Rattle.std.proofs.Common.{◌≡◌, length}
+use Rattle.std.proofs.Common.{◌≡◌, map}
+use Rattle.gi_serving.specs.Submitting.{bodies_in, dealt_to_all}
 use Rattle.gi_serving.proofs.batch.dealt_to.Given as goal
 
-abbrev pub invariant-loop-seat : goal.invariant-loop-seat
-invariant-loop-seat g l = length l.dealt.items ≡ l.seat-index
+abbrev pub invariant-loop-before : goal.invariant-loop-before
+invariant-loop-before l = map bodies_in l.dealt.items ≡ dealt_to_all l.before l.numbers l.bodies

@@ -1,8 +1,27 @@
-use Rattle.gi_serving.proofs.Places.{all_length}
+use Rattle.std.proofs.Common.{ℕ, length, string_bytes, ap, ◌∙◌, subst}
+use Rattle.gi_serving.specs.Ending.{Closes}
+use Rattle.gi_serving.specs.Making.{OfficesState, offices_of}
+use Rattle.gi_serving.proofs.Endings.{new_length, over, told_so}
 use Rattle.gi_serving.proofs.serving.end_of.Goals as goal
 
 pub run-requires-clause-ours : goal.run-requires-clause-ours
-run-requires-clause-ours g c κs within = all_length c.args.both.sessions c.args.both.initiating.seats.items c.requires.ours
+run-requires-clause-ours g c κs within = ap (λ (s : OfficesState). length s.initiating.seats) c.requires.new ∙ new_length c.args.both.sessions
 
 pub run-requires-clause-theirs : goal.run-requires-clause-theirs
-run-requires-clause-theirs g c κs within = all_length c.args.both.sessions c.args.both.matching.seats.items c.requires.theirs
+run-requires-clause-theirs g c κs within = ap (λ (s : OfficesState). length s.matching.seats) c.requires.new ∙ new_length c.args.both.sessions
+
+pub returns-in-Ok-clause-over : goal.returns-in-Ok-clause-over
+returns-in-Ok-clause-over g c =
+    let start = offices_of c.args.both.initiating c.args.both.matching in
+    let reached = offices_of c.run.new.both.initiating c.run.new.both.matching in
+    over c.args.both.sessions g.L.Ledger.parts g.K.Ledger.parts (g.V.Watch.told c.run.new.watch) c.args.lines.now start reached (string_bytes c.run.new.text) (string_bytes c.closed.new.text) c.closed.result
+    c.requires.new c.requires.parts c.requires.peer_parts c.in-Ok.ensures.ours c.in-Ok.ensures.theirs c.in-Ok.ensures.whole c.in-Ok.ensures.told
+    (subst (λ (n : ℕ). Closes g.L.Ledger.parts g.K.Ledger.parts n reached (string_bytes c.run.new.text) (string_bytes c.closed.new.text) c.closed.result) c.in-Ok.ensures.sessions c.closed.ensures)
+
+pub returns-in-Ok-clause-told : goal.returns-in-Ok-clause-told
+returns-in-Ok-clause-told g c =
+    let start = offices_of c.args.both.initiating c.args.both.matching in
+    let reached = offices_of c.run.new.both.initiating c.run.new.both.matching in
+    told_so c.args.both.sessions g.L.Ledger.parts g.K.Ledger.parts (g.V.Watch.told c.run.new.watch) c.args.lines.now start reached (string_bytes c.run.new.text) (string_bytes c.closed.new.text) c.closed.result
+    c.requires.new c.in-Ok.ensures.told
+    (subst (λ (n : ℕ). Closes g.L.Ledger.parts g.K.Ledger.parts n reached (string_bytes c.run.new.text) (string_bytes c.closed.new.text) c.closed.result) c.in-Ok.ensures.sessions c.closed.ensures)

@@ -1,6 +1,6 @@
 use Rattle.std.proofs.Common.{◌≡◌, ◌≤◌, ◌-◌, length, string_bytes}
 use Rattle.gi_serving.specs.Ending.{AreSamePlaces}
-use Rattle.gi_serving.specs.Runs.{TellsTo}
+use Rattle.gi_serving.specs.Making.{RunsTo, offices_of}
 use Rattle.gi_serving.proofs.serving.run.Given as goal
 
 abbrev pub invariant-loop-at : goal.invariant-loop-at
@@ -9,7 +9,8 @@ invariant-loop-at g l = record {
   sessions : l.both.sessions ≡ l.initial.both.sessions;
   ours : AreSamePlaces l.initial.both.initiating.seats.items l.both.initiating.seats.items;
   theirs : AreSamePlaces l.initial.both.matching.seats.items l.both.matching.seats.items;
-  told : TellsTo l.fn.lines l.at (string_bytes l.text);
+  watched : g.V.Watch.told l.watch ≡ l.at;
+  made : RunsTo l.initial.both.sessions l.fn.lines l.at (offices_of l.initial.both.initiating l.initial.both.matching) (string_bytes l.text) (offices_of l.both.initiating l.both.matching);
 }
 
 abbrev pub decreases-loop-at : goal.decreases-loop-at

@@ -1,0 +1,10 @@
+use Rattle.std.proofs.Common.{◌≡◌}
+use Rattle.gi_serving.specs.Asking.{NotesMarks}
+use Rattle.gi_serving.specs.Ending.{place_of}
+use Rattle.gi_serving.proofs.running.saved_all.Given as goal
+
+abbrev pub invariant-loop : goal.invariant-loop
+invariant-loop g l = record {
+  place : place_of l.main ≡ place_of l.fn.seat;
+  marks : NotesMarks l.fn.seat l.main;
+}

@@ -1,0 +1,14 @@
+use gi_desk::{Desk, Role};
+use gi_store::BookStore;
+use sqlite::Alter;
+use std::alloc::Global;
+use std::sync::ledger::Blank;
+
+/// What an office is opened with: memory, a blank ledger, its desk, and its book.
+#[derive(Drop)]
+pub(crate) struct Station<R: Role, S: Alter + Drop> {
+    pub(crate) alloc: Global,
+    pub(crate) blank: Blank,
+    pub(crate) desk: Desk<R>,
+    pub(crate) book: BookStore<S>,
+}
