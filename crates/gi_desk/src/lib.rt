@@ -20,7 +20,7 @@
 //! ```
 //!
 //! Whoever drives a desk has four duties, in this order: to make the call; to write each fact that
-//! it recorded to the store, as the row of its number; to tell the desk that the fact stands there
+//! it recorded to the store, under its number; to tell the desk that the fact stands there
 //! for good; and only then to send what that lets out.
 //!
 //! ```text

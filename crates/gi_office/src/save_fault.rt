@@ -13,7 +13,8 @@ pub enum SaveFault {
     Halted,
     /// The book refused the facts, or has other ones in their place. The desk is halted.
     Store(StoreFault),
-    /// The copies of the facts, a mark or the halt was refused.
+    /// The copies of the facts, a mark or the halt was refused, or there was no memory to see how many
+    /// facts one row takes.
     Office(OfficeFault),
     /// The facts stand in the book, and the desk refused the mark of one.
     Marked(Refusal),

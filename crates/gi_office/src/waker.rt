@@ -6,9 +6,9 @@ use gi_pairs::Side;
 use std::marker::Model;
 use std::sync::Wait;
 
-/// A gate that lets every call through, and notifies of each that was made: who makes turns that save
-/// gets the side of the office. Where nobody takes notices, or memory runs out, the notice is lost,
-/// and nothing else changes.
+/// A gate that lets every call through, and tells who makes turns that save of each that was
+/// answered: it sends the side of the office. Where nobody takes the notices, or memory runs out, the
+/// notice is lost, and nothing else changes.
 #[derive(Drop)]
 pub struct Waker {
     side: Side,

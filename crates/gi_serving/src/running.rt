@@ -74,7 +74,7 @@ fn word_of(answer: Option<Result<Receipt, OfficeFault>>) -> Result<Option<Word>,
     }
 }
 
-/// Whether a turn saved a fact.
+/// Whether a turn saved any facts.
 fn saved(turn: Result<Turn, SaveFault>) -> Result<bool, SaveFault>
     ensures value { result ≡ saved_of turn }
     ensures fault { IfErr result IsTurnFault }
@@ -87,7 +87,7 @@ fn saved(turn: Result<Turn, SaveFault>) -> Result<bool, SaveFault>
     }
 }
 
-/// Makes a turn that saves from the seat: whether it saved a fact.
+/// Makes a turn that saves from the seat: whether it saved any facts.
 #[tactic(auto, using(crate::proofs::Places::turned))]
 fn turned<R: Role, L: Ledger, S: Alter, W: Wait>(
     rt: &W,

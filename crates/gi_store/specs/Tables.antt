@@ -1,4 +1,4 @@
--- The two tables of a book: `book`, whose one row says its version, and `facts`, with a row for each fact.
+-- The two tables of a book: `book`, whose one row says its version, and `facts`, with a row for each batch of facts.
 use Rattle.std.specs.Prelude.{◌≡◌, ℕ, Bool, true, false, List, [], ◌∷◌, ◌++◌, codes, Option, Some, slice_get, option_map, option_and_then, unwrap_or}
 use Rattle.sqlite_value.specs.declared.keys.Collation.TheVariants.{Binary}
 use Rattle.sqlite_value.specs.declared.value.Value.TheVariants.{Null}
