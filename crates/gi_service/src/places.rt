@@ -10,7 +10,7 @@ use std::alloc::Global;
 
 /// Where books stand. Nothing is said of what they hold before they are loaded.
 pub(crate) trait Place {
-    type Store: Alter + Drop;
+    type Store: Alter + Drop + Send;
 
     /// Opens the book of a side, and makes it where it is not there. It is not loaded.
     fn book(&self, side: Side) -> Result<BookStore<Self::Store>, StoreFault>;

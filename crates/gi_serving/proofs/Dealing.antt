@@ -8,9 +8,10 @@ use Rattle.gi_office.specs.Keeping.{SeatState}
 use Rattle.gi_office.specs.declared.receipt.Receipt.{Receipt}
 use Rattle.gi_pairs.specs.declared.side.Side.{Side}
 use Rattle.gi_script.specs.declared.line.Line.{Line}
+use Rattle.gi_serving.specs.Asking.{NotesMarks}
 use Rattle.gi_serving.specs.Assigning.{sessions_of}
 use Rattle.gi_serving.specs.Batches.{submission}
-use Rattle.gi_serving.specs.Submitting.{AreWords, AreWordsOf, SessionsSubmit, SubmitsBatch, bodies_in, bodies_of, body_for, dealt, dealt_to_all, in_order, word_for}
+use Rattle.gi_serving.specs.Submitting.{AreWords, AreWordsOf, SessionsMake, SessionsSubmit, SubmitsBatch, bodies_in, bodies_of, body_for, dealt, dealt_to_all, in_order, word_for}
 use Rattle.gi_serving.specs.declared.word.Word.{Word}
 
 -- ---- the bodies
@@ -218,11 +219,24 @@ all_told numbers all left words same told = record { count = same; each = λ bef
 
 -- ---- the batch
 
-pub submits_batch : (side : Side) (sessions : ℕ) (bodies : List (List ℕ)) (numbers : List ℕ) (given : List (List (List ℕ))) (old : List SeatState) (receipts : List (List Receipt)) (words : List Word) (new : List SeatState)
+pub sessions_make : (side : Side) (sessions : ℕ) (bodies : List (List ℕ)) (numbers : List ℕ) (given : List (List (List ℕ))) (old : List SeatState) (receipts : List (List Receipt)) (words : List Word) (new : List SeatState)
     → numbers ≡ sessions_of sessions bodies → given ≡ dealt_to_all sessions numbers bodies → SessionsSubmit side given old receipts new → AreWords numbers receipts words
-    → SubmitsBatch side sessions bodies old words new
-submits_batch side sessions bodies numbers given old receipts words new dealing is submit are = record {
+    → SessionsMake side sessions bodies old words new
+sessions_make side sessions bodies numbers given old receipts words new dealing is submit are = record {
   receipts = receipts;
   submit = subst (λ (g : List (List (List ℕ))). SessionsSubmit side g old receipts new) (is ∙ ap (λ (ns : List ℕ). dealt_to_all sessions ns bodies) dealing) submit;
   words_are = subst (λ (ns : List ℕ). AreWords ns receipts words) dealing are;
+}
+
+pub submits_batch : (side : Side) (sessions : ℕ) (bodies : List (List ℕ)) (old others back new : List SeatState) (words : List Word) (main after : SeatState)
+    → old ≡ others ++ main ∷ [] → new ≡ back ++ after ∷ [] → SessionsMake side sessions bodies others words back → NotesMarks main after → SubmitsBatch side sessions bodies old words new
+submits_batch side sessions bodies old others back new words main after taken given make notes = record {
+  others = others;
+  main = main;
+  back = back;
+  after = after;
+  old_is = taken;
+  new_is = given;
+  make = make;
+  notes = notes;
 }

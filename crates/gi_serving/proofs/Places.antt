@@ -137,41 +137,39 @@ seats_begun [] given same = refl
 seats_begun (seat ∷ seats) [] same = absurd (omega (arith, same))
 seats_begun (seat ∷ seats) (bodies ∷ given) same = ap (λ (ss : List SeatState). seat ∷ ss) (seats_begun seats given (omega (arith, same)))
 
-front_length : (old front : List SeatState) (main : SeatState) (given : List (List (List ℕ))) → old ≡ front ++ main ∷ [] → length old ≡ length given + 1 → length front ≡ length given
-front_length old front main given taken many = omega (arith, ap length taken, length-append front (main ∷ []), many)
-
 -- as many are served as lists were given
-pub served_all : (side : Side) (old front : List SeatState) (main : SeatState) (given : List (List (List ℕ))) (sessions : List SessionState) (all : List ServedState)
-    → old ≡ front ++ main ∷ [] → length old ≡ length given + 1 → sessions ≡ begun_by front given → AreServed side goes_on 1 sessions all → length all ≡ length given
-served_all side old front main given sessions all taken many begun h =
-    let same : length front ≡ length given = front_length old front main given taken many in
-    let seats : map seat_of (begun_by front given) ≡ front = seats_begun front given same in
-    omega (arith, served_length side goes_on 1 sessions all h, ap length begun, length-map (begun_by front given) seat_of, ap length seats, same)
+pub served_all : (side : Side) (old : List SeatState) (given : List (List (List ℕ))) (sessions : List SessionState) (all : List ServedState)
+    → length old ≡ length given → sessions ≡ begun_by old given → AreServed side goes_on 1 sessions all → length all ≡ length given
+served_all side old given sessions all many begun h =
+    let seats : map seat_of (begun_by old given) ≡ old = seats_begun old given many in
+    omega (arith, served_length side goes_on 1 sessions all h, ap length begun, length-map (begun_by old given) seat_of, ap length seats, many)
 
--- all seats but the main one were those of the sessions
-pub served_places : (side : Side) (old front new : List SeatState) (main : SeatState) (given : List (List (List ℕ))) (sessions : List SessionState) (all : List ServedState)
-    → old ≡ front ++ main ∷ [] → length old ≡ length given + 1 → sessions ≡ begun_by front given → AreServed side goes_on 1 sessions all → new ≡ map seat_in all ++ main ∷ [] → AreSamePlaces old new
-served_places side old front new main given sessions all taken many begun h back =
-    ap (map place_of) back
-    ∙ map-append place_of (map seat_in all) (main ∷ [])
-    ∙ ap (λ (places : List (ℕ × ℕ)). places ++ place_of main ∷ []) (served side goes_on 1 sessions all h ∙ ap (map place_of) seats)
-    ∙ sym (map-append place_of front (main ∷ []))
-    ∙ sym (ap (map place_of) taken)
+-- the seats were those of the sessions
+pub served_places : (side : Side) (old new : List SeatState) (given : List (List (List ℕ))) (sessions : List SessionState) (all : List ServedState)
+    → length old ≡ length given → sessions ≡ begun_by old given → AreServed side goes_on 1 sessions all → new ≡ map seat_in all → AreSamePlaces old new
+served_places side old new given sessions all many begun h back = ap (map place_of) back ∙ (served side goes_on 1 sessions all h ∙ ap (map place_of) seats)
   where
-    seats : map seat_of sessions ≡ front
-    seats = ap (map seat_of) begun ∙ seats_begun front given (front_length old front main given taken many)
+    seats : map seat_of sessions ≡ old
+    seats = ap (map seat_of) begun ∙ seats_begun old given many
 
 -- what the sessions made of the seats
-pub submit_so : (side : Side) (old front new : List SeatState) (main : SeatState) (given : List (List (List ℕ))) (sessions : List SessionState) (all : List ServedState) (receipts : List (List Receipt))
-    → old ≡ front ++ main ∷ [] → sessions ≡ begun_by front given → AreServed side goes_on 1 sessions all → new ≡ map seat_in all ++ main ∷ [] → receipts ≡ map receipts_in all → short_of false all ≡ false
+pub submit_so : (side : Side) (old new : List SeatState) (given : List (List (List ℕ))) (sessions : List SessionState) (all : List ServedState) (receipts : List (List Receipt))
+    → sessions ≡ begun_by old given → AreServed side goes_on 1 sessions all → new ≡ map seat_in all → receipts ≡ map receipts_in all → short_of false all ≡ false
     → SessionsSubmit side given old receipts new
-submit_so side old front new main given sessions all receipts taken begun h back are well = record {
-  others = front;
-  main = main;
+submit_so side old new given sessions all receipts begun h back are well = record {
   served = all;
-  old_is = taken;
   new_is = back;
   submitted = subst (λ (ss : List SessionState). AreServed side goes_on 1 ss all) begun h;
   receipts_are = are;
   memory = well;
 }
+
+-- the last seat is given back to the others
+pub with_last : (old others back new : List SeatState) (main after : SeatState) → old ≡ others ++ main ∷ [] → new ≡ back ++ after ∷ [] → AreSamePlaces others back → place_of after ≡ place_of main → AreSamePlaces old new
+with_last old others back new main after taken given same last =
+    ap (map place_of) given
+    ∙ map-append place_of back (after ∷ [])
+    ∙ ap (λ (places : List (ℕ × ℕ)). places ++ place_of after ∷ []) same
+    ∙ ap (λ (place : ℕ × ℕ). map place_of others ++ place ∷ []) last
+    ∙ sym (map-append place_of others (main ∷ []))
+    ∙ sym (ap (map place_of) taken)

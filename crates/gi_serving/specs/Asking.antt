@@ -16,6 +16,7 @@ use Rattle.gi_office.specs.declared.save_fault.SaveFault.TheVariants as savings
 use Rattle.gi_office.specs.declared.turn.Turn.{Turn}
 use Rattle.gi_office.specs.declared.turn.Turn.TheVariants as turns
 use Rattle.gi_pairs.specs.declared.side.Side.{Side}
+use Rattle.gi_pairs.specs.declared.side.Side.TheVariants.{I, M}
 use Rattle.gi_script.specs.declared.instruction.Instruction.{Instruction}
 use Rattle.gi_script.specs.declared.instruction.Instruction.TheVariants as instructions
 use Rattle.gi_script.specs.declared.line.Line.{Line}
@@ -112,6 +113,11 @@ pub record NotesMarks (old new : SeatState) : Type 0 where
   pub marks : List Note
   pub are_marks : All IsMark marks
   pub new_is : new ≡ record old { notes = old.notes ++ marks; amount = old.amount + length marks }
+
+-- of both main seats, that of the other side is as it was
+abbrev pub OtherIs : Side → SeatState → SeatState → SeatState → SeatState → Type 0
+OtherIs I main after peer_main peer_after = peer_after ≡ peer_main
+OtherIs M main after peer_main peer_after = after ≡ main
 
 -- the last seat, and no other
 pub record MarksLast (old new : List SeatState) : Type 0 where

@@ -9,6 +9,7 @@ use Rattle.gi_office.specs.declared.receipt.Receipt.{Receipt}
 use Rattle.gi_pairs.specs.declared.side.Side.{Side}
 use Rattle.gi_pairs.specs.declared.side.Side.TheVariants.{I, M}
 use Rattle.gi_script.specs.declared.line.Line.{Line}
+use Rattle.gi_serving.specs.Asking.{NotesMarks}
 use Rattle.gi_serving.specs.Assigning.{sessions_of}
 use Rattle.gi_serving.specs.Batches.{submission}
 use Rattle.gi_serving.specs.Words.{word_of}
@@ -76,15 +77,12 @@ short_of short (one ∷ others) = short_of (short || is_short one.fault) others
 abbrev pub goes_on : ℕ → ℕ → Type 0
 goes_on session call = ⊥
 
--- All seats but the last one, which is as it was, were those of sessions: each submitted the bodies that it was given, in order, and
--- has the receipts of those that it did not leave undone. No session ended for want of memory.
+-- Each seat was that of a session, which submitted the bodies that it was given, in order, and has the receipts of those that it did
+-- not leave undone. No session ended for want of memory.
 pub record SessionsSubmit (side : Side) (given : List (List (List ℕ))) (old : List SeatState) (receipts : List (List Receipt)) (new : List SeatState) : Type 0 where
-  pub others : List SeatState
-  pub main : SeatState
   pub served : List ServedState
-  pub old_is : old ≡ others ++ main ∷ []
-  pub new_is : new ≡ map seat_in served ++ main ∷ []
-  pub submitted : AreServed side goes_on 1 (begun_by others given) served
+  pub new_is : new ≡ map seat_in served
+  pub submitted : AreServed side goes_on 1 (begun_by old given) served
   pub receipts_are : receipts ≡ map receipts_in served
   pub memory : short_of false served ≡ false
 
@@ -107,7 +105,18 @@ pub record AreWords (numbers : List ℕ) (receipts : List (List Receipt)) (words
 
 -- What the sessions of a side make of the bodies of a batch: each body goes to the session of its portfolio, which submits those
 -- that go to it, in order; and the word of each is that of its receipt.
-pub record SubmitsBatch (side : Side) (sessions : ℕ) (bodies : List (List ℕ)) (old : List SeatState) (words : List Word) (new : List SeatState) : Type 0 where
+pub record SessionsMake (side : Side) (sessions : ℕ) (bodies : List (List ℕ)) (old : List SeatState) (words : List Word) (new : List SeatState) : Type 0 where
   pub receipts : List (List Receipt)
   pub submit : SessionsSubmit side (dealt_to_all sessions (sessions_of sessions bodies) bodies) old receipts new
   pub words_are : AreWords (sessions_of sessions bodies) receipts words
+
+-- That is done by all seats of an office but the last one, the main thread's, which notes the marks of what it saves meanwhile.
+pub record SubmitsBatch (side : Side) (sessions : ℕ) (bodies : List (List ℕ)) (old : List SeatState) (words : List Word) (new : List SeatState) : Type 0 where
+  pub others : List SeatState
+  pub main : SeatState
+  pub back : List SeatState
+  pub after : SeatState
+  pub old_is : old ≡ others ++ main ∷ []
+  pub new_is : new ≡ back ++ after ∷ []
+  pub make : SessionsMake side sessions bodies others words back
+  pub notes : NotesMarks main after

@@ -4,33 +4,19 @@ ghost use Rattle.std.specs.Prelude.{◌≡◌, ◌≤◌, ◌<◌, ◌+◌, ◌+
 ghost use Rattle.gi_serving.specs.Assigning.{IsNumber};
 ghost use Rattle.gi_serving.specs.Batches.{submission as submission_in};
 ghost use Rattle.gi_serving.specs.Ending.{AreSamePlaces};
-ghost use Rattle.gi_serving.specs.Submitting.{AreWords, SessionsSubmit, SubmitsBatch, begun_by, bodies_in, bodies_of, body_for, dealt, dealt_to_all, in_order, is_short, receipts_in, seat_in, short_of, word_for};
+ghost use Rattle.gi_serving.specs.Submitting.{AreWords, SessionsMake, SessionsSubmit, begun_by, bodies_in, bodies_of, body_for, dealt, dealt_to_all, in_order, is_short, receipts_in, seat_in, short_of, word_for};
 
 use crate::assigning::sessions_of;
 use crate::pieces::submission;
 use crate::word::Word;
 use gi_desk::{Body, Role};
-use gi_office::{Gate, Office, OfficeFault, Receipt, Seat, Served, Session};
+use gi_office::{Office, OfficeFault, Receipt, Seat, Served, Session, Waker};
 use gi_pairs::Side;
 use gi_script::Line;
 use std::alloc::{AllocError, Global};
 use std::sync::Wait;
 use std::sync::ledger::Ledger;
 use std::thread::Threads;
-
-/// A gate that lets every call through.
-#[derive(Drop)]
-pub(crate) struct Open;
-
-impl Gate for Open {
-    ghost may_end = { λ _ session call. ⊥ };
-
-    fn hold<W: Wait>(&self, _rt: &W, _session: usize, _call: usize) -> bool {
-        true
-    }
-
-    fn answered<W: Wait>(&self, _rt: &W, _session: usize, _call: usize) {}
-}
 
 /// Adds the body of a submission at that side.
 fn add_body(bodies: &mut Vec<Body>, side: Side, line: &Line) -> Result<(), AllocError>
@@ -126,19 +112,18 @@ fn wanted(fault: &Option<OfficeFault>) -> bool
     }
 }
 
-/// The seats of what was served, behind them the main one, and the receipts of each session, the last
-/// one first. Where a session ended for want of memory that is told.
+/// The seats of what was served, and the receipts of each session, the last one first. Where a session
+/// ended for want of memory that is told.
 fn ended<L: Ledger>(
     served: Vec<Served<L>>,
-    main: Seat<L>,
     seats: Vec<Seat<L>>,
     receipts: Vec<Vec<Receipt>>,
 ) -> Result<(Vec<Seat<L>>, Vec<Vec<Receipt>>), AllocError>
     requires none { seats.items ≡ [] }
-    requires room { length served.items < vec_capacity seats }
+    requires room { length served.items ≤ vec_capacity seats }
     requires none_yet { receipts.items ≡ [] }
     requires receipts { length served.items ≤ vec_capacity receipts }
-    ensures seats { IfOk result (λ ended. ended.0.items ≡ map seat_in served.items ++ main ∷ []) }
+    ensures seats { IfOk result (λ ended. ended.0.items ≡ map seat_in served.items) }
     ensures receipts { IfOk result (λ ended. map in_order ended.1.items ≡ map receipts_in served.items) }
     ensures memory { OnOk result (short_of false served.items ≡ false) }
     ensures short { OnErr result (short_of false served.items ≡ true) }
@@ -153,7 +138,6 @@ fn ended<L: Ledger>(
         seats.push_reserved(seat);
         receipts.push_reserved(given);
     }
-    seats.push_reserved(main);
     if wants {
         return Err(AllocError);
     }
@@ -204,17 +188,18 @@ fn words_of(
     Ok(words)
 }
 
-/// Has sessions submit what is dealt to their seats, of which the last one is the main thread's: all
-/// seats, and the receipts of each session, the last one first.
+/// Has sessions submit what is dealt to their seats: these seats, and the receipts of each session, the
+/// last one first. The waker is asked and told of each call.
 #[tactic(auto, using(crate::proofs::Places::served_all, crate::proofs::Places::served_places, crate::proofs::Places::submit_so))]
 fn serve_all<R: Role + Send, L: Ledger + Send, T: Threads + Wait + Sync>(
     rt: &T,
     office: &Office<R, L>,
+    waker: &Waker,
     seats: Vec<Seat<L>>,
     dealt: Vec<Vec<Body>>,
     rooms: Rooms<L>,
 ) -> Result<(Vec<Seat<L>>, Vec<Vec<Receipt>>), AllocError>
-    requires dealt { length seats.items ≡ length dealt.items + 1 }
+    requires dealt { length seats.items ≡ length dealt.items }
     requires sessions { (rooms.0.items ≡ []) × (length seats.items ≤ vec_capacity rooms.0) }
     requires seats { (rooms.1.items ≡ []) × (length seats.items ≤ vec_capacity rooms.1) }
     requires receipts { (rooms.2.items ≡ []) × (length seats.items ≤ vec_capacity rooms.2) }
@@ -223,35 +208,35 @@ fn serve_all<R: Role + Send, L: Ledger + Send, T: Threads + Wait + Sync>(
     ensures done { IfOk result (λ served. SessionsSubmit R.SIDE (map bodies_in dealt.items) seats.items (map in_order served.1.items) served.0.items) }
 {
     let (sessions, back, receipts) = rooms;
-    let mut seats = seats;
-    let main = seats.pop().unwrap();
-    match office.serve(rt, &Open, begun(seats, dealt, sessions)) {
-        Ok(served) => ended(served, main, back, receipts),
+    match office.serve(rt, waker, begun(seats, dealt, sessions)) {
+        Ok(served) => ended(served, back, receipts),
         Err(_) => Err(AllocError),
     }
 }
 
-/// Submits a batch's bodies at one office, by its sessions at once; the last seat is the main thread's.
-/// The seats come back, with what came of each submission, in order.
-#[tactic(auto, using(crate::proofs::Dealing::submits_batch))]
+/// Submits a batch's bodies at one office, by its sessions at once; the waker sends a notice of each call
+/// that was answered, and is gone when all are. The seats come back, with what came of each submission, in
+/// order.
+#[tactic(auto, using(crate::proofs::Dealing::sessions_make))]
 pub(crate) fn submitted<R: Role + Send, L: Ledger + Send, T: Threads + Wait + Sync>(
     rt: &T,
     alloc: Global,
     office: &Office<R, L>,
+    waker: Waker,
     sessions: u8,
     seats: Vec<Seat<L>>,
     bodies: Vec<Body>,
 ) -> Result<(Vec<Seat<L>>, Vec<Word>), AllocError>
     requires some { 1 ≤ sessions }
     requires few { sessions < 16 }
-    requires seats { length seats.items ≡ sessions + 1 }
+    requires seats { length seats.items ≡ sessions }
     ensures places { IfOk result (λ submitted. AreSamePlaces seats.items submitted.0.items) }
-    ensures all { IfOk result (λ submitted. SubmitsBatch R.SIDE sessions bodies.items seats.items submitted.1.items submitted.0.items) }
+    ensures all { IfOk result (λ submitted. SessionsMake R.SIDE sessions bodies.items seats.items submitted.1.items submitted.0.items) }
 {
     let numbers = sessions_of(alloc, sessions, &bodies)?;
     let dealt = dealt_to(alloc, sessions, &numbers, &bodies)?;
     let rooms = rooms_for(alloc, seats.len())?;
-    let (seats, receipts) = serve_all(rt, office, seats, dealt, rooms)?;
+    let (seats, receipts) = serve_all(rt, office, &waker, seats, dealt, rooms)?;
     let words = words_of(alloc, &numbers, receipts)?;
     Ok((seats, words))
 }

@@ -1,7 +1,6 @@
 //! Both offices under way, and what a line or a batch of a script makes of them.
 
 ghost use Rattle.std.specs.Prelude.{◌≡◌, ◌≤◌, ◌<◌, ◌+◌, IfErr, IfOk, Err, IsOk, OnOk, false, length, string_bytes};
-ghost use Rattle.std.specs.Thread.{IsSync};
 ghost use Rattle.gi_pairs.specs.declared.side.Side.TheVariants.{I, M};
 ghost use Rattle.gi_serving.specs.Asking.{Sends};
 ghost use Rattle.gi_serving.specs.Closing.{IsClosed};
@@ -10,7 +9,8 @@ ghost use Rattle.gi_serving.specs.Making.{MakesBatch, MakesLine, SavesAndSends, 
 ghost use Rattle.gi_serving.specs.Runs.{side_in};
 ghost use Rattle.gi_serving.specs.Submitting.{SubmitsBatch};
 
-use crate::batch::{bodies_at, submitted};
+use crate::at_once::at_once;
+use crate::batch::bodies_at;
 use crate::closing::{Closed, close_both};
 use crate::running::Running;
 use crate::serve_fault::ServeFault;
@@ -20,15 +20,14 @@ use crate::word::Word;
 use gi_desk::Body;
 use gi_initiator::Initiating;
 use gi_matcher::Matching;
-use gi_office::Seat;
 use gi_pairs::Side;
 use gi_script::{Instruction, Line};
 use sqlite::Alter;
 use std::alloc::{AllocError, Global};
+use std::mem;
 use std::sync::Wait;
 use std::sync::ledger::Ledger;
 use std::thread::Threads;
-use std::{mem, thread};
 
 /// Both offices under way.
 #[derive(Drop)]
@@ -113,7 +112,7 @@ impl<L: Ledger, K: Ledger, S: Alter + Drop> Both<L, K, S> {
     }
 
     /// Makes a line that is no submission: its text.
-    pub(crate) fn line<W: Wait>(&mut self, rt: &W, line: &Line) -> Result<String, AllocError>
+    pub(crate) fn line<W: Wait>(&mut self, rt: &W, line: &Line) -> Result<String, ServeFault>
         requires ours { 0 < length self.old.initiating.seats.items }
         requires theirs { 0 < length self.old.matching.seats.items }
         ensures sessions { self.new.sessions ≡ self.old.sessions }
@@ -121,6 +120,7 @@ impl<L: Ledger, K: Ledger, S: Alter + Drop> Both<L, K, S> {
         ensures theirs { AreSamePlaces self.old.matching.seats.items self.new.matching.seats.items }
         ensures made { IfOk result (λ text. MakesLine (side_in line.now.instruction) line.now
             (offices_of self.old.initiating self.old.matching) (string_bytes text) (offices_of self.new.initiating self.new.matching)) }
+        ensures cut { IfErr result (λ fault. IsCut (Err fault)) }
     {
         let side = side_of(&line.instruction);
         let word = match side {
@@ -189,14 +189,15 @@ impl<L: Ledger, K: Ledger, S: Alter + Drop> Both<L, K, S> {
     }
 }
 
-impl<L: Ledger + Send + Sync, K: Ledger + Send + Sync, S: Alter + Drop> Both<L, K, S> {
-    /// The sessions of both offices submit at once: the words of each side's submissions, in order.
+impl<L: Ledger + Send + Sync, K: Ledger + Send + Sync, S: Alter + Drop + Send> Both<L, K, S> {
+    /// The sessions of both offices submit at once, and the main seats make turns that save meanwhile: the
+    /// words of each side's submissions, in order.
     fn submit<T: Threads + Wait + Sync>(
         &mut self,
         rt: &T,
         bodies: Vec<Body>,
         peer_bodies: Vec<Body>,
-    ) -> Result<(Vec<Word>, Vec<Word>), AllocError>
+    ) -> Result<(Vec<Word>, Vec<Word>), ServeFault>
         requires ours { length self.old.initiating.seats.items ≡ self.old.sessions + 1 }
         requires theirs { length self.old.matching.seats.items ≡ self.old.sessions + 1 }
         ensures sessions { self.new.sessions ≡ self.old.sessions }
@@ -208,26 +209,24 @@ impl<L: Ledger + Send + Sync, K: Ledger + Send + Sync, S: Alter + Drop> Both<L, 
         ensures peer_way { self.new.matching.way ≡ self.old.matching.way }
         ensures submits { IfOk result (λ words. SubmitsBatch I self.old.sessions bodies.items self.old.initiating.seats.items words.0.items self.new.initiating.seats.items) }
         ensures peer_submits { IfOk result (λ words. SubmitsBatch M self.old.sessions peer_bodies.items self.old.matching.seats.items words.1.items self.new.matching.seats.items) }
+        ensures cut { IfErr result (λ fault. IsCut (Err fault)) }
     {
         let (alloc, sessions) = (self.alloc, self.sessions);
         let seats = mem::replace(&mut self.initiating.seats, Vec::new(alloc));
         let peer_seats = mem::replace(&mut self.matching.seats, Vec::new(alloc));
-        let office = &self.initiating.office;
-        let peer = &self.matching.office;
-        let (ours, theirs) = thread::join(
+        let ((seats, words), (peer_seats, peer_words)) = at_once(
             rt,
-            move || -> Result<(Vec<Seat<L>>, Vec<Word>), AllocError>
-                requires { IsSync T.row × (1 ≤ sessions) × (sessions < 16) × (length seats.items ≡ sessions + 1) }
-                ensures { IfOk result (λ submitted. AreSamePlaces seats.items submitted.0.items
-                    × SubmitsBatch I sessions bodies.items seats.items submitted.1.items submitted.0.items) }
-            { submitted(rt, alloc, office, sessions, seats, bodies) },
-            move || -> Result<(Vec<Seat<K>>, Vec<Word>), AllocError>
-                requires { IsSync T.row × (1 ≤ sessions) × (sessions < 16) × (length peer_seats.items ≡ sessions + 1) }
-                ensures { IfOk result (λ submitted. AreSamePlaces peer_seats.items submitted.0.items
-                    × SubmitsBatch M sessions peer_bodies.items peer_seats.items submitted.1.items submitted.0.items) }
-            { submitted(rt, alloc, peer, sessions, peer_seats, peer_bodies) },
-        );
-        let ((seats, words), (peer_seats, peer_words)) = both_of(ours, theirs)?;
+            alloc,
+            sessions,
+            &self.initiating.office,
+            &mut self.initiating.book,
+            seats,
+            bodies,
+            &self.matching.office,
+            &mut self.matching.book,
+            peer_seats,
+            peer_bodies,
+        )?;
         put(&mut self.initiating.seats, seats);
         put(&mut self.matching.seats, peer_seats);
         Ok((words, peer_words))
@@ -238,7 +237,7 @@ impl<L: Ledger + Send + Sync, K: Ledger + Send + Sync, S: Alter + Drop> Both<L, 
         &mut self,
         rt: &T,
         lines: &[Line],
-    ) -> Result<String, AllocError>
+    ) -> Result<String, ServeFault>
         requires ours { length self.old.initiating.seats.items ≡ self.old.sessions + 1 }
         requires theirs { length self.old.matching.seats.items ≡ self.old.sessions + 1 }
         ensures sessions { self.new.sessions ≡ self.old.sessions }
@@ -246,10 +245,11 @@ impl<L: Ledger + Send + Sync, K: Ledger + Send + Sync, S: Alter + Drop> Both<L, 
         ensures theirs { OnOk result (AreSamePlaces self.old.matching.seats.items self.new.matching.seats.items) }
         ensures made { IfOk result (λ text. MakesBatch self.old.sessions lines.now
             (offices_of self.old.initiating self.old.matching) (string_bytes text) (offices_of self.new.initiating self.new.matching)) }
+        ensures cut { IfErr result (λ fault. IsCut (Err fault)) }
     {
         let bodies = bodies_at(self.alloc, Side::I, lines)?;
         let peer_bodies = bodies_at(self.alloc, Side::M, lines)?;
         let (words, peer_words) = self.submit(rt, bodies, peer_bodies)?;
-        batch_text(self.alloc, lines, words, peer_words)
+        Ok(batch_text(self.alloc, lines, words, peer_words)?)
     }
 }

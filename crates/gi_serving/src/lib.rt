@@ -31,6 +31,7 @@
 #![tactic(auto)]
 
 mod assigning;
+mod at_once;
 mod batch;
 mod both;
 mod closing;

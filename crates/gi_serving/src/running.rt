@@ -89,7 +89,7 @@ fn saved(turn: Result<Turn, SaveFault>) -> Result<bool, SaveFault>
 
 /// Makes a turn that saves from the seat: whether it saved any facts.
 #[tactic(auto, using(crate::proofs::Places::turned))]
-fn turned<R: Role, L: Ledger, S: Alter, W: Wait>(
+pub(crate) fn turned<R: Role, L: Ledger, S: Alter, W: Wait>(
     rt: &W,
     office: &Office<R, L>,
     book: &mut BookStore<S>,

@@ -1,6 +1,7 @@
 ghost use Rattle.std.specs.Prelude.{◌≡◌, Some};
 
 use gi_office::{SaveFault, Unreconciled, Unsettled};
+use std::alloc::AllocError;
 use std::error::Error;
 use std::fmt;
 
@@ -15,6 +16,16 @@ pub enum ServeFault {
     Unreconciled(Unreconciled),
     /// Memory ran out.
     OutOfMemory,
+}
+
+impl From<AllocError> for ServeFault {
+    ghost use Rattle.gi_serving.specs.declared.serve_fault.ServeFault.TheVariants.{OutOfMemory};
+
+    ghost from_gives = { λ _ e. e ≡ OutOfMemory };
+
+    fn from(_refused: AllocError) -> ServeFault {
+        ServeFault::OutOfMemory
+    }
 }
 
 impl fmt::Display for ServeFault {

@@ -19,7 +19,7 @@ use gi_matcher::Matching;
 use gi_script::{Line, Script};
 use gi_store::BookStore;
 use sqlite::Alter;
-use std::alloc::{AllocError, Global};
+use std::alloc::Global;
 use std::marker::Brand;
 use std::sync::Wait;
 use std::sync::ledger::{Blank, Ledger};
@@ -59,9 +59,9 @@ fn batch_length(lines: &[Line]) -> usize
 fn made<
     L: Ledger + Send + Sync,
     K: Ledger + Send + Sync,
-    S: Alter + Drop,
+    S: Alter + Drop + Send,
     T: Threads + Wait + Sync,
->(rt: &T, both: &mut Both<L, K, S>, lines: &[Line], batch: usize) -> Result<String, AllocError>
+>(rt: &T, both: &mut Both<L, K, S>, lines: &[Line], batch: usize) -> Result<String, ServeFault>
     requires some { 0 < length lines.now }
     requires batch { batch ≡ lead lines.now }
     requires within { batch ≤ length lines.now }
@@ -72,6 +72,7 @@ fn made<
     ensures theirs { OnOk result (AreSamePlaces both.old.matching.seats.items both.new.matching.seats.items) }
     ensures made { IfOk result (λ text. MakesFirst both.old.sessions lines.now (max batch 1)
         (offices_of both.old.initiating both.old.matching) (string_bytes text) (offices_of both.new.initiating both.new.matching)) }
+    ensures cut { IfErr result (λ fault. IsCut (Err fault)) }
 {
     if batch == 0 {
         both.line(rt, &lines[0])
@@ -85,7 +86,7 @@ fn made<
 fn step<
     L: Ledger + Send + Sync,
     K: Ledger + Send + Sync,
-    S: Alter + Drop,
+    S: Alter + Drop + Send,
     T: Threads + Wait + Sync,
 >(
     rt: &T,
@@ -107,8 +108,9 @@ fn step<
     ensures kept { OnErr result (string_bytes text.new ≡ string_bytes text.old) }
     ensures cut { IfErr result (λ fault. IsCut (Err fault)) }
 {
-    let Ok(said) = made(rt, both, lines, batch) else {
-        return Err(ServeFault::OutOfMemory);
+    let said = match made(rt, both, lines, batch) {
+        Ok(said) => said,
+        Err(fault) => return Err(fault),
     };
     if let Err(fault) = both.turns(rt) {
         return Err(fault);
@@ -125,7 +127,7 @@ fn step<
 fn run<
     L: Ledger + Send + Sync,
     K: Ledger + Send + Sync,
-    S: Alter + Drop,
+    S: Alter + Drop + Send,
     T: Threads + Wait + Sync,
     V: Watch,
 >(
@@ -190,7 +192,7 @@ fn closed<L: Ledger, K: Ledger, S: Alter + Drop>(
 fn end_of<
     L: Ledger + Send + Sync,
     K: Ledger + Send + Sync,
-    S: Alter + Drop,
+    S: Alter + Drop + Send,
     T: Threads + Wait + Sync,
     V: Watch,
 >(
@@ -220,7 +222,7 @@ fn end_of<
 fn serve_by<
     L: Ledger + Send + Sync,
     K: Ledger + Send + Sync,
-    S: Alter + Drop,
+    S: Alter + Drop + Send,
     T: Threads + Wait + Sync,
     V: Watch,
 >(
@@ -260,7 +262,7 @@ fn serve_by<
 /// step, and then the last lines of both offices, handed all their seats. Where memory runs out, or a turn
 /// that saves answers a fault, that is the end, and the text has the lines of what was done before. The
 /// watch is told after each batch and each other line how many lines are made and told of.
-pub fn serve<S: Alter + Drop, T: Threads + Wait + Sync, V: Watch>(
+pub fn serve<S: Alter + Drop + Send, T: Threads + Wait + Sync, V: Watch>(
     rt: &T,
     alloc: Global,
     script: &Script,
