@@ -1,4 +1,4 @@
--- What the main thread makes of the last seat of a side, which is its own: a call, or the turns that save; and what it was let out.
+-- What is made of the last seat of a side, which is the main one: a call, or the turns that save; and what it was let out.
 use Rattle.std.specs.Prelude.{◌≡◌, ◌⊎◌, ℕ, List, [], ◌∷◌, ◌++◌, ◌+◌, ◌-◌, All, is_some, length, slice_get, IfSome, drop, flat_map, Bool, true, false, Option, None, Some, Result, Ok, Err}
 use Rattle.gi_carrier.specs.Carrier.{given}
 use Rattle.gi_desk.specs.declared.call.Call.{Call}
@@ -74,7 +74,7 @@ way_after (instructions.Save at count) way = way
 way_after (instructions.Deliver at packet) way = way
 way_after (instructions.Restart at keep) way = way
 
--- an office under way: its seats, the main thread's last; how many of the notes of that one were sent; and the way to it
+-- an office under way: its seats, the main one last; how many of the notes of that one were sent; and the way to it
 pub record SideState : Type 0 where
   pub seats : List SeatState
   pub sent : ℕ

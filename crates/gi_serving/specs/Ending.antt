@@ -55,7 +55,7 @@ pub record IsCutOff (sessions : ℕ) (lines : List Line) (text : List ℕ) (end 
   pub cut : IsCut end
 
 -- All pieces were made and told of in order, and behind that are the last lines of both offices, each handed all its seats as they
--- are then: those of its sessions, and the main thread's.
+-- are then: those of its sessions, and the main one.
 pub record IsWhole (sessions : ℕ) (lines : List Line) (text : List ℕ) (end : Result (Unit {0}) ServeFault) : Type 0 where
   pub front : List ℕ
   pub last : List ℕ

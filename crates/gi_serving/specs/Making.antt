@@ -16,7 +16,7 @@ pub record OfficesState : Type 0 where
   pub initiating : SideState
   pub matching : SideState
 
--- just opened: each with so many sessions, and the main thread's seat; nothing was called, and nothing is on its way
+-- just opened: each with so many sessions, and the main seat; nothing was called, and nothing is on its way
 abbrev pub new_side : ℕ → SideState
 new_side sessions = record { seats = new_seats (sessions + 1); sent = 0; way = new_link }
 

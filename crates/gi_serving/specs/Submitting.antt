@@ -110,7 +110,7 @@ pub record SessionsMake (side : Side) (sessions : ℕ) (bodies : List (List ℕ)
   pub submit : SessionsSubmit side (dealt_to_all sessions (sessions_of sessions bodies) bodies) old receipts new
   pub words_are : AreWords (sessions_of sessions bodies) receipts words
 
--- That is done by all seats of an office but the last one, the main thread's, which notes the marks of what it saves meanwhile.
+-- That is done by all seats of an office but the last one, the main seat, which notes the marks of what it saves meanwhile.
 pub record SubmitsBatch (side : Side) (sessions : ℕ) (bodies : List (List ℕ)) (old : List SeatState) (words : List Word) (new : List SeatState) : Type 0 where
   pub others : List SeatState
   pub main : SeatState

@@ -1,11 +1,13 @@
 //! Both running offices (`gi_office`), driven by a script (`gi_script`), each with its book
-//! (`gi_store`): the sessions of both submit at the same time, and one main thread does all else.
+//! (`gi_store`): the sessions of both submit at the same time, each from its seat, and all else is called
+//! from a main seat of each office, by one thread at a time.
 //!
 //! ```text
 //!   script: a line, or a batch of submissions
 //!      │
 //!      ├─ a line:  the main seat of its side calls; `carry` delivers what the carrier gives
-//!      └─ a batch: the seats of the sessions submit, at both offices at once; then all are joined
+//!      └─ a batch: the seats of the sessions submit, at both offices at once, and the main seats make
+//!         a turn that saves for each notice meanwhile; then all are joined
 //!      │
 //!      ▼
 //!   turns that save, from each main seat, until nothing is left to save or the desk is halted
@@ -19,8 +21,8 @@
 //!
 //! The order is the whole point: a call records, a turn saves and then marks, a mark lets out, and what it
 //! let out is sent after the turns, with what was asked for again and is saved already. So nothing is sent
-//! of what is not saved, whichever thread recorded it. A session sends nothing to the other office: a submission lets out no more than its ACKNOW,
-//! to its portfolio, where it repeats what is saved.
+//! of what is not saved, whichever thread recorded it. A session sends nothing to the other office: a
+//! submission lets out no more than its ACKNOW, to its portfolio, where it repeats what is saved.
 //!
 //! Begin with [`serve`], which does all of it, and says how it ends. [`sessions_of`] says which session
 //! submits which nomination of a batch: all of one portfolio go to one session, since nothing is said of

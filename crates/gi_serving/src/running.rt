@@ -27,7 +27,7 @@ pub(crate) struct Running<R: Role, L: Ledger, S: Alter + Drop> {
     pub(crate) alloc: Global,
     pub(crate) office: Office<R, L>,
     pub(crate) book: BookStore<S>,
-    /// The seats of the sessions, in order, and then the main thread's.
+    /// The seats of the sessions, in order, and then the main one.
     pub(crate) seats: Vec<Seat<L>>,
     /// How many of the main seat's notes were sent.
     pub(crate) sent: usize,
@@ -149,7 +149,7 @@ fn out_since(alloc: Global, notes: &[Note], sent: usize) -> Result<Vec<Packet>, 
 }
 
 impl<R: Role, L: Ledger, S: Alter + Drop> Running<R, L, S> {
-    /// Opens the office, with a seat for each session and one for the main thread.
+    /// Opens the office, with a seat for each session and the main one.
     pub(crate) fn open(station: Station<R, S>, sessions: u8) -> Result<Running<R, L, S>, AllocError>
         requires name { station.blank.name ≡ L.name }
         requires whole { station.blank.parts ≡ L.parts }
