@@ -1,6 +1,6 @@
 -- No call takes a seat's number or its parts.
 use Rattle.std.proofs.Common.{◌≡◌, ◌⊎◌, ◌<◌, ℕ, suc, ◌+◌, List, [], ◌∷◌, ◌++◌, append-nil, length, map, take, Vec, Result, Ok, Err, inl, inr, false, refl, ap, append_assoc, subst, ◌∙◌, sym, arith}
-use Rattle.std.proofs.lemmas.List.{length-append, length-map, map-append}
+use Rattle.std.proofs.lemmas.List.{length-map, map-append}
 use Rattle.sqlite_trees.specs.declared.store.Store.{Ghosts}
 use Rattle.gi_pairs.specs.declared.side.Side.{Side}
 use Rattle.gi_facts.specs.declared.fact.Fact.{Fact}

@@ -212,23 +212,25 @@ impl<L: Ledger + Send + Sync, K: Ledger + Send + Sync, S: Alter + Drop + Send> B
         ensures cut { IfErr result (λ fault. IsCut (Err fault)) }
     {
         let (alloc, sessions) = (self.alloc, self.sessions);
-        let seats = mem::replace(&mut self.initiating.seats, Vec::new(alloc));
-        let peer_seats = mem::replace(&mut self.matching.seats, Vec::new(alloc));
+        let initiating = &mut self.initiating;
+        let matching = &mut self.matching;
+        let seats = mem::replace(&mut initiating.seats, Vec::new(alloc));
+        let peer_seats = mem::replace(&mut matching.seats, Vec::new(alloc));
         let ((seats, words), (peer_seats, peer_words)) = at_once(
             rt,
             alloc,
             sessions,
-            &self.initiating.office,
-            &mut self.initiating.book,
+            &initiating.office,
+            &mut initiating.book,
             seats,
             bodies,
-            &self.matching.office,
-            &mut self.matching.book,
+            &matching.office,
+            &mut matching.book,
             peer_seats,
             peer_bodies,
         )?;
-        put(&mut self.initiating.seats, seats);
-        put(&mut self.matching.seats, peer_seats);
+        put(&mut initiating.seats, seats);
+        put(&mut matching.seats, peer_seats);
         Ok((words, peer_words))
     }
 
