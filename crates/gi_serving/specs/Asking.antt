@@ -114,10 +114,10 @@ pub record NotesMarks (old new : SeatState) : Type 0 where
   pub are_marks : All IsMark marks
   pub new_is : new ≡ record old { notes = old.notes ++ marks; amount = old.amount + length marks }
 
--- of both main seats, that of the other side is as it was
-abbrev pub OtherIs : Side → SeatState → SeatState → SeatState → SeatState → Type 0
-OtherIs I main after peer_main peer_after = peer_after ≡ peer_main
-OtherIs M main after peer_main peer_after = after ≡ main
+-- of what both sides have, that of the other side is as it was
+abbrev pub OtherIs : {X : Type 0} → Side → X → X → X → X → Type 0
+OtherIs I old new peer_old peer_new = peer_new ≡ peer_old
+OtherIs M old new peer_old peer_new = new ≡ old
 
 -- the last seat, and no other
 pub record MarksLast (old new : List SeatState) : Type 0 where

@@ -1,4 +1,4 @@
--- What a batch submits at a side, by which session, what came of it, and the seats of the sessions.
+-- What a batch submits at a side, by which session, what came of it, and what the main seat notes meanwhile.
 use Rattle.std.specs.Prelude.{◌≡◌, ◌<◌, ℕ, ◌+◌, ◌==◌, ◌||◌, if◌then◌else◌, List, [], ◌∷◌, ◌++◌, drop, get_or, length, map, reverse, slice_get, Bool, true, false, Option, None, Some, Vec}
 use Rattle.std.specs.List.{flat_map, range_with_len}
 use Rattle.gi_office.specs.Keeping.{SeatState}
@@ -110,7 +110,8 @@ pub record SessionsMake (side : Side) (sessions : ℕ) (bodies : List (List ℕ)
   pub submit : SessionsSubmit side (dealt_to_all sessions (sessions_of sessions bodies) bodies) old receipts new
   pub words_are : AreWords (sessions_of sessions bodies) receipts words
 
--- That is done by all seats of an office but the last one, the main seat, which notes the marks of what it saves meanwhile.
+-- A batch at a side: its sessions make it, from all seats but the last one, the main seat, which notes the marks of what is saved
+-- meanwhile.
 pub record SubmitsBatch (side : Side) (sessions : ℕ) (bodies : List (List ℕ)) (old : List SeatState) (words : List Word) (new : List SeatState) : Type 0 where
   pub others : List SeatState
   pub main : SeatState

@@ -41,7 +41,8 @@ fn wakers(alloc: Global) -> Result<(Waker, Waker, Receiver<Side>), AllocError>
     ))
 }
 
-/// Makes one turn that saves, at the office of this side; the other main seat is as it was.
+/// Makes one turn that saves, at the office of this side and into its book; the other main seat and the
+/// other book are as they were.
 #[tactic(auto, using(crate::proofs::Turning::none_marked))]
 fn turned_at<L: Ledger, K: Ledger, S: Alter, W: Wait>(
     rt: &W,
@@ -58,6 +59,7 @@ fn turned_at<L: Ledger, K: Ledger, S: Alter, W: Wait>(
     ensures marks { OnOk result.2 (NotesMarks main result.0) }
     ensures peer_marks { OnOk result.2 (NotesMarks peer_main result.1) }
     ensures other { OtherIs side main result.0 peer_main result.1 }
+    ensures books { OtherIs side book.old book.new peer_book.old peer_book.new }
     ensures fault { IfErr result.2 IsTurnFault }
 {
     match side {
@@ -73,7 +75,7 @@ fn turned_at<L: Ledger, K: Ledger, S: Alter, W: Wait>(
 }
 
 /// Makes a turn that saves for each notice, at the office that it names, until nobody is left to send
-/// one, or a turn answers a fault.
+/// one, or a turn answers a fault: after that nobody takes notices, so that no session waits for it.
 #[tactic(auto, using(crate::proofs::Turning::none_marked, crate::proofs::Turning::marks_more))]
 fn saved_meanwhile<L: Ledger, K: Ledger, S: Alter, W: Wait>(
     rt: &W,
@@ -120,6 +122,8 @@ fn both_submitted<L: Ledger + Send + Sync, K: Ledger + Send + Sync, T: Threads +
     peer_seats: Vec<Seat<K>>,
     peer_bodies: Vec<Body>,
 ) -> (Submitted<L>, Submitted<K>)
+    requires named { waker ≡ I }
+    requires peer_named { peer_waker ≡ M }
     requires some { 1 ≤ sessions }
     requires few { sessions < 16 }
     requires ours { length seats.items ≡ sessions }
@@ -132,11 +136,11 @@ fn both_submitted<L: Ledger + Send + Sync, K: Ledger + Send + Sync, T: Threads +
     thread::join(
         rt,
         move || -> Submitted<L>
-            requires { IsSync T.row × (1 ≤ sessions) × (sessions < 16) × (length seats.items ≡ sessions) }
+            requires { IsSync T.row × (waker ≡ I) × (1 ≤ sessions) × (sessions < 16) × (length seats.items ≡ sessions) }
             ensures { IfOk result (λ submitted. AreSamePlaces seats.items submitted.0.items) × IfOk result (λ submitted. SessionsMake I sessions bodies.items seats.items submitted.1.items submitted.0.items) }
         { submitted(rt, alloc, office, waker, sessions, seats, bodies) },
         move || -> Submitted<K>
-            requires { IsSync T.row × (1 ≤ sessions) × (sessions < 16) × (length peer_seats.items ≡ sessions) }
+            requires { IsSync T.row × (peer_waker ≡ M) × (1 ≤ sessions) × (sessions < 16) × (length peer_seats.items ≡ sessions) }
             ensures { IfOk result (λ submitted. AreSamePlaces peer_seats.items submitted.0.items) × IfOk result (λ submitted. SessionsMake M sessions peer_bodies.items peer_seats.items submitted.1.items submitted.0.items) }
         {
             submitted(
@@ -205,7 +209,7 @@ pub(crate) fn at_once<
                 × OnOk result.2 (NotesMarks main result.0) × OnOk result.2 (NotesMarks peer_main result.1) × IfErr result.2 IsTurnFault }
         { saved_meanwhile(rt, notices, office, book, main, peer, peer_book, peer_main) },
         move || -> (Submitted<L>, Submitted<K>)
-            requires { IsSync T.row × (1 ≤ sessions) × (sessions < 16) × (length seats.items ≡ sessions) × (length peer_seats.items ≡ sessions) }
+            requires { IsSync T.row × (waker ≡ I) × (peer_waker ≡ M) × (1 ≤ sessions) × (sessions < 16) × (length seats.items ≡ sessions) × (length peer_seats.items ≡ sessions) }
             ensures { IfOk result.0 (λ submitted. AreSamePlaces seats.items submitted.0.items)
                 × IfOk result.1 (λ submitted. AreSamePlaces peer_seats.items submitted.0.items)
                 × IfOk result.0 (λ submitted. SessionsMake I sessions bodies.items seats.items submitted.1.items submitted.0.items)

@@ -199,6 +199,7 @@ fn serve_all<R: Role + Send, L: Ledger + Send, T: Threads + Wait + Sync>(
     dealt: Vec<Vec<Body>>,
     rooms: Rooms<L>,
 ) -> Result<(Vec<Seat<L>>, Vec<Vec<Receipt>>), AllocError>
+    requires named { waker.now ≡ R.SIDE }
     requires dealt { length seats.items ≡ length dealt.items }
     requires sessions { (rooms.0.items ≡ []) × (length seats.items ≤ vec_capacity rooms.0) }
     requires seats { (rooms.1.items ≡ []) × (length seats.items ≤ vec_capacity rooms.1) }
@@ -214,9 +215,9 @@ fn serve_all<R: Role + Send, L: Ledger + Send, T: Threads + Wait + Sync>(
     }
 }
 
-/// Submits a batch's bodies at one office, by its sessions at once; the waker sends a notice of each call
-/// that was answered, and is gone when all are. The seats come back, with what came of each submission, in
-/// order.
+/// Submits a batch's bodies at one office, by its sessions at the same time; the waker, which names this
+/// office, sends a notice of each call that was answered. It is dropped when the sessions are done, which
+/// ends the loop that waits for notices. The seats come back, with what came of each submission, in order.
 #[tactic(auto, using(crate::proofs::Dealing::sessions_make))]
 pub(crate) fn submitted<R: Role + Send, L: Ledger + Send, T: Threads + Wait + Sync>(
     rt: &T,
@@ -227,6 +228,7 @@ pub(crate) fn submitted<R: Role + Send, L: Ledger + Send, T: Threads + Wait + Sy
     seats: Vec<Seat<L>>,
     bodies: Vec<Body>,
 ) -> Result<(Vec<Seat<L>>, Vec<Word>), AllocError>
+    requires named { waker ≡ R.SIDE }
     requires some { 1 ≤ sessions }
     requires few { sessions < 16 }
     requires seats { length seats.items ≡ sessions }

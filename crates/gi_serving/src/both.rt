@@ -190,8 +190,8 @@ impl<L: Ledger, K: Ledger, S: Alter + Drop> Both<L, K, S> {
 }
 
 impl<L: Ledger + Send + Sync, K: Ledger + Send + Sync, S: Alter + Drop + Send> Both<L, K, S> {
-    /// The sessions of both offices submit at once, and the main seats make turns that save meanwhile: the
-    /// words of each side's submissions, in order.
+    /// The sessions of both offices submit at the same time, and turns that save are made from the main
+    /// seats meanwhile: the words of each side's submissions, in order.
     fn submit<T: Threads + Wait + Sync>(
         &mut self,
         rt: &T,

@@ -1,13 +1,13 @@
 //! Both running offices (`gi_office`), driven by a script (`gi_script`), each with its book
 //! (`gi_store`): the sessions of both submit at the same time, each from its seat, and all else is called
-//! from a main seat of each office, by one thread at a time.
+//! from the main seat of each office, its last one, by one thread at a time.
 //!
 //! ```text
 //!   script: a line, or a batch of submissions
 //!      │
 //!      ├─ a line:  the main seat of its side calls; `carry` delivers what the carrier gives
-//!      └─ a batch: the seats of the sessions submit, at both offices at once, and the main seats make
-//!         a turn that saves for each notice meanwhile; then all are joined
+//!      └─ a batch: the sessions of both offices submit from their seats, and meanwhile a turn that
+//!         saves is made from the main seat for each notice; then all are joined
 //!      │
 //!      ▼
 //!   turns that save, from each main seat, until nothing is left to save or the desk is halted
