@@ -23,6 +23,7 @@ use Rattle.gi_desk.specs.declared.packet.Recipient.TheVariants.{Peer, User}
 use Rattle.gi_desk.specs.declared.refusal.Refusal.TheVariants as refusals
 use Rattle.gi_desk.specs.declared.replay_fault.ReplayFault.{ReplayFault}
 use Rattle.gi_desk.specs.declared.replay_fault.ReplayFault.TheVariants.{BadFact, OutOfMemory}
+use Rattle.gi_desk.specs.declared.prepared.Prepared.{Prepared}
 use Rattle.gi_desk.specs.declared.reply.Reply.{Reply}
 
 -- how many facts a desk has at most (this project's choice)
@@ -105,6 +106,13 @@ reply side s call = let o = outcome side s call in record { answer = answer_of s
 
 unfoldable pub after : Side → DeskState → Call → DeskState
 after side s call = next_of s (outcome side s call)
+
+-- both, before anything is changed; and that they are those of some call
+abbrev pub prepared : Side → DeskState → Call → Prepared
+prepared side s call = record { outcome = outcome side s call; reply = reply side s call }
+
+abbrev pub IsPrepared : Side → DeskState → Prepared → Type 0
+IsPrepared side s p = (call : Call) × (p ≡ prepared side s call)
 
 -- to refuse and to halt want no memory
 abbrev pub grows : Outcome → Bool

@@ -54,6 +54,7 @@ mod judging;
 mod laws;
 mod outcome;
 mod packet;
+mod prepared;
 mod ranges;
 mod refusal;
 mod replay_fault;
@@ -77,6 +78,7 @@ pub use laws::{
 };
 pub use outcome::Outcome;
 pub use packet::{Body, Packet, Packets, Recipient};
+pub use prepared::Prepared;
 pub use refusal::Refusal;
 pub use replay_fault::ReplayFault;
 pub use reply::{Answer, Reply};

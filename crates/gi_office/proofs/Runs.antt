@@ -3,12 +3,8 @@ use Rattle.std.proofs.Common.{◌≡◌, ◌≤◌, inl, inr, ℕ, List, [], ◌
 use Rattle.std.proofs.lemmas.List.{length-append, take-append-le}
 use Rattle.gi_pairs.specs.declared.side.Side.{Side}
 use Rattle.gi_facts.specs.declared.fact.Fact.{Fact}
-use Rattle.gi_desk.specs.Laws.{HasOneMoreAtMost, OnlyAppends, RefusalsChangeNothing}
-use Rattle.gi_desk.specs.Machine.{DeskState, IsStep, after, reply}
-use Rattle.gi_desk.specs.declared.reply.Answer.TheVariants as answers
-use Rattle.gi_desk.specs.declared.refusal.Refusal.{Refusal}
-use Rattle.gi_desk.specs.declared.refusal.Refusal.TheVariants as refusals
-use Rattle.gi_desk.specs.declared.reply.Reply.{Reply}
+use Rattle.gi_desk.specs.Laws.{HasOneMoreAtMost, OnlyAppends}
+use Rattle.gi_desk.specs.Machine.{DeskState, after, reply}
 use Rattle.gi_desk.specs.declared.call.Call.{Call}
 use Rattle.gi_office.specs.Entering.{entered}
 use Rattle.gi_office.specs.Keeping.{HeldState, IsKept, SeatState}
@@ -48,18 +44,3 @@ entered_kept appends side held seat call kept =
           (run_more side (opened held.desk.point (take held.opening held.desk.facts)) held.trail held.desk entry kept.life refl);
       counted = let c = kept.counted in omega (arith, c, length-append held.trail (entry ∷ []));
     }
-
--- a step that is no want of memory is the machine's, and one that is refused changes nothing
-pub stepped : (side : Side) (old : DeskState) (call : Call) (r : Reply) (new : DeskState) → IsStep side old call r new → (r.answer ≡ answers.Refused refusals.OutOfMemory → ⊥)
-    → (r ≡ reply side old call) × (new ≡ after side old call)
-stepped side old call r new is other = elim is [
-  | inl by ↦ by
-  | inr short ↦ absurd (other (ap (λ (x : Reply). x.answer) short.0))
-]
-
-pub unchanged : RefusalsChangeNothing → (side : Side) (old : DeskState) (call : Call) (r : Reply) (new : DeskState) (refusal : Refusal) → IsStep side old call r new
-    → r.answer ≡ answers.Refused refusal → new ≡ old
-unchanged refuses side old call r new refusal is e = elim is [
-  | inl by ↦ by.1 ∙ (refuses side old call refusal (ap (λ (x : Reply). x.answer) (sym by.0) ∙ e)).0
-  | inr short ↦ short.1
-]

@@ -1,5 +1,4 @@
 ghost use Rattle.std.specs.Prelude.{◌≡◌, ◌≢◌, IfSome, ◌≤◌, ◌+◌, ◌↔◌, [], ◌∷◌, Err, IfOk, OnErr, OnOk, false, length};
-ghost use Rattle.gi_desk.specs.Machine.{reply as reply_of};
 ghost use Rattle.gi_office.specs.Entering.{entered, noted, receipt_of};
 ghost use Rattle.gi_office.specs.Keeping.{IsFull, IsKept};
 ghost use Rattle.gi_office.specs.Limits.{most_seats};
@@ -22,7 +21,7 @@ use crate::settled::Settled;
 use crate::settling::{first_fault, merge};
 use crate::unsettled::Unsettled;
 use crate::waited::Waited;
-use gi_desk::{Answer, Call, Desk, Refusal, Reply, Role, only_appends, refusals_change_nothing};
+use gi_desk::{Call, Desk, Reply, Role, only_appends};
 use std::alloc::{AllocError, Global};
 use std::marker::Model;
 use std::sync::ledger::{Blank, Book, Ledger};
@@ -95,32 +94,20 @@ impl<R: Role, L: Ledger> Held<R, L> {
         let _ = self.trail.len();
     }
 
-    /// What the desk would reply.
-    fn foresee(&self, call: &Call) -> Result<Reply, AllocError>
-        ensures { IfOk result (λ reply. reply ≡ reply_of R.SIDE self.now.desk call.now) }
+    /// The call and its reply as the trail gets them, and as the seat notes them.
+    fn written(&self, number: u8, call: Call, reply: &Reply) -> Result<(Entry, Note), AllocError>
+        ensures entry { IfOk result (λ both. both.0 ≡ record { seat = number; call = call; reply = reply.now }) }
+        ensures note { IfOk result (λ both. both.1 ≡ record { place = length self.now.trail + 1; call = call; reply = reply.now }) }
     {
-        let reply = self.desk.foresee(call);
-        if reply.answer == Answer::Refused(Refusal::OutOfMemory) {
-            return Err(AllocError);
-        }
-        Ok(reply)
-    }
-
-    /// The call as the trail gets it, and as its seat notes it.
-    fn written(&self, number: u8, call: Call) -> Result<(Entry, Note), AllocError>
-        ensures entry { IfOk result (λ both. both.0 ≡ record { seat = number; call = call; reply = reply_of R.SIDE self.now.desk call }) }
-        ensures note { IfOk result (λ both. both.1 ≡ record { place = length self.now.trail + 1; call = call; reply = reply_of R.SIDE self.now.desk call }) }
-    {
-        let reply = self.foresee(&call)?;
-        let note = Note {
-            place: self.trail.len() as u64 + 1,
-            call: call.copy()?,
-            reply: reply_copy(self.alloc, &reply)?,
-        };
         let entry = Entry {
             seat: number,
+            call: call.copy()?,
+            reply: reply_copy(self.alloc, reply)?,
+        };
+        let note = Note {
+            place: self.trail.len() as u64 + 1,
             call,
-            reply,
+            reply: reply_copy(self.alloc, reply)?,
         };
         Ok((entry, note))
     }
@@ -140,14 +127,11 @@ impl<R: Role, L: Ledger> Held<R, L> {
             return Err(OfficeFault::SeatFull);
         }
         only_appends();
-        refusals_change_nothing();
-        let (entry, note) = self.written(seat.number, call)?;
+        let prepared = self.desk.prepare(&call)?;
+        let (entry, note) = self.written(seat.number, call, prepared.reply())?;
         self.trail.reserve(1)?;
         seat.notes.reserve(1)?;
-        let reply = self.desk.step(&entry.call);
-        if reply.answer == Answer::Refused(Refusal::OutOfMemory) {
-            return Err(OfficeFault::OutOfMemory);
-        }
+        let reply = self.desk.make(prepared)?;
         let receipt = Receipt {
             seat: seat.number,
             place: note.place,

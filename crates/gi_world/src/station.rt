@@ -6,10 +6,7 @@ ghost use Rattle.gi_world.specs.World.{after_call, after_restart, new_station};
 
 use crate::passing::{for_peer, telling};
 use gi_day::Calendar;
-use gi_desk::{
-    Answer, Call, Desk, Fact, Packet, Refusal, ReplayFault, Reply, Role, fronts_are_legal,
-    refusals_change_nothing,
-};
+use gi_desk::{Call, Desk, Fact, Packet, ReplayFault, Reply, Role, fronts_are_legal};
 use gi_pairs::Code;
 use std::alloc::{AllocError, Global};
 use std::marker::Model;
@@ -62,17 +59,6 @@ impl<R: Role> Station<R> {
         &self.told
     }
 
-    fn foresee(&self, call: &Call) -> Result<Reply, AllocError>
-        ensures reply { IfOk result (λ reply. reply ≡ reply_of R.SIDE self.now.desk call.now) }
-        ensures short { OnErr result (IsTrue (may_want R.SIDE self.now.desk call.now)) }
-    {
-        let reply = self.desk.foresee(call);
-        if reply.answer == Answer::Refused(Refusal::OutOfMemory) {
-            return Err(AllocError);
-        }
-        Ok(reply)
-    }
-
     /// The copies are made, and their places grown, before anything changes.
     #[tactic(auto, unfolding(crate::specs::World::after_call))]
     pub(crate) fn take(&mut self, call: &Call) -> Result<Reply, AllocError>
@@ -81,16 +67,13 @@ impl<R: Role> Station<R> {
         ensures kept { OnErr result (self.new ≡ self.old) }
         ensures short { OnErr result (IsTrue (may_want R.SIDE self.old.desk call.now)) }
     {
-        refusals_change_nothing();
-        let foreseen = self.foresee(call)?;
-        let mut sent = for_peer(self.alloc, foreseen.out.as_slice())?;
-        let mut told = telling(self.alloc, foreseen.out.as_slice())?;
+        let prepared = self.desk.prepare(call)?;
+        let out = prepared.reply().out.as_slice();
+        let mut sent = for_peer(self.alloc, out)?;
+        let mut told = telling(self.alloc, out)?;
         self.sent.reserve(sent.len())?;
         self.told.reserve(told.len())?;
-        let reply = self.desk.step(call);
-        if reply.answer == Answer::Refused(Refusal::OutOfMemory) {
-            return Err(AllocError);
-        }
+        let reply = self.desk.make(prepared)?;
         self.sent.append(&mut sent).unwrap();
         self.told.append(&mut told).unwrap();
         Ok(reply)

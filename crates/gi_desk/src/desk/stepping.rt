@@ -2,12 +2,14 @@
 
 ghost use Rattle.std.specs.Prelude.{◌≡◌, IfErr, IfOk, IsTrue, OnErr, OnOk};
 ghost use Rattle.gi_desk.specs.Kept.{CanFollow};
-ghost use Rattle.gi_desk.specs.Machine.{IsForeseen, IsStep, after, answer_of, grows, may_want, next_of, out_of_memory, outcome as outcome_of, reply as reply_of};
+ghost use Rattle.gi_desk.specs.declared.call.Call.{Call};
+ghost use Rattle.gi_desk.specs.Machine.{IsForeseen, IsPrepared, IsStep, after, answer_of, grows, may_want, next_of, out_of_memory, prepared as prepared_of, reply as reply_of};
 
 use crate::call::Call;
 use crate::desk::Desk;
 use crate::outcome::Outcome;
 use crate::packet::Packets;
+use crate::prepared::Prepared;
 use crate::refusal::Refusal;
 use crate::reply::{Answer, Reply};
 use crate::role::Role;
@@ -54,9 +56,10 @@ impl<R: Role> Desk<R> {
         Ok(())
     }
 
-    fn try_foresee(&self, call: &Call) -> Result<(Outcome, Reply), AllocError>
-        ensures outcome { IfOk result (λ both. both.0 ≡ outcome_of R.SIDE self.now call.now) }
-        ensures reply { IfOk result (λ both. both.1 ≡ reply_of R.SIDE self.now call.now) }
+    /// What the call comes to and the reply to it, with nothing changed. Want of memory comes only
+    /// where a step may want it.
+    pub fn prepare(&self, call: &Call) -> Result<Prepared, AllocError>
+        ensures value { IfOk result (λ prepared. prepared ≡ prepared_of R.SIDE self.now call.now) }
         ensures short { IfErr result (λ _. IsTrue (may_want R.SIDE self.now call.now)) }
     {
         let outcome = self.outcome(call)?;
@@ -64,7 +67,21 @@ impl<R: Role> Desk<R> {
             answer: self.answer(&outcome),
             out: Packets::from(self.out(&outcome)?),
         };
-        Ok((outcome, reply))
+        Ok(Prepared { outcome, reply })
+    }
+
+    /// Makes the step that was prepared for a call to this desk as it is now. Where memory runs out
+    /// nothing is changed.
+    pub fn make(&mut self, prepared: Prepared) -> Result<Reply, AllocError>
+        requires { IsPrepared R.SIDE self.now prepared }
+        ensures reply { IfOk result (λ reply. reply ≡ prepared.reply) }
+        ensures next { OnOk result ((call : Call) → prepared ≡ prepared_of R.SIDE self.old call → self.new ≡ after R.SIDE self.old call) }
+        ensures kept { OnErr result (self.new ≡ self.old) }
+        ensures short { OnErr result ((call : Call) → prepared ≡ prepared_of R.SIDE self.old call → IsTrue (may_want R.SIDE self.old call)) }
+    {
+        let Prepared { outcome, reply } = prepared;
+        self.apply(outcome)?;
+        Ok(reply)
     }
 
     fn try_step(&mut self, call: &Call) -> Result<Reply, AllocError>
@@ -73,17 +90,16 @@ impl<R: Role> Desk<R> {
         ensures kept { OnErr result (self.new ≡ self.old) }
         ensures short { IfErr result (λ _. IsTrue (may_want R.SIDE self.old call.now)) }
     {
-        let (outcome, reply) = self.try_foresee(call)?;
-        self.apply(outcome)?;
-        Ok(reply)
+        let prepared = self.prepare(call)?;
+        self.make(prepared)
     }
 
     /// What `step` would reply, with nothing changed.
     pub fn foresee(&self, call: &Call) -> Reply
         ensures { IsForeseen R.SIDE self.now call.now result }
     {
-        match self.try_foresee(call) {
-            Ok((_, reply)) => reply,
+        match self.prepare(call) {
+            Ok(Prepared { outcome: _, reply }) => reply,
             Err(_) => short_of_memory(self.alloc),
         }
     }

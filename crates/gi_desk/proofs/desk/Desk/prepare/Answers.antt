@@ -4,7 +4,7 @@ use Rattle.gi_desk.specs.Kept.{CanFollow}
 use Rattle.gi_desk.specs.Machine.{answer_of, may_want, out_of, outcome, reply}
 use Rattle.gi_desk.proofs.Outcomes.{can_follow}
 use Rattle.gi_desk.proofs.StepLaws.{may_grow}
-use Rattle.gi_desk.proofs.desk.Desk.try_foresee.Goals as goal
+use Rattle.gi_desk.proofs.desk.Desk.prepare.Goals as goal
 
 pub returns-in_err-out-clause-short : goal.returns-in_err-out-clause-short
 returns-in_err-out-clause-short g c =
@@ -12,15 +12,15 @@ returns-in_err-out-clause-short g c =
     may_grow g.R.Role.SIDE c.args.self.now c.args.call.now c.in_ok-outcome.outcome c.in_ok-outcome.ensures.value c.in_err-out.ensures.short in
     search (rules, short)
 
-pub returns-clause-reply : goal.returns-clause-reply
+pub returns-clause-value : goal.returns-clause-value
 unfolding reply
-returns-clause-reply g c =
+returns-clause-value g c =
     let side = g.R.Role.SIDE in
     let s = c.args.self.now in
     let is : c.in_ok-outcome.outcome ≡ outcome side s c.args.call.now = c.in_ok-outcome.ensures.value in
     let answer : c.answer.result ≡ answer_of s (outcome side s c.args.call.now) = c.answer.ensures ∙ ap (answer_of s) is in
     let out : c.from.result ≡ out_of side s (outcome side s c.args.call.now) = c.from.ensures ∙ c.in_ok-out.ensures.value ∙ ap (out_of side s) is in
-    λ t. record { answer = answer t; out = out t }
+    λ t. record { outcome = is t; reply = record { answer = answer t; out = out t } }
 
 pub out-requires : goal.out-requires
 out-requires g c =
