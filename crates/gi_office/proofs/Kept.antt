@@ -56,7 +56,6 @@ all_saved side desk (stretch ∷ later) opening trail e within fronts legal =
 
 -- ---- lives one after the other
 
--- the first so many facts are the same at both
 abbrev AreSame : DeskState → DeskState → ℕ → Type 0
 AreSame old new n = take n new.facts ≡ take n old.facts
 
@@ -110,7 +109,6 @@ goes-on side old new (stretch ∷ later) last more goes legal = (goes, legal)
 
 -- ---- two offices
 
--- with how many facts the first life was opened
 abbrev pub first_opening : List Stretch → ℕ → ℕ
 first_opening [] opening = opening
 first_opening (stretch ∷ later) opening = stretch.opening

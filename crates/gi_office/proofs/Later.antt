@@ -60,7 +60,6 @@ later_opened s life goes = record {
 pub life_later : (side : Side) (life : Life) (e : DeskState) → IsLegal side life e → IsLater (opened life.point life.opening) e
 life_later side life e legal = run_later side (opened life.point life.opening) life.trail e (opened_within life) legal
 
--- the end of a life comes before the end of all later ones
 pub on_later : (side : Side) (s : DeskState) (later : List Life) (e : DeskState) → s.saved ≤ length s.facts → GoOnTo side s later e → IsLater s e
 on_later side s [] e within on = subst (IsLater s) on (later_self s within)
 on_later side s (life ∷ later) e within on =

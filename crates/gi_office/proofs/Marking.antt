@@ -64,7 +64,6 @@ told_mark s n (Resends id) is = absurd is
 told_mark s n Stops is = absurd is
 told_mark s n (Refuses refusal) is = inr (refusal, refl)
 
--- a mark is answered by the number of its fact, or refused
 mark_answer : (side : Side) (s : DeskState) (n : ℕ) (fact : Fact) → IsToldMark n ((reply side s (MarkSaved n fact)).answer)
 unfolding reply
 mark_answer side s n fact = told_mark s n (outcome side s (MarkSaved n fact)) (is_mark side s n fact)

@@ -95,7 +95,6 @@ ends side n facts rest old (Saved receipt) seat marked so no_more some =
     let all = all_done facts so.done rest so.are no_more in
     (so.last.0, subst (λ (rs : List Receipt). AreMarked side n facts rs old seat) so.last.1 (subst (λ (fs : List Fact). AreMarked side n fs so.receipts old seat) all so.each))
 
--- with a length of none there is none
 pub none_left : (rest : List Fact) → length rest ≡ 0 → rest ≡ []
 none_left [] none = refl
 none_left (fact ∷ rest) none = absurd (omega (arith, none))

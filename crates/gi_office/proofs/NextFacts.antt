@@ -9,7 +9,6 @@ use Rattle.gi_facts.specs.Grammar.{IsWritable}
 use Rattle.gi_facts.specs.declared.fact.Fact.{Fact}
 use Rattle.gi_desk.specs.Queries.{fact_at}
 
--- an element of two lists is one of the first or one of the second
 pub slice_get-append : {X : Type 0} (front rest : List X) (k : ℕ) (x : X) → slice_get (front ++ rest) k ≡ Some x → (slice_get front k ≡ Some x) ⊎ ((j : ℕ) × (length front + j ≡ k) × (slice_get rest j ≡ Some x))
 slice_get-append [] rest k x is = inr (k, omega arith, is)
 slice_get-append (y ∷ front) rest zero x is = inl is
@@ -23,14 +22,12 @@ slice_get-drop zero xs k = let e : k ≡ 0 + k = omega arith in ap (λ (i : ℕ)
 slice_get-drop (suc n) [] k = refl
 slice_get-drop (suc n) (x ∷ xs) k = let e : suc (n + k) ≡ suc n + k = omega arith in slice_get-drop n xs k ∙ ap (λ (i : ℕ). slice_get (x ∷ xs) i) e
 
--- one more of those that are left
 next_more : {X : Type 0} (saved i : ℕ) (facts : List X) (fact : X) → slice_get facts (saved + i) ≡ Some fact → take i (drop saved facts) ++ fact ∷ [] ≡ take (i + 1) (drop saved facts)
 next_more saved i facts fact is =
     let there : slice_get (drop saved facts) i ≡ Some fact = slice_get-drop saved facts i ∙ is in
     let below = slice_get_within (drop saved facts) i fact there in
     sym (take_more (drop saved facts) i fact below ∙ ap (λ (x : _). take i (drop saved facts) ++ x ∷ []) (get_or_from_slice_get (drop saved facts) i fact fact there))
 
--- all that are left, where they are fewer than may be taken
 next_all : {X : Type 0} (saved count most : ℕ) (facts : List X) → count ≡ min (length facts - saved) most → take count (drop saved facts) ≡ take most (drop saved facts)
 next_all saved count most facts is = elim (cases_eq count most) [
   | inl all ↦ ap (λ (k : ℕ). take k (drop saved facts)) all
@@ -47,7 +44,6 @@ numbered : (facts : List Fact) (before n : ℕ) → n ≡ before + 1 → fact_at
 numbered facts before zero is = absurd (omega (arith, is))
 numbered facts before (suc b) is = let same : b ≡ before = omega (arith, is) in ap (λ (k : ℕ). slice_get facts k) same
 
--- one more of the next facts was copied
 pub next_pushed :
     (saved before : ℕ) (facts copies pushed : List Fact) (fact : Fact) → fact_at facts (saved + before + 1) ≡ Some fact → copies ≡ take before (drop saved facts)
     → pushed ≡ copies ++ fact ∷ [] → pushed ≡ take (before + 1) (drop saved facts)
@@ -58,7 +54,6 @@ next_pushed saved before facts copies pushed fact found so push =
 pub writable_pushed : (copies pushed : List Fact) (fact : Fact) → pushed ≡ copies ++ fact ∷ [] → AllByRecursion IsWritable copies → IsWritable fact → AllByRecursion IsWritable pushed
 writable_pushed copies pushed fact push so one = subst (λ (fs : List Fact). AllByRecursion IsWritable fs) (sym push) (AllByRecursion-push IsWritable copies fact so one)
 
--- all of them were copied
 pub next_taken :
     (saved first count : ℕ) (facts copies : List Fact) → first ≡ saved → copies ≡ take count (drop first facts) → count ≡ min (length facts - first) most_facts
     → copies ≡ take most_facts (drop saved facts)

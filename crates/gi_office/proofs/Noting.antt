@@ -18,7 +18,6 @@ notes_from-append place number (x ∷ xs) ys =
     append_by (nat_eq x.seat number) (note_of place x) _ _ _
     (notes_from-append (place + 1) number xs ys ∙ ap (λ p. notes_from (place + 1) number xs ++ notes_from p number ys) (omega arith))
 
--- the entries up to one of them
 split : (number i : ℕ) (trail : List Entry) (entry : Entry) → i < length trail → entry ≡ get_or trail i entry
     → notes_of number trail ≡ notes_of number (take i trail) ++ notes_from (i + 1) number (entry ∷ drop (i + 1) trail)
 split number i trail entry below is =
@@ -49,7 +48,6 @@ one_of place number entry later is = rw is refl
 none_of : (place number : ℕ) (entry : Entry) (later : List Entry) → nat_eq entry.seat number ≡ false → notes_from place number (entry ∷ later) ≡ notes_from (place + 1) number later
 none_of place number entry later is = rw is refl
 
--- an entry of another seat
 pub passed : (number i next : ℕ) (notes : List Note) (trail : List Entry) (entry : Entry) → i < length trail → entry ≡ get_or trail i entry → entry.seat ≢ number
     → take next notes ≡ notes_of number (take i trail) → take next notes ≡ notes_of number (take (i + 1) trail)
 passed number i next notes trail entry below is other same =
@@ -64,7 +62,6 @@ got_more next [] note is = absurd cc
 got_more zero (x ∷ notes) note is = let same : x ≡ note = cc in ap (λ e. e ∷ []) same
 got_more (suc next) (x ∷ notes) note is = rw (add-one (suc next)) (ap (λ l. x ∷ l) (rw (add-one next) at (got_more next notes note is)))
 
--- an entry that the seat noted
 pub matched : (number i next : ℕ) (notes : List Note) (trail : List Entry) (entry : Entry) → i < length trail → entry ≡ get_or trail i entry → entry.seat ≡ number
     → slice_get notes next ≡ Some (note_of (i + 1) entry) → take next notes ≡ notes_of number (take i trail) → take (next + 1) notes ≡ notes_of number (take (i + 1) trail)
 matched number i next notes trail entry below is own noted same =
@@ -86,7 +83,6 @@ taken next notes within = grind (length-take, arith)
 by_one : (next : ℕ) → (next + 1) - 1 ≡ next
 by_one next = omega arith
 
--- an entry that the seat did not note
 pub differs : (number i next : ℕ) (notes : List Note) (trail : List Entry) (entry : Entry) → i < length trail → entry ≡ get_or trail i entry → entry.seat ≡ number
     → next ≤ length notes → slice_get notes next ≢ Some (note_of (i + 1) entry) → take next notes ≡ notes_of number (take i trail) → DiffersAt (next + 1) notes (notes_of number trail)
 differs number i next notes trail entry below is own within other same =
@@ -113,7 +109,6 @@ all_entries [] (suc n) e = refl
 all_entries (x ∷ trail) zero e = absurd (omega arith)
 all_entries (x ∷ trail) (suc n) e = ap (λ l. x ∷ l) (all_entries trail n (omega arith))
 
--- at the end of the trail
 pub ends : (number i next : ℕ) (notes : List Note) (trail : List Entry) → length trail ≤ i → length notes ≤ next → take next notes ≡ notes_of number (take i trail) → notes ≡ notes_of number trail
 ends number i next notes trail over past same = sym (all_of notes next past) ∙ same ∙ ap (λ l. notes_of number l) (all_entries trail i over)
 

@@ -91,7 +91,6 @@ run_meets side w s (entry ∷ trail) e known within run from met =
     let step = run_later side s (entry ∷ []) next within (run.0, refl) in
     run_meets side w next trail e known step.within run.1 (right_of (IsEntryFromPeer side w) (entry ∷ []) trail from) here
 
--- a desk that is opened again has met the first of what it had met
 opened_meets : (side : Side) (w : WorldState) (s : DeskState) (life : Life) → GoesOn s life.point life.opening → MeetsPeer side w s → MeetsPeer side w (opened life.point life.opening)
 opened_meets side w s life goes met =
     λ id table there.
@@ -132,7 +131,6 @@ run_tells side s (entry ∷ trail) e packet within run there telling =
     (λ rest. run_tells side next trail e packet step.within run.1 rest telling)
     (from_append packet entry.reply.out (said_in trail) there)
 
--- the packets of the entries of a life and of those of later ones
 split_said : (packet : Packet) (trail : List Entry) (later : List Life) → In packet (said_in (trail ++ entries_of later)) → In packet (said_in trail) ⊎ In packet (said_in (entries_of later))
 split_said packet trail later there =
     let all = flat_map-append (λ (entry : Entry). entry.reply.out) trail (entries_of later) in

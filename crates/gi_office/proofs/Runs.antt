@@ -12,13 +12,11 @@ use Rattle.gi_office.specs.Lives.{IsRun, opened}
 use Rattle.gi_office.specs.declared.entry.Entry.{Entry}
 use Rattle.gi_office.proofs.Points.{keeps_point}
 
--- one entry more
 run_more : (side : Side) (first : DeskState) (trail : List Entry) (last : DeskState) (entry : Entry) → IsRun side first trail last → entry.reply ≡ reply side last entry.call
     → IsRun side first (trail ++ entry ∷ []) (after side last entry.call)
 run_more side first [] last entry run is = (is ∙ ap (λ s. reply side s entry.call) (sym run), ap (λ s. after side s entry.call) run)
 run_more side first (e ∷ trail) last entry run is = (run.0, run_more side (after side first e.call) trail last entry run.1 is)
 
--- the first facts stay
 front : (n : ℕ) (old new : List Fact) → n ≤ length old → HasOneMoreAtMost old new → take n new ≡ take n old
 front n old new within more = elim more [
   | inl same ↦ ap (λ l. take n l) same
@@ -31,7 +29,6 @@ longer old new more = elim more [
   | inr added ↦ let e = ap (λ (l : List Fact). length l) added.1 in omega (arith, e, length-append old (added.0 ∷ []))
 ]
 
--- what the lock keeps, it keeps through a step
 pub entered_kept : OnlyAppends → (side : Side) (held : HeldState) (seat : SeatState) (call : Call) → IsKept side held → IsKept side (entered side held seat call)
 entered_kept appends side held seat call kept =
     let more = (appends side held.desk call).0 in

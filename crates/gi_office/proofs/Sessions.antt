@@ -10,7 +10,6 @@ use Rattle.gi_office.specs.declared.office_fault.OfficeFault.TheVariants.{SeatFu
 use Rattle.gi_office.specs.declared.receipt.Receipt.{Receipt}
 use Rattle.gi_office.specs.declared.work.Work.{Work}
 
--- nothing more is submitted
 submitted-so : (side : Side) (first last : SeatState) (bodies : List (List ℕ)) (receipts : List Receipt) → AreSubmitted side first bodies (receipts ++ []) last → AreSubmitted side first bodies receipts last
 submitted-so side first last bodies receipts h = subst (λ (rs : List Receipt). AreSubmitted side first bodies rs last) (append-nil receipts) h
 
@@ -40,7 +39,6 @@ finished side may_end first seat bodies rest receipts submitted counted none = r
   ends = inl (omega (arith, counted, none));
 }
 
--- the next session with its room
 pub roomed :
     {Z : Type 0} (session : SessionState) (sessions rest : List SessionState) (room : Vec Receipt Z) (rooms others : List (Vec Receipt Z))
     → sessions ≡ session ∷ rest → rooms ≡ room ∷ others → AreRooms sessions rooms
@@ -48,14 +46,12 @@ pub roomed :
 roomed session sessions rest room rooms others first second all =
     subst (λ (ss : List SessionState). AreRooms ss (room ∷ others)) first (subst (λ (rs : List (Vec Receipt _)). AreRooms sessions rs) second all)
 
--- all sessions have their room
 pub all-roomed :
     {Z : Type 0} (sessions left : List SessionState) (rooms : List (Vec Receipt Z)) → left ≡ []
     → ((more : List (Vec Receipt Z)) → AreRooms left more → AreRooms sessions (rooms ++ more)) → AreRooms sessions rooms
 all-roomed {Z = Z} sessions left rooms none h =
     subst (λ (rs : List (Vec Receipt Z)). AreRooms sessions rs) (append-nil rooms) (h [] (subst (λ (ss : List SessionState). AreRooms {Z = Z} ss []) (sym none) tt))
 
--- one session more is under way
 pub one-begun :
     {L : Type 0} (works pushed : List (Work L)) (work : Work L) (session : SessionState) (left rest all : List SessionState)
     → pushed ≡ works ++ work ∷ [] → session_of work ≡ session → left ≡ session ∷ rest → map session_of works ++ left ≡ all
@@ -68,7 +64,6 @@ one-begun {L = L} works pushed work session left rest all push same next h =
     ∙ ap (λ (l : List SessionState). map session_of works ++ l) (sym next)
     ∙ h
 
--- what was served under this number, from what is told of the arguments
 pub served-there :
     {L : Type 0} (side : Side) (may_end : ℕ → ℕ → Type 0) (i : ℕ) (old new argument after : Work L) → argument ≡ old → after ≡ new
     → IsServed side (may_end (i + 1)) (session_of argument) (served_of after) → IsServed side (may_end (1 + i)) (session_of old) (served_of new)
@@ -78,7 +73,6 @@ served-there {L = L} side may_end i old new argument after first second h =
     (subst (λ (w : Work L). IsServed side (may_end (i + 1)) (session_of old) (served_of w)) second
     (subst (λ (w : Work L). IsServed side (may_end (i + 1)) (session_of w) (served_of after)) first h))
 
--- where each place was served, all were
 pub each-served :
     {L : Type 0} (side : Side) (may_end : ℕ → ℕ → Type 0) (number : ℕ) (old new : List (Work L)) → length old ≡ length new
     → ((i : ℕ) (d : Work L) → i < length old → IsServed side (may_end (number + i)) (session_of (slice_index_or old i d)) (served_of (slice_index_or new i d)))

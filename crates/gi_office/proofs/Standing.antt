@@ -51,7 +51,6 @@ covered m k (row ∷ rows) facts fact all is =
           }
     ]
 
--- facts that were read stand there
 pub stand_read : (n : ℕ) (facts : List Fact) (s : State) → 1 ≤ n → HasFrom n facts s → Stand n facts s
 stand_read n facts s from has before fact is =
     let rows = has.read.rows in
@@ -73,7 +72,6 @@ pub stand_if_read : {E : Type 0} (n : ℕ) (facts : List Fact) (s : State) (resu
 stand_if_read n facts s (Ok count) from has = stand_read n (take count facts) s from has
 stand_if_read n facts s (Err fault) from has = tt
 
--- facts that were saved stand there
 pub stand_saved : (n : ℕ) (facts : List Fact) (old new : State) → batch_of (batch_text facts) ≡ Some facts → AreSaved n facts old new → Stand n facts new
 stand_saved n facts old new reads saved before fact is =
     let row = row_of n (batch_text facts) in
@@ -114,12 +112,10 @@ answered_save : (n : ℕ) (loaded : Option ℕ) (result : Result (Unit {0}) Stor
 answered_save n None result answers = subst (λ (r : Result (Unit {0}) StoreFault). IsNextIf n None r) (sym answers) tt
 answered_save n (Some k) result answers = answered_next n k (n == k + 1) result refl answers
 
--- what is saved was the row that comes next
 pub answered_batch : (n : ℕ) (facts : List Fact) (loaded : Option ℕ) (result : Result (Unit {0}) StoreFault) → 1 ≤ length facts → length facts ≤ most_facts → AnswersBatch n facts loaded result → IsNextIf n loaded result
 answered_batch n facts loaded result some few answers =
     let is : is_batch facts ≡ true = grind (arith, nat_tests, some, few) in
     answered_save n loaded result (rw is at answers)
 
--- how many facts there are from a number on
 pub goes_on_count : (n : ℕ) (facts all : List Fact) (count : ℕ) → GoesOnBy n facts all count → count ≡ length all - (n - 1)
 goes_on_count n facts all count goes = sym (length-take-le count facts goes.within) ∙ (sym (ap (length {A = Fact}) goes.are) ∙ length-drop (n - 1) all)

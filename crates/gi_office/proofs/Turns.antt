@@ -18,7 +18,6 @@ use Rattle.gi_office.specs.Saving.{AreNext, Halts, HasFrom, IsWriteFault, MarksA
 use Rattle.gi_office.specs.declared.save_fault.SaveFault.{SaveFault}
 use Rattle.gi_office.specs.declared.turn.Turn.{Turn}
 
--- facts that were copied, where there are some, can be saved
 pub copied_next :
     (s : DeskState) (n : ℕ) (copies seen : List Fact) → copies ≡ next_facts s → seen ≡ copies → n ≡ s.saved → AllByRecursion IsWritable copies
     → s.saved + 1 + length copies ≤ 2 ^ 32 → 1 ≤ length copies → AreNext (n + 1) seen
@@ -34,7 +33,6 @@ copied_next s n copies seen are same count writable numbers some = subst (λ (fs
     drop_saved d = drop d.saved d.facts
 
 module _ {S : Type 0} (side : Side) (store : Ghosts S) (before after : BookState S) (n : ℕ) (given first slice : List Fact) (front : ℕ) where
-  -- facts that stand in the book were to be marked
   pub stood :
       (items taken : List Fact) (count : ℕ) (old : SeatState) (result : Result Turn SaveFault) (new : SeatState)
       → items ≡ given → first ≡ items → slice ≡ items → taken ≡ take count items → IsLongestFront first front
@@ -65,7 +63,6 @@ module _ {S : Type 0} (side : Side) (store : Ghosts S) (before after : BookState
         });
       }
 
-  -- facts that do not stand there were to halt the desk
   pub stood_not :
       (items : List Fact) (fault : StoreFault) (old : SeatState) (result : Result Turn SaveFault) (new : SeatState)
       → items ≡ given → first ≡ items → slice ≡ items → IsLongestFront first front

@@ -10,7 +10,6 @@ use gi_facts::same_facts_are_equal;
 use gi_pairs::CycleId;
 use gi_processing::{Contract, Notice};
 
-/// Whether two facts are equal.
 pub(crate) fn is_same_fact(fact: &Fact, other: &Fact) -> bool
     ensures { IsTrue result ↔ (fact.now ≡ other.now) }
 {
@@ -18,7 +17,6 @@ pub(crate) fn is_same_fact(fact: &Fact, other: &Fact) -> bool
     fact.is(other)
 }
 
-/// Whether the facts are equal, one by one.
 pub(crate) fn are_same_facts(facts: &[Fact], others: &[Fact]) -> bool
     ensures { IsTrue result ↔ (facts.now ≡ others.now) }
 {
@@ -33,28 +31,25 @@ pub(crate) fn are_same_facts(facts: &[Fact], others: &[Fact]) -> bool
     true
 }
 
-/// Whether two contracts are equal.
+/// Compared as facts, like notices and cycles below: `same_facts_are_equal` speaks of facts alone.
 fn is_same_contract(contract: &Contract, other: &Contract) -> bool
     ensures { IsTrue result ↔ (contract.now ≡ other.now) }
 {
     is_same_fact(&Fact::Contracted(*contract), &Fact::Contracted(*other))
 }
 
-/// Whether two notices are equal.
 fn is_same_notice(notice: &Notice, other: &Notice) -> bool
     ensures { IsTrue result ↔ (notice.now ≡ other.now) }
 {
     is_same_fact(&Fact::Noticed(*notice), &Fact::Noticed(*other))
 }
 
-/// Whether two cycles are the same.
 fn is_same_cycle(id: &CycleId, other: &CycleId) -> bool
     ensures { IsTrue result ↔ (id.now ≡ other.now) }
 {
     is_same_fact(&Fact::Closed(*id), &Fact::Closed(*other))
 }
 
-/// Whether two calls are equal.
 fn is_same_call(call: &Call, other: &Call) -> bool
     ensures { IsTrue result ↔ (call.now ≡ other.now) }
 {
@@ -73,14 +68,12 @@ fn is_same_call(call: &Call, other: &Call) -> bool
     }
 }
 
-/// Whether two packets are equal.
 fn is_same_packet(packet: &Packet, other: &Packet) -> bool
     ensures { IsTrue result ↔ (packet.now ≡ other.now) }
 {
     packet.to == other.to && packet.body.as_slice() == other.body.as_slice()
 }
 
-/// Whether the packets are equal, one by one.
 fn are_same_packets(packets: &[Packet], others: &[Packet]) -> bool
     ensures { IsTrue result ↔ (packets.now ≡ others.now) }
 {
@@ -95,14 +88,12 @@ fn are_same_packets(packets: &[Packet], others: &[Packet]) -> bool
     true
 }
 
-/// Whether two replies are equal.
 fn is_same_reply(reply: &Reply, other: &Reply) -> bool
     ensures { IsTrue result ↔ (reply.now ≡ other.now) }
 {
     reply.answer == other.answer && are_same_packets(reply.out.as_slice(), other.out.as_slice())
 }
 
-/// Whether the note at an index is that of the entry at the place.
 pub(crate) fn is_noted(notes: &[Note], index: usize, place: u64, entry: &Entry) -> bool
     ensures { IsTrue result ↔ (slice_get notes.now index ≡ Some (note_of place entry.now)) }
 {

@@ -13,7 +13,6 @@ use crate::stretch::Stretch;
 use gi_desk::{Desk, Fact, Role};
 use std::alloc::AllocError;
 
-/// Whether both are there and equal, or neither is there.
 fn is_same(fact: Option<&Fact>, other: Option<&Fact>) -> bool
     ensures { IsTrue result ↔ (option_copied fact.entry ≡ option_copied other.entry) }
 {
@@ -24,8 +23,6 @@ fn is_same(fact: Option<&Fact>, other: Option<&Fact>) -> bool
     }
 }
 
-/// How many of so many first facts of the later desk come before one that the former desk does not
-/// have so.
 fn first_other<R: Role>(former: &Desk<R>, later: &Desk<R>, opening: u32) -> Option<u32>
     requires { opening ≤ length later.now.facts }
     ensures { MatchOption result (take opening later.now.facts ≡ take opening former.now.facts) (λ before. IsOther former.now.facts later.now.facts opening before) }
@@ -38,8 +35,6 @@ fn first_other<R: Role>(former: &Desk<R>, later: &Desk<R>, opening: u32) -> Opti
     None
 }
 
-/// Where the later desk, which was opened with its first so many facts, does not go on from where the
-/// former one ended.
 fn break_of<R: Role>(former: &Desk<R>, later: &Desk<R>, opening: u32) -> Option<u32>
     requires { opening ≤ length later.now.facts }
     ensures { MatchOption result (GoesOn former.now later.now.point (take opening later.now.facts)) (λ n. Breaks former.now later.now.point (take opening later.now.facts) n) }
@@ -56,7 +51,6 @@ fn break_of<R: Role>(former: &Desk<R>, later: &Desk<R>, opening: u32) -> Option<
     None
 }
 
-/// The lives of both, one after the other.
 fn joined<R: Role>(former: Settled<R>, later: Settled<R>) -> Result<Settled<R>, AllocError>
     requires { GoesOn former.desk later.desk.point (opening_of later.lives) }
     ensures { IfOk result (λ joined. joined ≡ joined_of former later) }

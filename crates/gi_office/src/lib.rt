@@ -12,8 +12,8 @@
 //!
 //! Whoever drives an office has these duties: to keep each seat to one thread at a time (a call takes
 //! it and gives it back); to send what a reply lets out, and nothing else; and at the end to hand all
-//! seats back to [`Office::settle`]. Who makes turns that save ([`Office::save_turn`]) does so from a
-//! seat of its own, in one thread, always with the desk's own book, which is loaded: a fact is saved
+//! seats back to [`Office::settle`]. Who makes turns that save ([`Office::save_turn`]) does so from one
+//! seat, by one thread at a time, always with the desk's own book, which is loaded: a fact is saved
 //! and lets out what it has by such a turn alone. A turn saves several facts, and what each lets out is
 //! in the notes of its seat, after a fault too. It goes on until there is nothing to save, the desk is
 //! halted, or a turn answers a fault. Who serves sessions ([`Office::serve`]) gives each a seat of

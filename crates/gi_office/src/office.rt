@@ -43,7 +43,6 @@ impl<R: Role, L: Ledger> Model for Office<R, L> {
     ghost view = { λ o. record { seats = o.seats } };
 }
 
-/// The number of the fact that an answer is of.
 fn number_of(answer: &Answer) -> Option<u32>
     ensures { result ≡ number_in answer.now }
 {
@@ -53,7 +52,7 @@ fn number_of(answer: &Answer) -> Option<u32>
     }
 }
 
-/// Makes the call from the seat on what a lock gave.
+/// `known` comes first: of what a lock gives nothing is known before.
 pub(crate) fn asked<R: Role, L: Ledger>(
     held: &mut Held<R, L>,
     seat: &mut Seat<L>,
@@ -92,7 +91,6 @@ impl<R: Role, L: Ledger> Office<R, L> {
         Ok((office, places))
     }
 
-    /// Takes the lock and makes one call from the seat, which `Held::enter` answers.
     fn ask_from<W: Wait>(
         &self,
         rt: &W,
@@ -104,7 +102,6 @@ impl<R: Role, L: Ledger> Office<R, L> {
         asked(&mut *self.held.lock(rt), seat, call)
     }
 
-    /// The same, from a seat that is handed over and given back.
     fn ask<W: Wait>(
         &self,
         rt: &W,
@@ -239,7 +236,6 @@ impl<R: Role, L: Ledger> Office<R, L> {
     }
 }
 
-/// Settles what the lock of an office of so many seats kept.
 fn taken_apart<R: Role, L: Ledger>(
     held: Held<R, L>,
     count: u8,

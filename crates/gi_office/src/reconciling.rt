@@ -1,8 +1,7 @@
 //! Two offices that are over, set against each other.
 
-ghost use Rattle.std.specs.Prelude.{◌≡◌, ◌&&◌, All, IfOk, MatchOption, IsTrue};
+ghost use Rattle.std.specs.Prelude.{◌≡◌, IfOk, MatchOption};
 ghost use Rattle.std.specs.List.{list_any};
-ghost use Rattle.gi_desk.specs.Machine.{is_for_peer};
 ghost use Rattle.gi_desk.specs.Queries.{outgoing};
 ghost use Rattle.gi_office.specs.Reconciling.{AgreeOnOneQuantity, AreFrom, IsStranger, Reconciles, carries, entries_of, is_from};
 
@@ -15,21 +14,18 @@ use gi_matcher::Matching;
 use gi_pairs::Side;
 use std::alloc::AllocError;
 
-/// Whether it is for the other operator, with these bytes.
 fn does_carry(bytes: &[u8], packet: &Packet) -> bool
     ensures { result ≡ carries bytes.now packet.now }
 {
     packet.to == Recipient::Peer && packet.body.as_slice() == bytes
 }
 
-/// Whether one of the packets is.
 fn is_sent(bytes: &[u8], packets: &[Packet]) -> bool
     ensures { result ≡ list_any (carries bytes.now) packets.now }
 {
     packets.iter().any(|packet| does_carry(bytes, packet))
 }
 
-/// Whether what the entry delivers, if anything, is among the packets.
 fn is_among(packets: &[Packet], entry: &Entry) -> bool
     ensures { result ≡ is_from packets.now entry.now.call }
 {
@@ -39,8 +35,6 @@ fn is_among(packets: &[Packet], entry: &Entry) -> bool
     }
 }
 
-/// The place of the first entry, from 1, that delivers what the side of this desk did not send, whose
-/// outgoing packets these are.
 fn stranger_among<R: Role>(
     sender: &Settled<R>,
     packets: &[Packet],
@@ -57,8 +51,6 @@ fn stranger_among<R: Role>(
     None
 }
 
-/// The place of the first delivery to the receiver's office, in all its lives, that the sender's did
-/// not send.
 fn stranger<R: Role, S: Role>(
     receiver: &Settled<R>,
     sender: &Settled<S>,

@@ -7,7 +7,6 @@ use crate::seat::Seat;
 use std::alloc::{AllocError, Global};
 use std::sync::ledger::{Ledger, Share};
 
-/// A seat with this share from which nothing was called yet.
 fn seat_of<L: Ledger>(alloc: Global, number: u8, share: Share<L>) -> Seat<L>
     requires backed { 0 < share.parts }
     requires none { share.amount ≡ 0 }
@@ -20,7 +19,8 @@ fn seat_of<L: Ledger>(alloc: Global, number: u8, share: Share<L>) -> Seat<L>
     }
 }
 
-/// So many seats, from 1 to 16. Each has one part of the ledger, and the last one all that are left.
+/// The last seat has all parts that are left, so that all seats together have the whole ledger, which
+/// counting them against the book takes.
 pub(crate) fn seats_of<L: Ledger>(
     alloc: Global,
     share: Share<L>,

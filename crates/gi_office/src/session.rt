@@ -40,7 +40,6 @@ impl<L: Ledger> Session<L> {
         (seat, bodies)
     }
 
-    /// How many bodies there are.
     pub(crate) fn count(&self) -> usize
         ensures { result ≡ length self.now.bodies }
     {

@@ -15,9 +15,8 @@ use std::marker::Model;
 /// the trail of all calls.
 #[derive(Drop)]
 pub struct Settled<R: Role> {
-    /// The lives before the last one, in order.
     pub(crate) earlier: Vec<Stretch>,
-    /// How many entries those have in all.
+    /// How many entries of the trail the earlier lives have in all.
     pub(crate) before: usize,
     /// How many facts the desk was opened with.
     pub(crate) opening: u32,
@@ -62,14 +61,12 @@ impl<R: Role> Settled<R> {
         self.entries().get(place as usize - 1)
     }
 
-    /// All entries of its lives, those of the first life first.
     pub(crate) fn entries(&self) -> &[Entry]
         ensures { result.now ≡ entries_of self.now.lives }
     {
         &self.trail
     }
 
-    /// With how many facts the first life was opened.
     pub(crate) fn first_opening(&self) -> u32
         ensures within { result ≤ length self.now.desk.facts }
         ensures opening { opening_of self.now.lives ≡ take result self.now.desk.facts }
@@ -80,8 +77,7 @@ impl<R: Role> Settled<R> {
         }
     }
 
-    /// The lives are legal, and the desk is the end of the last one; its facts are legal, and can be
-    /// written.
+    /// Does nothing: what it promises is always so, and is known once it is called.
     pub(crate) fn known(&self)
         ensures lives { AreLegal R.SIDE self.now.lives self.now.desk }
         ensures legal { bad_fact R.SIDE self.now.desk.point self.now.desk.facts ≡ None }

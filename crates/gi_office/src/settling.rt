@@ -1,6 +1,6 @@
 //! An office taken apart: what each seat noted, against the trail.
 
-ghost use Rattle.std.specs.Prelude.{◌≡◌, ◌+◌, ◌≤◌, MatchOption, Some, length};
+ghost use Rattle.std.specs.Prelude.{◌≡◌, ◌+◌, MatchOption, Some, length};
 ghost use Rattle.std.specs.Option.{option_map};
 ghost use Rattle.gi_office.specs.Settling.{AreAll, AreSettled, Differs, DiffersAt, IsUnsettled, noted_by, notes_at, notes_of, parts_of};
 
@@ -11,7 +11,6 @@ use crate::seat::Seat;
 use crate::unsettled::Unsettled;
 use std::sync::ledger::{Book, Ledger, Share};
 
-/// Where the list of the seat with this number first differs from the trail's entries of it.
 fn difference(number: u8, notes: &[Note], trail: &[Entry]) -> Option<u64>
     ensures { MatchOption result (notes.now ≡ notes_of number trail.now) (λ place. DiffersAt place notes.now (notes_of number trail.now)) }
 {
@@ -32,7 +31,6 @@ fn difference(number: u8, notes: &[Note], trail: &[Entry]) -> Option<u64>
     None
 }
 
-/// The list of the seat with this number.
 fn list_of<L: Ledger>(number: u8, seats: &[Seat<L>]) -> Option<&[Note]>
     ensures { option_map (λ notes. notes.now) result ≡ notes_at number seats.now }
 {
@@ -40,7 +38,6 @@ fn list_of<L: Ledger>(number: u8, seats: &[Seat<L>]) -> Option<&[Note]>
     Some(seat.notes())
 }
 
-/// How the seat of this number differs from the trail.
 fn fault_of<L: Ledger>(number: u8, seats: &[Seat<L>], trail: &[Entry]) -> Option<Unsettled>
     ensures { MatchOption result (notes_at number seats.now ≡ Some (notes_of number trail.now)) (λ fault. (fault.seat ≡ number) × Differs trail.now seats.now fault) }
 {
@@ -57,7 +54,6 @@ fn fault_of<L: Ledger>(number: u8, seats: &[Seat<L>], trail: &[Entry]) -> Option
     })
 }
 
-/// The first difference of the first so many seats, by seat and then by place.
 pub(crate) fn first_fault<L: Ledger>(
     count: u8,
     seats: &[Seat<L>],
@@ -73,7 +69,6 @@ pub(crate) fn first_fault<L: Ledger>(
     None
 }
 
-/// The share of a seat.
 fn share_of<L: Ledger>(seat: Seat<L>) -> Share<L>
     ensures parts { result.parts ≡ seat.parts }
     ensures amount { result.amount ≡ length seat.notes }
@@ -86,7 +81,6 @@ fn share_of<L: Ledger>(seat: Seat<L>) -> Share<L>
     share
 }
 
-/// A share, merged with those of the seats.
 fn joined<L: Ledger>(first: Share<L>, seats: Vec<Seat<L>>) -> Share<L>
     ensures parts { result.parts ≡ first.parts + parts_of seats.items }
     ensures amount { result.amount ≡ first.amount + noted_by seats.items }
@@ -98,8 +92,7 @@ fn joined<L: Ledger>(first: Share<L>, seats: Vec<Seat<L>>) -> Share<L>
     all
 }
 
-/// Merges the shares of the seats: where they have all parts of the ledger, the seats noted as many
-/// calls as the book counts.
+/// Only a share that has all parts of the ledger tells the book's total, so all are merged into one.
 pub(crate) fn merge<L: Ledger>(book: Book<L>, seats: Vec<Seat<L>>)
     ensures { AreAll L.parts seats.items → noted_by seats.items ≡ book.total }
 {

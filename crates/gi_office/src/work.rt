@@ -11,8 +11,7 @@ use gi_desk::Body;
 use std::alloc::{AllocError, Global};
 use std::sync::ledger::Ledger;
 
-/// A session under way, with room for a receipt of each of its bodies; and, once it is over, what
-/// came of it.
+/// The receipts have room for one of each body from the start, so that a worker takes no memory for them.
 #[derive(Drop)]
 pub(crate) struct Work<L: Ledger> {
     pub(crate) seat: Seat<L>,
@@ -52,7 +51,6 @@ impl<L: Ledger> Work<L> {
     }
 }
 
-/// For each session room for a receipt of each of its bodies.
 fn rooms_for<L: Ledger>(
     alloc: Global,
     sessions: &[Session<L>],
@@ -66,8 +64,8 @@ fn rooms_for<L: Ledger>(
     Ok(rooms)
 }
 
-/// All memory that serving sessions takes: room for the receipts of each, for what is under way, and
-/// for what comes of it.
+/// All memory that serving takes, before the first call: where it is refused the sessions are as they
+/// were.
 pub(crate) fn growths<L: Ledger>(
     sessions: &Vec<Session<L>>,
 ) -> Result<(Vec<Vec<Receipt>>, Vec<Work<L>>, Vec<Served<L>>), AllocError>
@@ -82,7 +80,6 @@ pub(crate) fn growths<L: Ledger>(
     Ok((rooms, works, served))
 }
 
-/// The sessions, each with its room.
 pub(crate) fn begun<L: Ledger>(
     sessions: Vec<Session<L>>,
     rooms: Vec<Vec<Receipt>>,
@@ -103,7 +100,6 @@ pub(crate) fn begun<L: Ledger>(
     works
 }
 
-/// What came of each, in order.
 pub(crate) fn ended<L: Ledger>(works: Vec<Work<L>>, served: Vec<Served<L>>) -> Vec<Served<L>>
     requires none { served.items ≡ [] }
     requires room { length works.items ≤ vec_capacity served }

@@ -14,7 +14,6 @@ use gi_facts::batch_round_trip;
 use gi_store::{BookStore, StoreFault};
 use sqlite::Alter;
 
-/// Whether a book that counts so many facts has one of this number.
 fn is_ahead(count: Option<u32>, n: u32) -> bool
     ensures { result ≡ is_ahead_of n count }
 {
@@ -24,7 +23,6 @@ fn is_ahead(count: Option<u32>, n: u32) -> bool
     }
 }
 
-/// How many facts there are from number `n` on, where there are some and they are the first of these.
 fn goes_on_by(all: &[Fact], n: u32, facts: &[Fact]) -> Option<usize>
     requires { 1 ≤ n }
     ensures count { IfSome result (GoesOnBy n facts.now all.now) }
@@ -42,7 +40,6 @@ fn goes_on_by(all: &[Fact], n: u32, facts: &[Fact]) -> Option<usize>
     }
 }
 
-/// What is told where so many facts were read, and those that come next are others.
 fn next_after(read: usize) -> StoreFault
     ensures { result ≡ next_after_facts (counted_facts read) }
 {
@@ -55,7 +52,7 @@ fn next_after(read: usize) -> StoreFault
     }
 }
 
-/// Loads the book: how many facts it has from number `n` on, where they are the first of these.
+/// Loads the book, since a count does not say which facts stand there.
 fn find<S: Alter>(book: &mut BookStore<S>, n: u32, facts: &[Fact]) -> Result<usize, StoreFault>
     requires { 1 ≤ n }
     ensures early { IsClean S.Store book.new.connection → IsClean S.Store book.old.connection }
@@ -73,7 +70,6 @@ fn find<S: Alter>(book: &mut BookStore<S>, n: u32, facts: &[Fact]) -> Result<usi
     }
 }
 
-/// Saves the facts as the row that comes next.
 fn save<S: Alter>(book: &mut BookStore<S>, n: u32, facts: &[Fact]) -> Result<(), StoreFault>
     requires { AreNext n facts.now }
     ensures early { IsClean S.Store book.new.connection → IsClean S.Store book.old.connection }
@@ -86,9 +82,8 @@ fn save<S: Alter>(book: &mut BookStore<S>, n: u32, facts: &[Fact]) -> Result<(),
     book.save_batch(n, facts)
 }
 
-/// Has the first of the facts stand in the book under number `n` and those after it: how many. A book
-/// that is ahead is loaded and not written; in any other so many of them, the longest front that one
-/// row takes, are saved as the row that comes next.
+/// A book that is ahead, as after a mark that was refused, is not written again: how many of the facts
+/// stand there is told.
 pub(crate) fn write<S: Alter>(
     book: &mut BookStore<S>,
     n: u32,

@@ -25,12 +25,10 @@ pub asked_last : (side : Side) (old new others : List SeatState) (main after : S
 asked_last side old new others main after call answer word taken given h is some =
     record { others = others; main = main; after = after; old_is = taken; new_is = given; asks = asked side main call answer word after h is some }
 
--- two facts of an `Ok`
 pub both_known : {T E : Type 0} (r : Result T E) (P Q R : T → Type 0) → ((x : T) → P x → Q x → R x) → IfOk r P → IfOk r Q → IfOk r R
 both_known (Ok x) P Q R of p q = of x p q
 both_known (Err e) P Q R of p q = tt
 
--- a fact of an `Ok`, of the value that it is known to be
 pub of_value : {T E : Type 0} (r : Result T E) (x : T) (P : T → Type 0) → IsOk r → IfOk r (λ one. x ≡ one) → IfOk r P → P x
 of_value (Ok one) x P ok same p = subst P (sym same) p
 of_value (Err e) x P ok same p = let no : false ≡ true = ok in absurd cc

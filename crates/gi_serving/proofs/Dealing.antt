@@ -48,7 +48,6 @@ body_more number numbers items i d below within =
     ∙ dealt_append number (take i numbers) (take i items) (get_or numbers i 0) (get_or items i d)
     (omega (arith, length-take-le i numbers (omega (arith, below)), length-take-le i items (omega (arith, within))))
 
--- the body at this place goes to the session
 pub taken : (number : ℕ) (numbers : List ℕ) (bodies : List (List ℕ)) (i : ℕ) (body : List ℕ) (old new : List (List ℕ)) → i < length numbers → i < length bodies
     → get_or numbers i 0 ≡ number → body ≡ get_or bodies i body → old ≡ dealt number (take i numbers) (take i bodies) → new ≡ old ++ body ∷ []
     → new ≡ dealt number (take (i + 1) numbers) (take (i + 1) bodies)
@@ -67,7 +66,6 @@ taken number numbers bodies i body old new below within here at is added = by (e
         ∙ sym (body_more number numbers bodies i body below within)
     by (inr other) = absurd (other.1 here)
 
--- it goes to another one
 pub passed : (number : ℕ) (numbers : List ℕ) (bodies : List (List ℕ)) (i : ℕ) (old new : List (List ℕ)) → i < length numbers → i < length bodies
     → get_or numbers i 0 ≢ number → old ≡ dealt number (take i numbers) (take i bodies) → new ≡ old
     → new ≡ dealt number (take (i + 1) numbers) (take (i + 1) bodies)
@@ -86,7 +84,6 @@ passed number numbers bodies i old new below within other is kept = by (eqb_tell
         ∙ ap (λ (c : Bool). so_far ++ cond c (get_or bodies i [] ∷ []) []) (sym apart.0)
         ∙ sym (body_more number numbers bodies i [] below within)
 
--- one session more
 pub dealt_more : {Z : Type 0} (count : ℕ) (numbers : List ℕ) (bodies : List (List ℕ)) (lists new : List (Vec (List ℕ) Z)) (list : Vec (List ℕ) Z)
     → map bodies_in lists ≡ dealt_to_all count numbers bodies → list.items ≡ dealt (count + 1) numbers bodies → new ≡ lists ++ list ∷ []
     → map bodies_in new ≡ dealt_to_all (count + 1) numbers bodies
@@ -176,7 +173,6 @@ told_more numbers number all left next words word same some within many is after
         subst (λ (rs : List Receipt). Told (before + 1) (numbers ++ number ∷ []) (get_or all before []) rs (words ++ word ∷ [])) (sym kept)
         (told_elsewhere numbers (before + 1) number (get_or all before []) (get_or left before []) words word same (λ e. apart.1 (omega (arith, e))) (told before below))
 
--- the same of the lists that are kept, each with its last receipt first
 pub told_next : {Z : Type 0} (numbers : List ℕ) (i : ℕ) (all left : List (Vec Receipt Z)) (list after : Vec Receipt Z) (words next : List Word) (word : Word)
     → i < length numbers → length words ≡ i → length left ≡ length all → 1 ≤ get_or numbers i 0 → get_or numbers i 0 ≤ length all
     → list ≡ get_or left (get_or numbers i 0 - 1) list → word ≡ word_for (slice_get (in_order list) 0) → in_order after ≡ drop 1 (in_order list) → next ≡ words ++ word ∷ []

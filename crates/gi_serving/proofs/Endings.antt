@@ -33,7 +33,6 @@ closes parts peer_parts sessions reached old last new end result closed (inr h) 
   added = h.0;
 })
 
--- what closing comes to is no cut
 not_cut : (parts seats : ℕ) (handed : List SeatState) (peer_parts peer_seats : ℕ) (peer_handed : List SeatState) (last : List ℕ) (end : Result (Unit {0}) ServeFault)
     → IsClosed parts seats handed peer_parts peer_seats peer_handed last end → IsCut end → ⊥
 not_cut parts seats handed peer_parts peer_seats peer_handed last end closed cut = by closed.initiating closed.matching closed.last
@@ -58,7 +57,6 @@ told_so sessions parts peer_parts count lines start reached text new result firs
 told_so sessions parts peer_parts count lines start reached text new result first some (inr h) cut =
     absurd (not_cut parts (sessions + 1) reached.initiating.seats peer_parts (sessions + 1) reached.matching.seats h.last result h.closed cut)
 
--- how many seats an office has
 pub new_length : (sessions : ℕ) → length (new_seats (sessions + 1)) ≡ sessions + 1
 new_length sessions =
     let last : List SeatState = new_seat (17 - (sessions + 1)) (sessions + 1) ∷ [] in

@@ -74,7 +74,6 @@ turned side store before after old result new (inr h) = followed side store befo
 
 -- ---- the seats of an office
 
--- the last seat was taken, and given back
 pub put_back : (front old new : List SeatState) (seat back : SeatState) → old ≡ front ++ seat ∷ [] → new ≡ front ++ back ∷ [] → place_of back ≡ place_of seat → AreSamePlaces old new
 put_back front old new seat back taken given same =
     ap (map place_of) given
@@ -115,7 +114,6 @@ served_length side may_end number (session ∷ sessions) (one ∷ others) h = ap
 
 -- ---- sessions that begin
 
--- one session more has its bodies
 pub one_begun : {Z : Type 0} (sessions pushed : List SessionState) (session : SessionState) (seat : SeatState) (left rest : List SeatState) (list : Vec (List ℕ) Z) (lists later : List (Vec (List ℕ) Z)) (all : List SessionState)
     → pushed ≡ sessions ++ session ∷ [] → session.seat ≡ seat → session.bodies ≡ list.items → left ≡ seat ∷ rest → lists ≡ list ∷ later
     → sessions ++ begun_by left (map bodies_in lists) ≡ all → pushed ++ begun_by rest (map bodies_in later) ≡ all
@@ -131,20 +129,17 @@ one_begun sessions pushed session seat left rest list lists later all push same 
 pub all_begun : (sessions all : List SessionState) (left : List SeatState) (given : List (List (List ℕ))) → left ≡ [] → sessions ++ begun_by left given ≡ all → sessions ≡ all
 all_begun sessions all left given none h = sym (append-nil sessions) ∙ ap (λ (ss : List SeatState). sessions ++ begun_by ss given) (sym none) ∙ h
 
--- each seat began a session, where there is a list for each
 seats_begun : (seats : List SeatState) (given : List (List (List ℕ))) → length seats ≡ length given → map seat_of (begun_by seats given) ≡ seats
 seats_begun [] given same = refl
 seats_begun (seat ∷ seats) [] same = absurd (omega (arith, same))
 seats_begun (seat ∷ seats) (bodies ∷ given) same = ap (λ (ss : List SeatState). seat ∷ ss) (seats_begun seats given (omega (arith, same)))
 
--- as many are served as lists were given
 pub served_all : (side : Side) (old : List SeatState) (given : List (List (List ℕ))) (sessions : List SessionState) (all : List ServedState)
     → length old ≡ length given → sessions ≡ begun_by old given → AreServed side goes_on 1 sessions all → length all ≡ length given
 served_all side old given sessions all many begun h =
     let seats : map seat_of (begun_by old given) ≡ old = seats_begun old given many in
     omega (arith, served_length side goes_on 1 sessions all h, ap length begun, length-map (begun_by old given) seat_of, ap length seats, many)
 
--- the seats were those of the sessions
 pub served_places : (side : Side) (old new : List SeatState) (given : List (List (List ℕ))) (sessions : List SessionState) (all : List ServedState)
     → length old ≡ length given → sessions ≡ begun_by old given → AreServed side goes_on 1 sessions all → new ≡ map seat_in all → AreSamePlaces old new
 served_places side old new given sessions all many begun h back = ap (map place_of) back ∙ (served side goes_on 1 sessions all h ∙ ap (map place_of) seats)
@@ -152,7 +147,6 @@ served_places side old new given sessions all many begun h back = ap (map place_
     seats : map seat_of sessions ≡ old
     seats = ap (map seat_of) begun ∙ seats_begun old given many
 
--- what the sessions made of the seats
 pub submit_so : (side : Side) (old new : List SeatState) (given : List (List (List ℕ))) (sessions : List SessionState) (all : List ServedState) (receipts : List (List Receipt))
     → sessions ≡ begun_by old given → AreServed side goes_on 1 sessions all → new ≡ map seat_in all → receipts ≡ map receipts_in all → short_of false all ≡ false
     → SessionsSubmit side given old receipts new
@@ -164,7 +158,6 @@ submit_so side old new given sessions all receipts begun h back are well = recor
   memory = well;
 }
 
--- the last seat is given back to the others
 pub with_last : (old others back new : List SeatState) (main after : SeatState) → old ≡ others ++ main ∷ [] → new ≡ back ++ after ∷ [] → AreSamePlaces others back → place_of after ≡ place_of main → AreSamePlaces old new
 with_last old others back new main after taken given same last =
     ap (map place_of) given

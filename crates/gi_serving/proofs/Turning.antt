@@ -94,7 +94,6 @@ pub turn_marks : {S : Type 0} (side : Side) (store : Ghosts S) (before after : B
 turn_marks side store before after old result new (inl h) = whatever (NotesMarks old new) (saved_of result) (kept old new h.2)
 turn_marks side store before after old result new (inr h) = followed side store before after h.0 old result new h.2
 
--- the last seat made the turns
 pub last_marks : {A E : Type 0} (r : Result A E) (old new others : List SeatState) (main after : SeatState) → old ≡ others ++ main ∷ [] → new ≡ others ++ after ∷ [] → OnOk r (NotesMarks main after) → OnOk r (MarksLast old new)
 last_marks (Ok x) old new others main after taken given notes = record { others = others; main = main; after = after; old_is = taken; new_is = given; notes = notes }
 last_marks (Err e) old new others main after taken given notes = tt

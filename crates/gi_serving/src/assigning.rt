@@ -1,6 +1,6 @@
 //! Which session gets which submission of a batch.
 
-ghost use Rattle.std.specs.Prelude.{◌≡◌, ◌≤◌, ◌<◌, All, IfOk, map};
+ghost use Rattle.std.specs.Prelude.{◌≡◌, ◌≤◌, ◌<◌, All, IfOk};
 ghost use Rattle.std.specs.List.{position};
 ghost use Rattle.gi_serving.specs.Assigning.{IsNumber, in_order as order_of, is_same, place_in, portfolios_of, session_of, sessions_of as sessions_for};
 
@@ -10,7 +10,6 @@ use gi_reports::refused_counts;
 use gi_simulation::portfolio_of;
 use std::alloc::{AllocError, Global};
 
-/// The portfolio of each submission.
 fn portfolios(alloc: Global, bodies: &[Body]) -> Result<Vec<Option<Code>>, AllocError>
     ensures { IfOk result (λ portfolios. portfolios.items ≡ portfolios_of bodies.now) }
 {
@@ -21,14 +20,12 @@ fn portfolios(alloc: Global, bodies: &[Body]) -> Result<Vec<Option<Code>>, Alloc
     Ok(portfolios)
 }
 
-/// Where it stands among them, from 0.
 fn found(order: &[Code], portfolio: Code) -> Option<usize>
     ensures { result ≡ position (λ other. is_same other portfolio) order.now }
 {
     order.iter().position(|other| *other == portfolio)
 }
 
-/// How many stand before it; all of them where it is not there.
 #[tactic(auto, using(crate::proofs::Ordering::placed))]
 fn place(order: &[Code], portfolio: Code) -> usize
     ensures { result ≡ place_in order.now portfolio }
@@ -36,7 +33,7 @@ fn place(order: &[Code], portfolio: Code) -> usize
     found(order, portfolio).unwrap_or(order.len())
 }
 
-/// Each portfolio once, in order of first appearance.
+/// The portfolios of the counts, which come in order of first appearance; the counts are not needed.
 fn in_order(alloc: Global, portfolios: &[Option<Code>]) -> Result<Vec<Code>, AllocError>
     ensures { IfOk result (λ order. order.items ≡ order_of portfolios.now) }
 {

@@ -28,7 +28,6 @@ use std::thread::Threads;
 /// What came of the bodies of an office: its sessions' seats, and a word of each body.
 type Submitted<L> = Result<(Vec<Seat<L>>, Vec<Word>), AllocError>;
 
-/// A waker for each office, and where their notices come.
 fn wakers(alloc: Global) -> Result<(Waker, Waker, Receiver<Side>), AllocError>
     ensures { IfOk result (λ wakers. (wakers.0 ≡ I) × (wakers.1 ≡ M)) }
 {
@@ -41,8 +40,6 @@ fn wakers(alloc: Global) -> Result<(Waker, Waker, Receiver<Side>), AllocError>
     ))
 }
 
-/// Makes one turn that saves, at the office of this side and into its book; the other main seat and the
-/// other book are as they were.
 #[tactic(auto, using(crate::proofs::Turning::none_marked))]
 fn turned_at<L: Ledger, K: Ledger, S: Alter, W: Wait>(
     rt: &W,
@@ -74,8 +71,8 @@ fn turned_at<L: Ledger, K: Ledger, S: Alter, W: Wait>(
     }
 }
 
-/// Makes a turn that saves for each notice, at the office that it names, until nobody is left to send
-/// one, or a turn answers a fault: after that nobody takes notices, so that no session waits for it.
+/// Ends when nobody is left to send a notice, or at a fault: after that nobody takes notices, so that no
+/// session waits for it.
 #[tactic(auto, using(crate::proofs::Turning::none_marked, crate::proofs::Turning::marks_more))]
 fn saved_meanwhile<L: Ledger, K: Ledger, S: Alter, W: Wait>(
     rt: &W,
@@ -108,7 +105,6 @@ fn saved_meanwhile<L: Ledger, K: Ledger, S: Alter, W: Wait>(
     (main, peer_main, Ok(()))
 }
 
-/// The sessions of both offices submit at once.
 fn both_submitted<L: Ledger + Send + Sync, K: Ledger + Send + Sync, T: Threads + Wait + Sync>(
     rt: &T,
     alloc: Global,
@@ -156,7 +152,6 @@ fn both_submitted<L: Ledger + Send + Sync, K: Ledger + Send + Sync, T: Threads +
     )
 }
 
-/// All seats, the main one last.
 fn with_main<L: Ledger>(seats: Vec<Seat<L>>, main: Seat<L>) -> Result<Vec<Seat<L>>, AllocError>
     ensures { IfOk result (λ all. all.items ≡ seats.items ++ main ∷ []) }
 {
@@ -165,9 +160,7 @@ fn with_main<L: Ledger>(seats: Vec<Seat<L>>, main: Seat<L>) -> Result<Vec<Seat<L
     Ok(seats)
 }
 
-/// Submits a batch at both offices at once, by their sessions, and makes turns that save from the main
-/// seats meanwhile: all seats of each office, and the words of its submissions, in order. Where no thread
-/// can be started the sessions come first, so that the turns wait for nobody.
+/// Where no thread can be started the sessions come first, so that the turns wait for nobody.
 #[tactic(auto, using(crate::proofs::Places::with_last, crate::proofs::Dealing::submits_batch))]
 pub(crate) fn at_once<
     L: Ledger + Send + Sync,

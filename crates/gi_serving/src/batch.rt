@@ -1,6 +1,6 @@
 //! A batch: submissions, which the sessions of an office make at once.
 
-ghost use Rattle.std.specs.Prelude.{◌≡◌, ◌≤◌, ◌<◌, ◌+◌, ◌++◌, ◌∷◌, [], All, IfOk, OnErr, OnOk, drop, false, length, map, slice_get, true, vec_capacity};
+ghost use Rattle.std.specs.Prelude.{◌≡◌, ◌≤◌, ◌<◌, ◌++◌, [], All, IfOk, OnErr, OnOk, drop, false, length, map, slice_get, true, vec_capacity};
 ghost use Rattle.gi_serving.specs.Assigning.{IsNumber};
 ghost use Rattle.gi_serving.specs.Batches.{submission as submission_in};
 ghost use Rattle.gi_serving.specs.Ending.{AreSamePlaces};
@@ -18,7 +18,6 @@ use std::sync::Wait;
 use std::sync::ledger::Ledger;
 use std::thread::Threads;
 
-/// Adds the body of a submission at that side.
 fn add_body(bodies: &mut Vec<Body>, side: Side, line: &Line) -> Result<(), AllocError>
     ensures { OnOk result (bodies.new.items ≡ bodies.old.items ++ body_for side (submission_in line.now.instruction)) }
 {
@@ -30,7 +29,6 @@ fn add_body(bodies: &mut Vec<Body>, side: Side, line: &Line) -> Result<(), Alloc
     Ok(())
 }
 
-/// The submissions at a side, in order.
 #[tactic(auto, using(crate::proofs::Dealing::line_more))]
 pub(crate) fn bodies_at(alloc: Global, side: Side, lines: &[Line]) -> Result<Vec<Body>, AllocError>
     ensures { IfOk result (λ bodies. bodies.items ≡ bodies_of side lines.now) }
@@ -42,7 +40,6 @@ pub(crate) fn bodies_at(alloc: Global, side: Side, lines: &[Line]) -> Result<Vec
     Ok(bodies)
 }
 
-/// The bodies that a session is given, in order.
 fn given(
     alloc: Global,
     number: u8,
@@ -61,7 +58,6 @@ fn given(
     Ok(dealt)
 }
 
-/// The bodies that each of so many sessions is given.
 #[tactic(auto, using(crate::proofs::Dealing::dealt_more, crate::proofs::Dealing::as_many))]
 fn dealt_to(
     alloc: Global,
@@ -80,7 +76,6 @@ fn dealt_to(
     Ok(dealt)
 }
 
-/// A session for each seat, with what it is given.
 #[tactic(auto, using(crate::proofs::Places::one_begun, crate::proofs::Places::all_begun))]
 fn begun<L: Ledger>(
     seats: Vec<Seat<L>>,
@@ -101,7 +96,6 @@ fn begun<L: Ledger>(
     sessions
 }
 
-/// Whether a session ended for want of memory.
 fn wanted(fault: &Option<OfficeFault>) -> bool
     ensures { result ≡ is_short fault.now }
 {
@@ -112,8 +106,7 @@ fn wanted(fault: &Option<OfficeFault>) -> bool
     }
 }
 
-/// The seats of what was served, and the receipts of each session, the last one first. Where a session
-/// ended for want of memory that is told.
+/// The receipts of each session come back the last one first, so that `next_word` pops them in order.
 fn ended<L: Ledger>(
     served: Vec<Served<L>>,
     seats: Vec<Seat<L>>,
@@ -158,7 +151,6 @@ fn rooms_for<L: Ledger>(alloc: Global, count: usize) -> Result<Rooms<L>, AllocEr
     Ok((sessions, seats, receipts))
 }
 
-/// What came of the next body of a session.
 fn next_word(receipts: &mut Vec<Receipt>) -> Word
     ensures word { result ≡ word_for (slice_get (in_order receipts.old) 0) }
     ensures left { in_order receipts.new ≡ drop 1 (in_order receipts.old) }
@@ -169,7 +161,6 @@ fn next_word(receipts: &mut Vec<Receipt>) -> Word
     }
 }
 
-/// What came of each submission, in order; `SeatFull` of what was left undone.
 #[tactic(auto, using(crate::proofs::Dealing::none_told, crate::proofs::Dealing::all_told))]
 fn words_of(
     alloc: Global,
@@ -188,8 +179,6 @@ fn words_of(
     Ok(words)
 }
 
-/// Has sessions submit what is dealt to their seats: these seats, and the receipts of each session, the
-/// last one first. The waker is asked and told of each call.
 #[tactic(auto, using(crate::proofs::Places::served_all, crate::proofs::Places::served_places, crate::proofs::Places::submit_so))]
 fn serve_all<R: Role + Send, L: Ledger + Send, T: Threads + Wait + Sync>(
     rt: &T,
@@ -215,9 +204,7 @@ fn serve_all<R: Role + Send, L: Ledger + Send, T: Threads + Wait + Sync>(
     }
 }
 
-/// Submits a batch's bodies at one office, by its sessions at the same time; the waker, which names this
-/// office, sends a notice of each call that was answered. It is dropped when the sessions are done, which
-/// ends the loop that waits for notices. The seats come back, with what came of each submission, in order.
+/// The waker is dropped when the sessions are done, which ends the loop that waits for notices.
 #[tactic(auto, using(crate::proofs::Dealing::sessions_make))]
 pub(crate) fn submitted<R: Role + Send, L: Ledger + Send, T: Threads + Wait + Sync>(
     rt: &T,

@@ -29,7 +29,6 @@ use std::sync::Wait;
 use std::sync::ledger::Ledger;
 use std::thread::Threads;
 
-/// Both offices under way.
 #[derive(Drop)]
 pub(crate) struct Both<L: Ledger, K: Ledger, S: Alter + Drop> {
     pub(crate) alloc: Global,
@@ -42,7 +41,6 @@ pub(crate) struct Both<L: Ledger, K: Ledger, S: Alter + Drop> {
     ghost theirs: { matching.office.seats ≡ sessions + 1 },
 }
 
-/// The side that an instruction is for.
 fn side_of(instruction: &Instruction) -> Side
     ensures { result ≡ side_in instruction.now }
 {
@@ -56,7 +54,6 @@ fn side_of(instruction: &Instruction) -> Side
     }
 }
 
-/// What both came to, where neither was refused memory.
 fn both_of<A: Drop, B: Drop>(
     ours: Result<A, AllocError>,
     theirs: Result<B, AllocError>,
@@ -70,7 +67,6 @@ fn both_of<A: Drop, B: Drop>(
     Ok((ours, theirs))
 }
 
-/// Puts a value in another's place.
 fn put<A: Drop>(place: &mut A, value: A)
     ensures { place.new ≡ value }
 {
@@ -78,7 +74,6 @@ fn put<A: Drop>(place: &mut A, value: A)
 }
 
 impl<L: Ledger, K: Ledger, S: Alter + Drop> Both<L, K, S> {
-    /// Opens both offices, each with so many sessions.
     pub(crate) fn open(
         sessions: u8,
         initiating: Station<Initiating, S>,
@@ -111,7 +106,6 @@ impl<L: Ledger, K: Ledger, S: Alter + Drop> Both<L, K, S> {
         })
     }
 
-    /// Makes a line that is no submission: its text.
     pub(crate) fn line<W: Wait>(&mut self, rt: &W, line: &Line) -> Result<String, ServeFault>
         requires ours { 0 < length self.old.initiating.seats.items }
         requires theirs { 0 < length self.old.matching.seats.items }
@@ -134,7 +128,6 @@ impl<L: Ledger, K: Ledger, S: Alter + Drop> Both<L, K, S> {
         Ok(text)
     }
 
-    /// Sends what the main seats let out since it was last sent.
     fn send(&mut self) -> Result<(), AllocError>
         requires ours { 0 < length self.old.initiating.seats.items }
         requires theirs { 0 < length self.old.matching.seats.items }
@@ -150,7 +143,6 @@ impl<L: Ledger, K: Ledger, S: Alter + Drop> Both<L, K, S> {
         self.initiating.way.send_packets(answers)
     }
 
-    /// Makes all turns that save at both offices, and sends what the main seats let out.
     #[tactic(auto, using(crate::proofs::Places::still_some))]
     pub(crate) fn turns<W: Wait>(&mut self, rt: &W) -> Result<(), ServeFault>
         requires ours { 0 < length self.old.initiating.seats.items }
@@ -173,7 +165,6 @@ impl<L: Ledger, K: Ledger, S: Alter + Drop> Both<L, K, S> {
         }
     }
 
-    /// Settles both offices, handed all their seats, and sets them against each other.
     pub(crate) fn close(self) -> Result<Closed, AllocError>
         ensures { IfOk result (λ closed. IsClosed L.parts (self.sessions + 1) self.initiating.seats.items K.parts (self.sessions + 1) self.matching.seats.items (string_bytes closed.text) closed.end) }
     {
@@ -190,8 +181,6 @@ impl<L: Ledger, K: Ledger, S: Alter + Drop> Both<L, K, S> {
 }
 
 impl<L: Ledger + Send + Sync, K: Ledger + Send + Sync, S: Alter + Drop + Send> Both<L, K, S> {
-    /// The sessions of both offices submit at the same time, and turns that save are made from the main
-    /// seats meanwhile: the words of each side's submissions, in order.
     fn submit<T: Threads + Wait + Sync>(
         &mut self,
         rt: &T,
@@ -234,7 +223,6 @@ impl<L: Ledger + Send + Sync, K: Ledger + Send + Sync, S: Alter + Drop + Send> B
         Ok((words, peer_words))
     }
 
-    /// Makes a batch, by the sessions of both offices at once: its text.
     pub(crate) fn batch<T: Threads + Wait + Sync>(
         &mut self,
         rt: &T,

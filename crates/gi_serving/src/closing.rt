@@ -44,7 +44,6 @@ fn settled_line<R: Role>(
     }
 }
 
-/// All lines but the last one.
 fn settling_lines(
     alloc: Global,
     initiating: &Result<Settled<Initiating>, Unsettled>,
@@ -77,7 +76,6 @@ fn end_of(answer: Result<(), Unreconciled>) -> Result<(), ServeFault>
     }
 }
 
-/// Sets two settled offices against each other: the line of it behind the others, and how it ended.
 fn reconciled(
     alloc: Global,
     lines: String,
@@ -98,7 +96,6 @@ fn reconciled(
     })
 }
 
-/// The last lines of two offices that settled so.
 fn last_lines(
     alloc: Global,
     initiating: &Result<Settled<Initiating>, Unsettled>,

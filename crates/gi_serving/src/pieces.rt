@@ -8,7 +8,6 @@ use gi_desk::{Body, Call};
 use gi_pairs::Side;
 use gi_script::{Instruction, Line};
 
-/// The side and the body of a submission.
 pub(crate) fn submission(line: &Line) -> Option<(Side, &Body)>
     ensures { option_map (λ it. (it.0, it.1.now)) result ≡ submission_in line.now.instruction }
 {

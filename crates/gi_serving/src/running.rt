@@ -1,6 +1,6 @@
 //! One office under way: its book, its seats, and the way to it.
 
-ghost use Rattle.std.specs.Prelude.{◌≡◌, ◌≤◌, ◌<◌, ◌+◌, ◌++◌, IfErr, IfOk, OnOk, false, is_some, length, true};
+ghost use Rattle.std.specs.Prelude.{◌≡◌, ◌<◌, ◌+◌, ◌++◌, IfErr, IfOk, OnOk, false, is_some, length, true};
 ghost use Rattle.gi_carrier.specs.Carrier.{given};
 ghost use Rattle.gi_office.specs.Opening.{new_seats};
 ghost use Rattle.gi_simulation.specs.Simulation.{moved_on, new_link};
@@ -21,7 +21,6 @@ use std::alloc::{AllocError, Global};
 use std::sync::Wait;
 use std::sync::ledger::Ledger;
 
-/// An office under way.
 #[derive(Drop)]
 pub(crate) struct Running<R: Role, L: Ledger, S: Alter + Drop> {
     pub(crate) alloc: Global,
@@ -35,7 +34,7 @@ pub(crate) struct Running<R: Role, L: Ledger, S: Alter + Drop> {
     pub(crate) way: Link,
 }
 
-/// Makes a call from the seat; marks are made by turns alone.
+/// A mark is not made: turns alone make those.
 #[tactic(auto, using(crate::proofs::Places::answered))]
 fn called<R: Role, L: Ledger, W: Wait>(
     rt: &W,
@@ -60,7 +59,6 @@ fn called<R: Role, L: Ledger, W: Wait>(
     (seat, Some(answer))
 }
 
-/// The word of a call, if it was made.
 fn word_of(answer: Option<Result<Receipt, OfficeFault>>) -> Result<Option<Word>, AllocError>
     ensures told { IfOk result (λ word. is_some word ≡ is_some answer) }
     ensures word { IfOk result (λ word. word ≡ word_in answer) }
@@ -74,7 +72,6 @@ fn word_of(answer: Option<Result<Receipt, OfficeFault>>) -> Result<Option<Word>,
     }
 }
 
-/// Whether a turn saved any facts.
 fn saved(turn: Result<Turn, SaveFault>) -> Result<bool, SaveFault>
     ensures value { result ≡ saved_of turn }
     ensures fault { IfErr result IsTurnFault }
@@ -87,7 +84,6 @@ fn saved(turn: Result<Turn, SaveFault>) -> Result<bool, SaveFault>
     }
 }
 
-/// Makes a turn that saves from the seat: whether it saved any facts.
 #[tactic(auto, using(crate::proofs::Places::turned))]
 pub(crate) fn turned<R: Role, L: Ledger, S: Alter, W: Wait>(
     rt: &W,
@@ -103,7 +99,7 @@ pub(crate) fn turned<R: Role, L: Ledger, S: Alter, W: Wait>(
     (seat, saved(turn))
 }
 
-/// Makes turns that save from the seat, until there is nothing to save or the desk is halted.
+/// `Ok` only where there is nothing to save or the desk is halted; the contract does not say so.
 #[tactic(auto, using(crate::proofs::Turning::none_marked, crate::proofs::Turning::marks_more))]
 fn saved_all<R: Role, L: Ledger, S: Alter, W: Wait>(
     rt: &W,
@@ -137,7 +133,6 @@ fn add_copies(packets: &mut Vec<Packet>, more: &[Packet]) -> Result<(), AllocErr
     Ok(())
 }
 
-/// What the notes let out, without so many of the first.
 fn out_since(alloc: Global, notes: &[Note], sent: usize) -> Result<Vec<Packet>, AllocError>
     ensures { IfOk result (λ packets. packets.items ≡ out_behind sent notes.now) }
 {
@@ -149,7 +144,6 @@ fn out_since(alloc: Global, notes: &[Note], sent: usize) -> Result<Vec<Packet>, 
 }
 
 impl<R: Role, L: Ledger, S: Alter + Drop> Running<R, L, S> {
-    /// Opens the office, with a seat for each session and the main one.
     pub(crate) fn open(station: Station<R, S>, sessions: u8) -> Result<Running<R, L, S>, AllocError>
         requires name { station.blank.name ≡ L.name }
         requires whole { station.blank.parts ≡ L.parts }
@@ -182,7 +176,6 @@ impl<R: Role, L: Ledger, S: Alter + Drop> Running<R, L, S> {
         }
     }
 
-    /// Makes a call from the main seat: the word of it. Marks are made by turns alone, and have none.
     #[tactic(auto, using(crate::proofs::Places::put_back))]
     fn ask<W: Wait>(&mut self, rt: &W, call: Call) -> Result<Option<Word>, AllocError>
         requires { 0 < length self.old.seats.items }
@@ -199,7 +192,6 @@ impl<R: Role, L: Ledger, S: Alter + Drop> Running<R, L, S> {
         word_of(answer)
     }
 
-    /// Makes the carrier's next move; what it gives is delivered.
     fn carry<W: Wait>(&mut self, rt: &W) -> Result<Option<Word>, AllocError>
         requires { 0 < length self.old.seats.items }
         ensures office { self.new.office ≡ self.old.office }
@@ -215,8 +207,6 @@ impl<R: Role, L: Ledger, S: Alter + Drop> Running<R, L, S> {
         }
     }
 
-    /// Makes what an instruction asks of this office: the word of it, if it has one. What a running
-    /// office does not take does nothing.
     pub(crate) fn make<W: Wait>(
         &mut self,
         rt: &W,
@@ -241,7 +231,6 @@ impl<R: Role, L: Ledger, S: Alter + Drop> Running<R, L, S> {
         }
     }
 
-    /// Makes turns that save until there is nothing to save or the desk is halted.
     #[tactic(auto, using(crate::proofs::Places::put_back, crate::proofs::Turning::last_marks))]
     pub(crate) fn save_all<W: Wait>(&mut self, rt: &W) -> Result<(), SaveFault>
         requires { 0 < length self.old.seats.items }
@@ -258,7 +247,6 @@ impl<R: Role, L: Ledger, S: Alter + Drop> Running<R, L, S> {
         saved
     }
 
-    /// What the main seat let out since it was last asked.
     pub(crate) fn let_out(&mut self) -> Result<Vec<Packet>, AllocError>
         requires { 0 < length self.old.seats.items }
         ensures office { self.new.office ≡ self.old.office }
@@ -272,7 +260,6 @@ impl<R: Role, L: Ledger, S: Alter + Drop> Running<R, L, S> {
         Ok(packets)
     }
 
-    /// The office and all its seats.
     pub(crate) fn into_parts(self) -> (Office<R, L>, Vec<Seat<L>>)
         ensures office { result.0 ≡ self.office }
         ensures seats { result.1 ≡ self.seats }

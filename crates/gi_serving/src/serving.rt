@@ -2,8 +2,7 @@
 
 ghost use Rattle.std.specs.Prelude.{◌≡◌, ◌≤◌, ◌<◌, ◌+◌, Err, IfErr, IfOk, OnErr, OnOk, [], false, is_none, length, max, string_bytes};
 ghost use Rattle.gi_serving.specs.Batches.{submission as submission_in};
-ghost use Rattle.gi_serving.specs.Closing.{IsClosed};
-ghost use Rattle.gi_serving.specs.Ending.{AreAllSeats, AreSamePlaces, Closes, IsCut, IsOver, IsTold};
+ghost use Rattle.gi_serving.specs.Ending.{AreSamePlaces, Closes, IsCut, IsOver, IsTold};
 ghost use Rattle.gi_serving.specs.Making.{AddsFirst, MakesFirst, Runs, RunsSome, new_offices, offices_of};
 ghost use Rattle.gi_serving.specs.Runs.{lead, pieces};
 
@@ -32,7 +31,6 @@ pub struct Served {
     pub end: Result<(), ServeFault>,
 }
 
-/// Whether the line is no submission.
 #[tactic(auto, using(crate::proofs::Walking::none_mapped))]
 fn is_single(line: &Line) -> bool
     ensures { result ≡ is_none (submission_in line.now.instruction) }
@@ -40,7 +38,6 @@ fn is_single(line: &Line) -> bool
     submission(line).is_none()
 }
 
-/// How many of the first lines are submissions.
 #[tactic(auto, using(crate::proofs::Walking::lead_more, crate::proofs::Walking::lead_here, crate::proofs::Walking::lead_past))]
 fn batch_length(lines: &[Line]) -> usize
     ensures counted { result ≡ lead lines.now }
@@ -54,7 +51,6 @@ fn batch_length(lines: &[Line]) -> usize
     lines.len()
 }
 
-/// Makes the first line, or the batch of the first so many lines where there are any: its text.
 #[tactic(auto, using(crate::proofs::Walking::first_batch))]
 fn made<
     L: Ledger + Send + Sync,
@@ -81,7 +77,6 @@ fn made<
     }
 }
 
-/// Makes these and then the turns that save, and tells of them. Nothing is told where it is cut off.
 #[tactic(auto, using(crate::proofs::Places::same_again, crate::proofs::Places::same_length, crate::proofs::Places::still_some, crate::proofs::Walking::first_added))]
 fn step<
     L: Ledger + Send + Sync,
@@ -121,8 +116,6 @@ fn step<
     }
 }
 
-/// Makes all lines, batch by batch, and adds what it tells of them to the text, which has in the end
-/// just the lines that the watch was told are made.
 #[tactic(auto, using(crate::proofs::Places::same_again, crate::proofs::Places::same_length, crate::proofs::Walking::begun, crate::proofs::Walking::so_far, crate::proofs::Walking::to_the_end))]
 fn run<
     L: Ledger + Send + Sync,
@@ -162,7 +155,6 @@ fn run<
     Ok(())
 }
 
-/// Adds the last lines, and says how it ended.
 fn told(text: &mut String, closed: Closed) -> Result<(), ServeFault>
     ensures { IsTold (string_bytes text.old) (string_bytes closed.text) closed.end (string_bytes text.new) result }
 {
@@ -173,7 +165,6 @@ fn told(text: &mut String, closed: Closed) -> Result<(), ServeFault>
     }
 }
 
-/// Closes both offices, adds the last lines, and says how it ended.
 #[tactic(auto, using(crate::proofs::Endings::closes))]
 fn closed<L: Ledger, K: Ledger, S: Alter + Drop>(
     both: Both<L, K, S>,
@@ -187,7 +178,6 @@ fn closed<L: Ledger, K: Ledger, S: Alter + Drop>(
     }
 }
 
-/// Makes all lines, and closes.
 #[tactic(auto, using(crate::proofs::Endings::cut, crate::proofs::Endings::over))]
 fn end_of<
     L: Ledger + Send + Sync,
@@ -217,7 +207,7 @@ fn end_of<
     }
 }
 
-/// Opens both offices, makes all lines, and closes.
+/// Over two ledgers, so that here and below a seat of one office is of another type than the other's.
 #[tactic(auto, using(crate::proofs::Walking::none_made))]
 fn serve_by<
     L: Ledger + Send + Sync,

@@ -4,7 +4,6 @@ use sqlite::Alter;
 use std::alloc::Global;
 use std::sync::ledger::Blank;
 
-/// What an office is opened with: memory, a blank ledger, its desk, and its book.
 #[derive(Drop)]
 pub(crate) struct Station<R: Role, S: Alter + Drop> {
     pub(crate) alloc: Global,

@@ -10,7 +10,6 @@ use gi_pairs::Side;
 use gi_script::Line;
 use std::alloc::{AllocError, Global};
 
-/// Adds the line `12 I recorded` of a step. Where memory runs out the text is as it was.
 pub(crate) fn add_line(
     alloc: Global,
     text: &mut String,
@@ -25,7 +24,6 @@ pub(crate) fn add_line(
     text.push_str(line.as_str())
 }
 
-/// Adds the line of a submission at a side, where there is a word of it.
 fn add_told(
     alloc: Global,
     text: &mut String,
@@ -41,7 +39,6 @@ fn add_told(
     }
 }
 
-/// The lines of a batch in order, each with the next word of its side.
 pub(crate) fn batch_text(
     alloc: Global,
     lines: &[Line],

@@ -49,7 +49,6 @@ impl fmt::Display for Word {
 }
 
 impl Word {
-    /// That of a desk's answer.
     pub(crate) fn of(answer: &Answer) -> Word
         ensures { result ≡ word_of answer.now }
     {
@@ -63,7 +62,7 @@ impl Word {
         }
     }
 
-    /// What came of a call to an office; want of memory has no word.
+    /// `None` for want of memory, which has no word.
     pub(crate) fn of_call(answer: Result<Receipt, OfficeFault>) -> Option<Word>
         ensures { result ≡ word_of_call answer }
     {

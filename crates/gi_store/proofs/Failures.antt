@@ -83,7 +83,6 @@ module _ (old new : State) where
       let none = (subst IsPlain h.1.is plain).0 in
       (subst (ShowsRows old new sql h.0 (timed params h.0.formats h.1.now) rows) none h.2).3
 
-  -- whatever a plain query answers, it leaves the database as it was, or rolls it back
   pub queried : {X : Type 0} (sql : List ℕ) (params : Row) (items : X → List Row) (r : Result X Error) → MayRun old.now.schema sql
       → IfOk r (λ x. Shown sql params old new (items x)) → IfErr r (FailsToQuery sql params old new) → IsUndone
   queried sql params items (Ok x) plain ok err = inl (shown_same sql params (items x) plain ok)

@@ -38,7 +38,6 @@ are_made {D} store old start first second last m n k begun free one_survives two
       survives_begin store old (state store last) _ (rw begun at inside);
 }
 
--- A crash leaves what it could leave before, or the book that the commit keeps.
 pub keeps_or_makes : {D : Type 0} (store : Ghosts D) (old last end : Held D) → AreMade store old last
     → Survives (state store last) (state store end) (λ db. db ≡ (state store last).now.trees) → Survives (state store old) (state store end) (MayLeaveBook (state store old).now)
 keeps_or_makes store old last end made committed =

@@ -26,7 +26,6 @@ text_length (f ∷ []) several = absurd (omega (arith, several))
 text_length (f ∷ g ∷ fs) several =
     omega (arith, length-append (compact_text (data_of f)) (items_text true (items_of (map data_of (g ∷ fs)))), items_length (g ∷ fs), sum_by-cons taken_by f (g ∷ fs))
 
--- what the first k facts take
 abbrev pub taken : List Fact → ℕ → ℕ
 taken facts k = sum_by taken_by (take k facts)
 
@@ -36,7 +35,6 @@ front_length facts k several there = text_length (take k facts) (omega (arith, l
 taken_more : (facts : List Fact) (m n : ℕ) → m ≤ n → taken facts m ≤ taken facts n
 taken_more facts m n below = omega (arith, sum_by-take-le taken_by (take n facts) m, ap (sum_by taken_by) (take-take m n facts below))
 
--- the first n facts fit, and one more does not; of none that fit it is one
 pub stops_at : (facts : List Fact) (n k : ℕ) (d : Fact) → n < length facts → 1 ≤ k → n ≤ k → (1 < k → k ≤ n) → k ≤ length facts → taken facts n < most_bytes → most_bytes ≤ taken facts n + taken_by (get_or facts n d) → IsLongestFront facts k
 stops_at facts n k d within some above few there fits over = record {
   some = some;

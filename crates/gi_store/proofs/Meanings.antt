@@ -49,7 +49,6 @@ went (inr on) = on
 same_value : {B E : Type 0} {a b : B} → ◌≡◌ {A = Result B E} (Ok a) (Ok b) → a ≡ b
 same_value e = cc
 
--- a commit of a text that is written out is what its command commits
 commits_as : (sql : List ℕ) (params : Row) (old : State) (schema : Schema) → old.now.schema ≡ schema → (command : Command) → command_of (understood schema sql) ≡ command
     → IsPlain (understood schema sql) → (db : Trees) → CommitsBy sql params old db → MayCommit old None command (statement_of sql (understood schema sql)) params db
 unfolding CommitsBy

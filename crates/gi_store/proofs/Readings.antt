@@ -44,7 +44,6 @@ staged_rows = flat_map_single (λ r. [] ∷ r ∷ [])
 overlay_of : (db : Trees) (tree : ℕ) → overlay db [] tree ≡ db tree
 overlay_of db tree = elim (cases_Bool (nat_le (2 ^ 31) tree)) [ inl high ↦ rw high refl | inr low ↦ rw low refl ]
 
--- a text that is refused shows nothing
 not_shown : (sql : List ℕ) (old new : State) (rows : List Row) → understood old.now.schema sql ≡ Err Mismatch → Shown sql [] old new rows → ⊥
 unfolding Shown
 not_shown sql old new rows refused h = not_both old.now.schema sql h.0 refused h.1.is

@@ -6,7 +6,6 @@ use Rattle.gi_store.specs.Facts.{Covers, AreFactsFrom, IsRowFault, IsReadFault}
 use Rattle.gi_store.specs.declared.store_fault.StoreFault.{StoreFault}
 use Rattle.gi_store.specs.declared.store_fault.StoreFault.TheVariants.{Gap, Damaged}
 
--- one more row, and its facts
 pub one_more : (n : ℕ) (rows : List Row) (facts : List Fact) (row : Row) (batch : List Fact) → AreFactsFrom n rows facts → Covers (n + length facts) row batch → AreFactsFrom n (rows ++ row ∷ []) (facts ++ batch)
 one_more n [] facts row batch all one =
     (batch, [], ap (λ fs. fs ++ batch) all ∙ sym (append-nil batch), subst (λ k. Covers k row batch) (omega (arith, ap length all)) one, refl)

@@ -1,6 +1,6 @@
 //! A book of facts, a row for each batch of them.
 
-ghost use Rattle.std.specs.Prelude.{◌≡◌, ◌≢◌, ◌⊎◌, ◌+◌, ◌-◌, ◌++◌, ◌∷◌, [], length, Err, None, IfOk, IfErr, OnOk, OnErr};
+ghost use Rattle.std.specs.Prelude.{◌≡◌, ◌⊎◌, ◌+◌, ◌-◌, ◌++◌, ◌∷◌, [], length, None, IfOk, IfErr, OnOk, OnErr};
 ghost use Rattle.std.specs.List.{AllByRecursion};
 ghost use Rattle.gi_store.specs.Clean.{IsClean};
 ghost use Rattle.sqlite.specs.Held.{Held, state};
@@ -11,7 +11,6 @@ ghost use Rattle.gi_store.specs.FaultText.{IsFailure, IsRefusal};
 ghost use Rattle.gi_store.specs.Opening.{IsOpenFault};
 ghost use Rattle.gi_store.specs.Book.{AnswersBatch, AnswersSave, AreSaved, IsLoadFault, IsRead, IsSaved, SavesAllOrLeaves, SavesAllOrNone, SavesOrLeaves, SavesOrNot, counted};
 ghost use Rattle.gi_store.specs.Keeping.{AddsNoOutcome, IsReady, Keeps, KeepsOrMakes, LeavesOrMakes};
-ghost use Rattle.gi_store.specs.declared.store_fault.StoreFault.TheVariants.{Store, OutOfMemory};
 
 use crate::loading::read_book;
 use crate::preparing::prepare;

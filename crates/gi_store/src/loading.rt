@@ -14,7 +14,6 @@ use gi_facts::Fact;
 use sqlite::{Alter, Connection};
 use std::alloc::Global;
 
-/// The facts of a book of version 1. It changes nothing.
 pub fn read_book<S: Alter>(
     alloc: Global,
     connection: &mut Connection<S>,

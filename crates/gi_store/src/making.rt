@@ -8,7 +8,7 @@ ghost use Rattle.gi_store.specs.Tables.{IsFree};
 
 use sqlite::{Alter, Connection, Error};
 
-/// Makes both tables after those that are there, and the row of the version, in one transaction.
+/// In one transaction, so that no crash leaves one table without the other, or both without the version.
 pub fn make_tables<S: Alter>(connection: &mut Connection<S>) -> Result<(), Error>
     requires autocommit { (state S.Store connection.old).in_transaction ≡ false }
     requires free { IsFree (state S.Store connection.old).now.schema }

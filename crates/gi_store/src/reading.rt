@@ -1,6 +1,6 @@
 //! Rows are read as facts.
 
-ghost use Rattle.std.specs.Prelude.{◌≡◌, ◌≤◌, IfOk, IfErr, IfSome};
+ghost use Rattle.std.specs.Prelude.{◌≡◌, ◌≤◌, IfOk, IfErr};
 ghost use Rattle.sqlite_value.specs.Order.{column};
 ghost use Rattle.sqlite_value.specs.declared.value.Value.TheVariants.{Int};
 ghost use Rattle.gi_store.specs.Facts.{AreFactsFrom, Covers, HasBody, IsBodyFault, IsReadFault, IsRowFault};
@@ -11,7 +11,7 @@ use sqlite::Row;
 use sqlite::types::ValueRef;
 use std::alloc::Global;
 
-/// The number of a row, which is a whole number in each row of a table.
+/// Each row of a table has a whole number here, so anything else is a failure of the database.
 fn number_of(row: &Row) -> Result<i64, StoreFault>
     ensures number { IfOk result (λ m. column row.now 0 ≡ Int m) }
     ensures refused { IfErr result (λ fault. fault ≡ StoreFault.Store) }
@@ -37,7 +37,6 @@ fn body_of(alloc: Global, row: &Row, number: i64) -> Result<Vec<Fact>, StoreFaul
     }
 }
 
-/// The facts that a row covers its numbers with, where the number that comes next is this one.
 fn read_row(alloc: Global, row: &Row, next: u64) -> Result<Vec<Fact>, StoreFault>
     requires { 1 ≤ next }
     ensures facts { IfOk result (λ facts. Covers next row.now facts.items) }
@@ -53,7 +52,7 @@ fn read_row(alloc: Global, row: &Row, next: u64) -> Result<Vec<Fact>, StoreFault
     body_of(alloc, row, number)
 }
 
-/// The facts of rows that come in the order of their numbers. The first fault by number.
+/// The first fault is the first by number only where the rows come in the order of their numbers.
 pub fn read_facts(alloc: Global, rows: &[Row]) -> Result<Vec<Fact>, StoreFault>
     ensures facts { IfOk result (λ facts. AreFactsFrom 1 rows.now facts.items) }
     ensures refused { IfErr result (IsReadFault rows.now) }

@@ -1,6 +1,6 @@
 //! The statements of a book, one function each.
 
-ghost use Rattle.std.specs.Prelude.{◌≡◌, ◌⊎◌, [], ◌∷◌, IsTrue, IfOk, IfErr, OnOk, OnErr, IsPermutation, codes};
+ghost use Rattle.std.specs.Prelude.{◌≡◌, IsTrue, IfOk, OnOk, OnErr, IsPermutation};
 ghost use Rattle.gi_store.specs.Clean.{IsClean};
 ghost use Rattle.sqlite.specs.Held.{state};
 ghost use Rattle.gi_store.specs.Keeping.{IsIdle, Keeps, AddsNoOutcome, PutsRow, MayPutRow};
@@ -11,7 +11,6 @@ ghost use Rattle.gi_store.specs.Tables.{HasTables};
 use sqlite::types::{ToSql, ValueRef};
 use sqlite::{Alter, Connection, Error, Row};
 
-/// The rows of the table `book`.
 pub fn book_rows<S: Alter>(connection: &mut Connection<S>) -> Result<Vec<Row>, Error>
     requires tables { IsClean S.Store connection.old → HasTables (state S.Store connection.old).now.schema }
     requires idle { IsClean S.Store connection.old → IsIdle (state S.Store connection.old) }
@@ -25,7 +24,6 @@ pub fn book_rows<S: Alter>(connection: &mut Connection<S>) -> Result<Vec<Row>, E
     connection.query_all("SELECT * FROM book", &[])
 }
 
-/// The rows of the table `facts`, in the order of their numbers.
 pub fn fact_rows<S: Alter>(connection: &mut Connection<S>) -> Result<Vec<Row>, Error>
     requires tables { IsClean S.Store connection.old → HasTables (state S.Store connection.old).now.schema }
     requires idle { IsClean S.Store connection.old → IsIdle (state S.Store connection.old) }
@@ -39,7 +37,6 @@ pub fn fact_rows<S: Alter>(connection: &mut Connection<S>) -> Result<Vec<Row>, E
     connection.query_all("SELECT * FROM facts ORDER BY 1", &[])
 }
 
-/// Adds the row with this number and this text to the table `facts`.
 pub fn add_fact<S: Alter>(
     connection: &mut Connection<S>,
     n: u32,

@@ -42,7 +42,7 @@ fn is_bare(table: &Table) -> bool
         && !table.is_counted
 }
 
-/// Whether no column's default reads the time.
+/// Stamps are the defaults of columns that read the time.
 fn is_unstamped(stamps: &Stamps) -> bool
     ensures { IsTrue result ↔ (stamps.now ≡ record { places = []; terms = []; formats = [] }) }
 {
@@ -87,7 +87,6 @@ fn lists_table(schema: &Schema, name: &[u8], key: &[u8], value: &[u8], kind: Kin
     }
 }
 
-/// Whether the two tables of a book are listed, in any order and beside any others.
 pub fn is_book(schema: &Schema) -> bool
     ensures { IsTrue result ↔ HasTables schema.now }
 {
@@ -95,14 +94,13 @@ pub fn is_book(schema: &Schema) -> bool
         && lists_table(schema, b"facts", b"n", b"body", Kind::Text)
 }
 
-/// Whether a table has AUTOINCREMENT.
 fn any_counted(tables: &[Table]) -> bool
     ensures { result ≡ list_any (λ t. t.is_counted) tables.now }
 {
     tables.iter().any(|t| t.is_counted)
 }
 
-/// Whether a table has AUTOINCREMENT and the table that SQLite counts in is missing.
+/// A table is counted where it has AUTOINCREMENT, and SQLite counts in `sqlite_sequence`.
 fn lacks_sequence(schema: &Schema) -> bool
     ensures { result ≡ lacks_sequence schema.now }
 {
@@ -118,7 +116,6 @@ fn lists(schema: &Schema, name: &[u8]) -> bool
     }
 }
 
-/// Whether the two tables of a book can be made.
 pub fn is_free(schema: &Schema) -> bool
     ensures { IsTrue result ↔ IsFree schema.now }
 {

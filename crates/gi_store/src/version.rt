@@ -31,7 +31,6 @@ fn are_first_version(rows: &[Row]) -> bool
     }
 }
 
-/// Refuses a database that is no book of version 1, by `Version`. It changes nothing.
 pub fn check_version<S: Alter>(connection: &mut Connection<S>) -> Result<(), StoreFault>
     requires { IsClean S.Store connection.old → IsIdle (state S.Store connection.old) }
     ensures early { IsClean S.Store connection.new → IsClean S.Store connection.old }

@@ -21,7 +21,6 @@ use std::alloc::AllocError;
 use std::sync::Wait;
 use std::sync::ledger::Ledger;
 
-/// What is to be saved of the desk that a lock gave.
 fn looked<R: Role, L: Ledger>(held: &Held<R, L>) -> Result<Look, AllocError>
     ensures seen { IfOk result (IsSeen R.SIDE) }
     ensures writable { IfOk result CanBeWritten }
@@ -30,7 +29,6 @@ fn looked<R: Role, L: Ledger>(held: &Held<R, L>) -> Result<Look, AllocError>
     held.look()
 }
 
-/// What a mark comes to.
 fn turn_of(answer: Result<Receipt, OfficeFault>) -> Result<Turn, SaveFault>
     ensures { result ≡ turn_of_mark answer }
 {
@@ -84,7 +82,6 @@ impl<R: Role, L: Ledger> Office<R, L> {
         }
     }
 
-    /// Has the first of the facts stand in the book, and marks them; else it halts the desk.
     fn save<S: Alter, W: Wait>(
         &self,
         rt: &W,
@@ -109,7 +106,6 @@ impl<R: Role, L: Ledger> Office<R, L> {
         }
     }
 
-    /// Marks the facts from number `n` on, in order, until a mark is refused.
     fn mark_all<W: Wait>(
         &self,
         rt: &W,

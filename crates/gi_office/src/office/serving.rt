@@ -18,8 +18,7 @@ use std::thread::Threads;
 use std::{mem, thread};
 
 impl<R: Role, L: Ledger> Office<R, L> {
-    /// Submits the next body of a session, where the gate lets it; else why the session ends: the
-    /// call's fault, or none where the gate ends it.
+    /// `Err(None)` where the gate ends the session.
     fn submit_next<W: Wait, G: Gate>(
         &self,
         rt: &W,
@@ -42,7 +41,6 @@ impl<R: Role, L: Ledger> Office<R, L> {
         }
     }
 
-    /// Submits the bodies of a session in order, until one is not, and tells the fault that ended it.
     fn submit_all<W: Wait, G: Gate>(
         &self,
         rt: &W,
@@ -65,7 +63,6 @@ impl<R: Role, L: Ledger> Office<R, L> {
         None
     }
 
-    /// What the worker of a session does.
     fn run<W: Wait, G: Gate>(&self, rt: &W, gate: &G, number: usize, work: &mut Work<L>)
         requires { IsReady work.old }
         ensures { IsServed R.SIDE (G.may_end gate.now number) (session_of work.old) (served_of work.new) }
@@ -77,7 +74,6 @@ impl<R: Role, L: Ledger> Office<R, L> {
 }
 
 impl<R: Role + Send, L: Ledger + Send> Office<R, L> {
-    /// Runs all workers, and returns once each is done.
     fn run_all<T: Threads + Wait + Sync, G: Gate + Sync>(
         &self,
         rt: &T,
