@@ -15,6 +15,23 @@ use std::alloc::Global;
 use std::thread;
 use std::thread::Threads;
 
+/// About how much memory the reading of a line takes at most, in bytes for each of its own.
+const ROOM_FOR_BYTE: usize = 20;
+
+/// More than the reading of the largest table takes, and no more than can stay with a thread.
+const MOST_ROOM: usize = 16_777_216;
+
+/// Has the thread hold as much memory as the reading of a line takes. The C library lends a second
+/// thread its memory page by page, each by a call of the system. A large piece that is taken and
+/// given back goes to the system the first time, and stays with the thread the second time. Want of
+/// memory is left to the reading.
+fn hold_memory(alloc: Global, line: &[u8]) {
+    let room = line.len().saturating_mul(ROOM_FOR_BYTE).min(MOST_ROOM);
+    for _ in 0..2 {
+        let _ = Vec::<u8>::with_capacity(alloc, room);
+    }
+}
+
 fn table_on(alloc: Global, line: Line, bytes: &[u8]) -> Result<Delord, Fault>
     ensures spelled { IfOk result (λ table. Spells bytes.now (message.Delord table)) }
     ensures few_rows { IfOk result (λ table. length table.processed.rows ≤ most_processed_rows) }
@@ -22,6 +39,7 @@ fn table_on(alloc: Global, line: Line, bytes: &[u8]) -> Result<Delord, Fault>
     ensures too_large { most_bytes < length bytes.now
         → result ≡ Err (Fault.Message line MessageFault.TooLarge) }
 {
+    hold_memory(alloc, bytes);
     match decode(alloc, bytes) {
         Ok(Message::Delord(table)) => Ok(table),
         Ok(Message::Nomint(_)) => Err(Fault::WrongKind(line)),
