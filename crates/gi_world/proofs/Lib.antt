@@ -12,6 +12,7 @@ mod MemoryWanted
 pub mod Numbers
 pub mod OneQuantity
 mod Opening
+mod PeerPackets
 mod Recorded
 mod RunLaws
 mod SameTables

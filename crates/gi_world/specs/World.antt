@@ -57,6 +57,10 @@ is_telling read = false
 abbrev pub tells : Packet → Bool
 tells packet = is_telling (decoded packet.body)
 
+-- a packet for the peer tells nothing
+abbrev pub TellsNoPeer : Packet → Type 0
+TellsNoPeer packet = is_for_peer packet ≡ true → tells packet ≡ false
+
 -- whether its bytes are these
 abbrev pub has_bytes : List ℕ → Packet → Bool
 has_bytes bytes packet = bytes_eq packet.body bytes

@@ -1,8 +1,8 @@
 //! Which packets of a reply a station keeps: those for the peer, and those that tell.
 
-ghost use Rattle.std.specs.Prelude.{◌≡◌, ◌<◌, IfOk, OnErr, filter, length, position};
+ghost use Rattle.std.specs.Prelude.{◌≡◌, ◌<◌, All, IfOk, OnErr, filter, length, position};
 ghost use Rattle.gi_desk.specs.Machine.{is_for_peer as is_for_peer_of};
-ghost use Rattle.gi_world.specs.World.{has_bytes, tells as tells_of};
+ghost use Rattle.gi_world.specs.World.{TellsNoPeer, has_bytes, tells as tells_of};
 
 use gi_desk::{Packet, Recipient};
 use gi_messages::{Message, MessageFault, decode};
@@ -14,9 +14,14 @@ fn is_for_peer(packet: &Packet) -> bool
     packet.to == Recipient::Peer
 }
 
+/// A packet for the peer is not read: orders and responses are large, and tell nothing.
 fn tells(alloc: Global, packet: &Packet) -> Result<bool, AllocError>
+    requires { TellsNoPeer packet.now }
     ensures { IfOk result (λ tells. tells ≡ tells_of packet.now) }
 {
+    if is_for_peer(packet) {
+        return Ok(false);
+    }
     match decode(alloc, packet.body.as_slice()) {
         Ok(message) => Ok(matches!(message, Message::Nomres(_))),
         Err(MessageFault::OutOfMemory) => Err(AllocError),
@@ -46,6 +51,7 @@ pub(crate) fn for_peer(alloc: Global, packets: &[Packet]) -> Result<Vec<Packet>,
 }
 
 pub(crate) fn telling(alloc: Global, packets: &[Packet]) -> Result<Vec<Packet>, AllocError>
+    requires { All TellsNoPeer packets.now }
     ensures value { IfOk result (λ kept. kept.items ≡ filter tells_of packets.now) }
     ensures short { OnErr result (0 < length packets.now) }
 {

@@ -2,6 +2,8 @@
 
 ghost use Rattle.std.specs.Prelude.{◌≡◌, ◌≤◌, IfOk, IsTrue, None, OnErr, OnOk, false, length, take};
 ghost use Rattle.gi_desk.specs.Machine.{bad_fact, may_want, reply as reply_of};
+ghost use Rattle.gi_desk.specs.Writable.{FitsDesk};
+ghost use Rattle.gi_world.specs.Agreement.{IsLegal};
 ghost use Rattle.gi_world.specs.World.{after_call, after_restart, new_station};
 
 use crate::passing::{for_peer, telling};
@@ -27,6 +29,15 @@ impl<R: Role> Model for Station<R> {
     ghost Value = { StationState };
 
     ghost view = { λ s. record { desk = s.desk; sent = s.sent.items; told = s.told.items } };
+}
+
+/// Does nothing: what it promises of a desk is always so, and is known once it is called.
+fn known<R: Role>(desk: &Desk<R>)
+    ensures legal { IsLegal R.SIDE desk.now }
+    ensures fits { FitsDesk R.SIDE desk.now.point desk.now.facts }
+{
+    desk.known();
+    let _ = desk.saved();
 }
 
 impl<R: Role> Station<R> {
@@ -67,6 +78,7 @@ impl<R: Role> Station<R> {
         ensures kept { OnErr result (self.new ≡ self.old) }
         ensures short { OnErr result (IsTrue (may_want R.SIDE self.old.desk call.now)) }
     {
+        known(&self.desk);
         let prepared = self.desk.prepare(call)?;
         let out = prepared.reply().out.as_slice();
         let mut sent = for_peer(self.alloc, out)?;

@@ -1,11 +1,12 @@
-use Rattle.std.proofs.Common.{◌≡◌, ◌<◌, List, length, filter, ap, arith, subst, ◌∙◌}
+use Rattle.std.proofs.Common.{◌≡◌, ◌<◌, List, length, filter, All, ap, arith, subst, sym, ◌∙◌}
 use Rattle.std.specs.Prelude.{IsTrue}
 use Rattle.gi_desk.specs.Machine.{is_for_peer, may_want, reply}
 use Rattle.gi_desk.specs.declared.packet.Packet.{Packet}
 use Rattle.gi_desk.specs.declared.prepared.Prepared.{Prepared}
 use Rattle.gi_desk.specs.declared.reply.Reply.{Reply}
-use Rattle.gi_world.specs.World.{StationState, tells}
+use Rattle.gi_world.specs.World.{StationState, TellsNoPeer, tells}
 use Rattle.gi_world.proofs.MemoryWanted.{lets_out_short, on_err, some_before}
+use Rattle.gi_world.proofs.PeerPackets.{all_silent}
 use Rattle.gi_world.proofs.station.Station.take.Goals as goal
 
 pub returns-in_err-sent-clause-short : goal.returns-in_err-sent-clause-short
@@ -49,3 +50,11 @@ returns-in_err-reserve-2-clause-short g c =
     let kept = subst (λ (packets : List Packet). 0 < length packets) (c.in_ok-told.ensures.value ∙ ap (filter tells) out) more in
     on_err c.from_residual-in_err-reserve-2.result
     (subst (λ (s : StationState). IsTrue (may_want side s.desk call)) c.self.view_is (lets_out_short side c.self.inside.desk call _ is (some_before tells _ kept)))
+
+pub telling-requires : goal.telling-requires
+telling-requires g c =
+    let side = g.R.Role.SIDE in
+    let call = c.args.call.now in
+    let is : c.in_ok-prepared.prepared.reply ≡ reply side c.self.inside.desk call = ap (λ (p : Prepared). p.reply) c.in_ok-prepared.ensures.value in
+    let out = c.as_slice-out.ensures ∙ ap (λ (r : Reply). r.out) (c.reply.ensures ∙ is) in
+    subst (λ (packets : List Packet). All TellsNoPeer packets) (sym out) (all_silent side c.self.inside.desk call c.known.ensures.legal c.known.ensures.fits)
