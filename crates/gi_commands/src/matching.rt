@@ -16,7 +16,7 @@ use std::thread;
 use std::thread::Threads;
 
 /// About how much memory the reading of a line takes at most, in bytes for each of its own.
-const ROOM_FOR_BYTE: usize = 20;
+const ROOM_FOR_BYTE: usize = 24;
 
 /// More than the reading of the largest table takes, and no more than can stay with a thread.
 const MOST_ROOM: usize = 16_777_216;
