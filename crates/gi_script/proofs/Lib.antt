@@ -1,3 +1,4 @@
+mod FirstByte
 mod LineLemmas
 mod WordLemmas
 mod NameLemmas

@@ -3,6 +3,8 @@ ghost use Rattle.gi_script.specs.Lines.{IsBehind, lines, line_feed as line_feed_
 ghost use Rattle.gi_script.specs.LinesKept.{IsCounted, left};
 ghost use Rattle.gi_script.specs.Script.{lines_of};
 
+use memchr::memchr;
+
 /// What ends a line.
 pub const LINE_FEED: u8 = b'\n';
 
@@ -17,7 +19,7 @@ pub struct Lines<'a> {
 fn line_feed(text: &[u8]) -> Option<usize>
     ensures { result ≡ position (λ byte. byte == line_feed_byte) text.now }
 {
-    text.iter().position(|byte| *byte == LINE_FEED)
+    memchr(LINE_FEED, text)
 }
 
 /// The first line of a text, without its line feed, and all that follows it; `None` where no byte
