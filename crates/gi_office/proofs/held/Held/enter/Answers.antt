@@ -1,7 +1,23 @@
 use Rattle.std.proofs.Common.{◌≡◌, ◌+◌, [], ◌∷◌, ◌++◌, ap, ◌∙◌, sym}
 use Rattle.gi_desk.specs.Machine.{after, reply}
 use Rattle.gi_desk.specs.declared.prepared.Prepared.{Prepared}
+use Rattle.gi_desk.specs.declared.reply.Reply.{Reply}
 use Rattle.gi_office.specs.Keeping.{HeldState, SeatState}
 use Rattle.gi_office.specs.declared.entry.Entry.{Entry}
 use Rattle.gi_office.proofs.Runs.{entered_kept}
 use Rattle.gi_office.proofs.held.Held.enter.Goals as goal
+
+pub invariant_of-self-2 : goal.invariant_of-self-2
+invariant_of-self-2 g c =
+    let side = g.R.Role.SIDE in
+    let inside = c.self.inside in
+    let held : HeldState = record { opening = inside.opening; seats = inside.seats; desk = inside.desk; trail = inside.trail.items; total = inside.book.total } in
+    let seat : SeatState = record { number = c.seat.inside.number; notes = c.seat.inside.notes.items; amount = c.seat.inside.share.amount; parts = c.seat.inside.share.parts } in
+    let entry : Entry = record { seat = seat.number; call = c.args.call; reply = reply side held.desk c.args.call } in
+    let replied : c.reply.result.now ≡ reply side held.desk c.args.call = c.reply.ensures ∙ ap (λ (p : Prepared). p.reply) c.in_ok-prepared.ensures.value in
+    let written : c.in_ok-entry.entry ≡ entry =
+    c.in_ok-entry.ensures.entry ∙ ap (λ (r : Reply). let e : Entry = record { seat = seat.number; call = c.args.call; reply = r } in e) replied in
+    let desk : c.make.new.self ≡ after side held.desk c.args.call = c.in_ok-reply.ensures.next c.args.call c.in_ok-prepared.ensures.value in
+    let trail : c.push_reserved.new.self.items ≡ held.trail ++ entry ∷ [] = c.push_reserved.ensures.items ∙ (λ i. c.reserve.ensures.items i ++ written i ∷ []) in
+    let total : c.add.new.self.total ≡ held.total + 1 = c.add.ensures.total in
+    rw (desk, trail, total) (entered_kept c.only_appends.ensures side held seat c.args.call c.self.invariant)
