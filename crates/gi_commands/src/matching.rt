@@ -15,7 +15,7 @@ use std::alloc::Global;
 use std::thread;
 use std::thread::Threads;
 
-/// About how much memory the reading of a line takes at most, in bytes for each of its own.
+/// About how much memory the reading of an order takes at most, in bytes for each byte of its line.
 const ROOM_FOR_BYTE: usize = 24;
 
 /// More than the reading of the largest table takes, and no more than can stay with a thread.
@@ -112,7 +112,7 @@ pub fn answer(rt: &(impl Threads + Sync), alloc: Global, input: &[u8]) -> Result
     ensures text { IfOk result (λ text. IsAnswer input.now text.items) }
     ensures fault { IfErr result (IsRefused input.now) }
 
-    // These two take no memory.
+    // Want of memory is never answered in place of these two.
     ensures lines { HasNoLines input.now → result ≡ Err Fault.Lines }
     ensures too_large { (first second : List ℕ) → HasLines input.now first second
         → most_bytes < length first

@@ -1,5 +1,5 @@
 -- Where a desk that is opened again goes on from the end of a life, and where not.
-use Rattle.std.proofs.Common.{arith, ◌≡◌, ◌≢◌, ◌≤◌, ◌<◌, ◌+◌, inl, inr, ℕ, zero, suc, List, [], ◌∷◌, length, take, slice_get, refl, sym, ap, ◌∙◌, subst}
+use Rattle.std.proofs.Common.{arith, ◌≡◌, ◌≤◌, ◌<◌, ◌+◌, inl, inr, ℕ, zero, suc, List, [], ◌∷◌, length, take, slice_get, refl, sym, ap, ◌∙◌, subst}
 use Rattle.std.proofs.lemmas.List.{length-take-le, take-take}
 use Rattle.gi_facts.specs.declared.fact.Fact.{Fact}
 use Rattle.gi_desk.specs.Machine.{DeskState}
@@ -29,9 +29,6 @@ take_next (x ∷ xs) (y ∷ ys) (suc n) below same next =
 pub one_same : (xs ys : List Fact) (n : ℕ) → n < length xs → take n xs ≡ take n ys → fact_at xs (n + 1) ≡ fact_at ys (n + 1) → take (n + 1) xs ≡ take (n + 1) ys
 one_same xs ys n below same next =
     ap (λ k. take k xs) (suc_is n) ∙ take_next xs ys n below same (sym (at_next xs n) ∙ next ∙ at_next ys n) ∙ ap (λ k. take k ys) (sym (suc_is n))
-
-pub one_other : (former later : List Fact) (opening n : ℕ) → n < opening → take n later ≡ take n former → fact_at later (n + 1) ≢ fact_at former (n + 1) → IsOther former later opening n
-one_other former later opening n below same other = record { within = below; alike = same; other = λ e. other (at_next later n ∙ e ∙ sym (at_next former n)) }
 
 get_front : (xs : List Fact) (n k : ℕ) → k < n → slice_get (take n xs) k ≡ slice_get xs k
 get_front xs zero k below = absurd (omega (arith, below))

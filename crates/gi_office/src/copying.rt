@@ -9,7 +9,6 @@ use gi_desk::{Desk, Fact, Packet, Packets, Reply, Role};
 use gi_facts::MOST_FACTS;
 use std::alloc::{AllocError, Global};
 
-/// Equal packets, in order.
 fn packets_copy(alloc: Global, packets: &[Packet]) -> Result<Vec<Packet>, AllocError>
     ensures { IfOk result (λ copies. copies.items ≡ packets.now) }
 {
@@ -20,7 +19,6 @@ fn packets_copy(alloc: Global, packets: &[Packet]) -> Result<Vec<Packet>, AllocE
     Ok(copies)
 }
 
-/// An equal reply.
 pub(crate) fn reply_copy(alloc: Global, reply: &Reply) -> Result<Reply, AllocError>
     ensures { IfOk result (λ copy. copy ≡ reply.now) }
 {
@@ -30,7 +28,6 @@ pub(crate) fn reply_copy(alloc: Global, reply: &Reply) -> Result<Reply, AllocErr
     })
 }
 
-/// The desk's next facts to save, 64 at most.
 pub(crate) fn next_facts<R: Role>(alloc: Global, desk: &Desk<R>) -> Result<Vec<Fact>, AllocError>
     ensures facts { IfOk result (λ copies. copies.items ≡ next_facts_of desk.now) }
     ensures writable { IfOk result (λ copies. AllByRecursion IsWritable copies.items) }

@@ -1,4 +1,4 @@
-ghost use Rattle.std.specs.Prelude.{◌≡◌, ◌≢◌, IfSome, ◌≤◌, ◌+◌, ◌↔◌, [], ◌∷◌, Err, IfOk, OnErr, OnOk, false, length};
+ghost use Rattle.std.specs.Prelude.{◌≡◌, ◌≢◌, IfSome, ◌≤◌, ◌+◌, ◌↔◌, Err, IfOk, OnErr, OnOk, false, length};
 ghost use Rattle.gi_office.specs.Entering.{entered, noted, receipt_of};
 ghost use Rattle.gi_office.specs.Keeping.{IsFull, IsKept};
 ghost use Rattle.gi_office.specs.Limits.{most_seats};
@@ -94,7 +94,7 @@ impl<R: Role, L: Ledger> Held<R, L> {
         let _ = self.trail.len();
     }
 
-    /// The call and its reply as the trail gets them, and as the seat notes them.
+    /// All copies are made before the desk changes, so that want of memory leaves nothing to take back.
     fn written(&self, number: u8, call: Call, reply: &Reply) -> Result<(Entry, Note), AllocError>
         ensures entry { IfOk result (λ both. both.0 ≡ record { seat = number; call = call; reply = reply.now }) }
         ensures note { IfOk result (λ both. both.1 ≡ record { place = length self.now.trail + 1; call = call; reply = reply.now }) }
