@@ -33,7 +33,7 @@ no_peer id (Nominated document) e = refl
 no_peer id (Closed other) e = refl
 no_peer id (Met other peer) e = rw e refl
 
-a_peer : (id : CycleId) (fact : Fact) → is_meeting id fact ≡ true → (peer : TableContents) × (peer_in id fact ≡ Some peer)
+pub a_peer : (id : CycleId) (fact : Fact) → is_meeting id fact ≡ true → (peer : TableContents) × (peer_in id fact ≡ Some peer)
 a_peer id (Contracted contract) e = absurd cc
 a_peer id (Noticed notice) e = absurd cc
 a_peer id (Nominated document) e = absurd cc
@@ -53,11 +53,11 @@ peer_here : (id : CycleId) (fact : Fact) (facts more : List Fact) → is_meeting
 unfolding peer_of
 peer_here id fact facts more e = let peer = a_peer id fact e in rw peer.1 refl
 
-peer_later : (id : CycleId) (fact : Fact) (facts : List Fact) → is_meeting id fact ≡ false → peer_of id (fact ∷ facts) ≡ peer_of id facts
+pub peer_later : (id : CycleId) (fact : Fact) (facts : List Fact) → is_meeting id fact ≡ false → peer_of id (fact ∷ facts) ≡ peer_of id facts
 unfolding peer_of
 peer_later id fact facts e = rw (no_peer id fact e) refl
 
-peer_none : (id : CycleId) → peer_of id [] ≡ None
+pub peer_none : (id : CycleId) → peer_of id [] ≡ None
 unfolding peer_of
 peer_none id = refl
 

@@ -39,7 +39,7 @@ mapped f None b = refl
 mapped f (Some x) b = refl
 
 -- the cycle closed last is that of the last fact that closes one of the gas day
-closed_more : (day : Date) (facts : List Fact) (fact : Fact) → last_closed day (facts ++ fact ∷ []) ≡ option_or (last_closed day (fact ∷ [])) (last_closed day facts)
+pub closed_more : (day : Date) (facts : List Fact) (fact : Fact) → last_closed day (facts ++ fact ∷ []) ≡ option_or (last_closed day (fact ∷ [])) (last_closed day facts)
 unfolding last_closed closings
 closed_more day facts fact =
     let of_day : CycleId → Bool = λ id. same_day id.day day in
@@ -50,11 +50,6 @@ closed_more day facts fact =
     ∙ ap (λ (ids : List CycleId). option_map number (find of_day ids)) (reverse-append first last)
     ∙ ap (option_map number) (find-append of_day (reverse last) (reverse first))
     ∙ mapped number (find of_day (reverse last)) (find of_day (reverse first))
-
-pub closed_step : (day : Date) (facts : List Fact) (i : ℕ) (fact : Fact) (found last next : Option ℕ) → i < length facts → fact ≡ get_or facts i fact
-    → found ≡ last_closed day (fact ∷ []) → last ≡ last_closed day (take i facts) → next ≡ option_or found last → next ≡ last_closed day (take (i + 1) facts)
-closed_step day facts i fact found last next below is found_is last_is next_is =
-    next_is ∙ (λ t. option_or (found_is t) (last_is t)) ∙ sym (closed_more day (take i facts) fact) ∙ ap (last_closed day) (sym (one_more facts i fact below is))
 
 -- one more fact records one more contract, notice or nomination
 pub capacity_more : (facts : List Fact) (fact : Fact) → capacity_of (facts ++ fact ∷ [])

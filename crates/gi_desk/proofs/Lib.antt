@@ -6,13 +6,16 @@ pub mod Differing
 pub mod Fitting
 pub mod HistoryLaws
 mod KeptLaws
+mod LastClosed
 pub mod Legality
 pub mod LettingOut
 mod Outcomes
 pub mod ReadableLaws
 mod RecordingCalls
 mod Replaying
+mod StageReadings
 pub mod StageLaws
+mod StagesKept
 pub mod StateLaws
 pub mod StepFacts
 pub mod StepLaws

@@ -63,7 +63,7 @@ found side facts id = found_among (state_of side facts) (id_of-state side facts)
 
 -- ---- a fact that changes no cycle
 
-closed_same : (facts : List Fact) (fact : Fact) (id : CycleId) → is_closed id facts ≡ false → is_closing id fact ≡ false → is_closed id (facts ++ fact ∷ []) ≡ false
+pub closed_same : (facts : List Fact) (fact : Fact) (id : CycleId) → is_closed id facts ≡ false → is_closing id fact ≡ false → is_closed id (facts ++ fact ∷ []) ≡ false
 unfolding is_closed
 closed_same facts fact id unclosed other =
     list_any-append (is_closing id) facts (fact ∷ []) ∙ or_from (list_any (is_closing id) facts) (is_closing id fact || false) unclosed (or_from (is_closing id fact) false other refl)
@@ -73,7 +73,7 @@ none_met facts fact id none =
     filter_map-append (peer_in id) facts (fact ∷ []) ∙ ap (λ (peer : Option TableContents). filter_map (peer_in id) facts ++ cons_option peer []) none
     ∙ append-nil (filter_map (peer_in id) facts)
 
-peer_same : (facts : List Fact) (fact : Fact) (id : CycleId) → peer_in id fact ≡ None → peer_of id (facts ++ fact ∷ []) ≡ peer_of id facts
+pub peer_same : (facts : List Fact) (fact : Fact) (id : CycleId) → peer_in id fact ≡ None → peer_of id (facts ++ fact ∷ []) ≡ peer_of id facts
 unfolding peer_of
 peer_same facts fact id none = ap (λ (peers : List TableContents). slice_get peers 0) (none_met facts fact id none)
 
@@ -92,14 +92,14 @@ pub closings-more : (facts : List Fact) (fact : Fact) → closings (facts ++ fac
 unfolding closings
 closings-more facts fact = filter_map-append closing_in facts (fact ∷ [])
 
-not_closing : (fact : Fact) (id : CycleId) → changes_cycle fact ≡ false → is_closing id fact ≡ false
+pub not_closing : (fact : Fact) (id : CycleId) → changes_cycle fact ≡ false → is_closing id fact ≡ false
 not_closing (Contracted contract) id e = refl
 not_closing (Noticed notice) id e = refl
 not_closing (Nominated document) id e = refl
 not_closing (Closed other) id e = absurd cc
 not_closing (Met other peer) id e = refl
 
-not_met : (fact : Fact) (id : CycleId) → changes_cycle fact ≡ false → peer_in id fact ≡ None
+pub not_met : (fact : Fact) (id : CycleId) → changes_cycle fact ≡ false → peer_in id fact ≡ None
 not_met (Contracted contract) id e = refl
 not_met (Noticed notice) id e = refl
 not_met (Nominated document) id e = refl
@@ -134,7 +134,7 @@ agree_among f g (Closed other ∷ facts) same =
     let rest = agree_among f g facts (λ id closed. same id (or_right (same_cycle other id) (list_any (is_closing id) facts) closed)) in
     λ i. here i ∷ rest i
 
-all_before : (is : Fact → Bool) (facts : List Fact) (last : Fact) → list_any is facts ≡ false → is last ≡ true → take_while (λ f. not (is f)) (facts ++ last ∷ []) ≡ facts
+pub all_before : (is : Fact → Bool) (facts : List Fact) (last : Fact) → list_any is facts ≡ false → is last ≡ true → take_while (λ f. not (is f)) (facts ++ last ∷ []) ≡ facts
 all_before is [] last none here = take_while-cons (λ f. not (is f)) last [] ∙ rw here refl
 all_before is (fact ∷ facts) last none here =
     let parts = or_parts (is fact) (list_any is facts) none in
@@ -274,53 +274,3 @@ states-met side point facts id peer e =
     ap (map after) ids
     ∙ meets_among (state_of side facts) after id (id_of-state side facts) (λ other differs. meeting_other side facts id other peer differs) facts once
     ∙ ap (slice_set (states_of side facts) (place_of side facts id)) (state-met side facts id peer meeting)
-
--- the state at that place is the cycle's
-pub state-place : (side : Side) (facts : List Fact) (id : CycleId) → is_closed id facts ≡ true
-    → slice_get (states_of side facts) (place_of side facts id) ≡ Some (state_of side facts id)
-state-place side facts id closed =
-    sym (find_at (is_state_of id) (states_of side facts)) ∙ found side facts id ∙ ap (λ (b : Bool). cond b (Some (state_of side facts id)) None) closed
-
-pub position-closed : (side : Side) (facts : List Fact) (id : CycleId) → is_closed id facts ≡ true → position (is_state_of id) (states_of side facts) ≡ Some (place_of side facts id)
-position-closed side facts id closed =
-    let place = place_of side facts id in
-    let states = states_of side facts in
-    let within = slice_get_within states place (state_of side facts id) (state-place side facts id closed) in
-    ap (λ (b : Bool). cond b (Some place) None) (lt-ltb place (length states) within)
-
--- what a desk finds of a cycle that may meet the peer's table
-pub record IsPlaceToMeet (states : List CycleState) (place : ℕ) (cycle : FrozenCycle) (peer : TableContents) : Type 0 where
-  pub frozen : slice_get states place ≡ Some (Frozen cycle)
-  pub same_hours : HasShapeOf cycle.own peer
-  pub few : length peer.rows ≤ most_processed_rows
-
-pub place-closed : (side : Side) (point : List ℕ) (facts : List Fact) (id : CycleId) (peer : TableContents) (states : List CycleState) → states ≡ states_of side facts
-    → bad_fact side point (facts ++ Met id peer ∷ []) ≡ None → position (is_state_of id) states ≡ Some (place_of side facts id)
-place-closed side point facts id peer states is e =
-    let meeting = recorded-meeting side point facts id peer (legal-recorded side point facts (Met id peer) [] e) in
-    ap (position (is_state_of id)) is ∙ position-closed side facts id meeting.closed
-
-pub place-is : (side : Side) (point : List ℕ) (facts : List Fact) (id : CycleId) (peer : TableContents) (states : List CycleState) (place : ℕ) → states ≡ states_of side facts
-    → bad_fact side point (facts ++ Met id peer ∷ []) ≡ None → position (is_state_of id) states ≡ Some place → place ≡ place_of side facts id
-place-is side point facts id peer states place is e here =
-    let found = place-closed side point facts id peer states is e in
-    cc (here, found)
-
-pub place-to-meet : (side : Side) (point : List ℕ) (facts : List Fact) (id : CycleId) (peer : TableContents) (states : List CycleState) (place : ℕ) → states ≡ states_of side facts
-    → bad_fact side point (facts ++ Met id peer ∷ []) ≡ None → position (is_state_of id) states ≡ Some place → IsPlaceToMeet states place (frozen_cycle side facts id) peer
-place-to-meet side point facts id peer states place is e here =
-    let at = place-is side point facts id peer states place is e here in
-    let meeting = recorded-meeting side point facts id peer (legal-recorded side point facts (Met id peer) [] e) in
-    record {
-      frozen = (λ i. slice_get (is i) (at i)) ∙ state-place side facts id meeting.closed ∙ ap Some (state-meeting side facts id peer meeting);
-      same_hours = meeting.same_hours;
-      few = meeting.few;
-    }
-
--- the states where a desk made that one meet
-pub place-met : (side : Side) (point : List ℕ) (facts : List Fact) (id : CycleId) (peer : TableContents) (states : List CycleState) (place : ℕ) (met : CycleState)
-    → states ≡ states_of side facts → bad_fact side point (facts ++ Met id peer ∷ []) ≡ None → position (is_state_of id) states ≡ Some place
-    → met ≡ Matched (matched_of (frozen_cycle side facts id) peer) → slice_set states place met ≡ states_of side (facts ++ Met id peer ∷ [])
-place-met side point facts id peer states place met is e here matched =
-    let at = place-is side point facts id peer states place is e here in
-    (λ i. slice_set (is i) (at i) (matched i)) ∙ sym (states-met side point facts id peer e)

@@ -1,7 +1,10 @@
 -- What a desk keeps beside its facts.
-use Rattle.std.specs.Prelude.{◌≡◌, ◌<◌, ◌≤◌, ◌+◌, List, length, map, Bool, true, false, Option, Some, None, if◌then◌else◌}
+use Rattle.std.specs.Prelude.{◌≡◌, ◌<◌, ◌≤◌, ◌+◌, ℕ, List, length, map, Bool, true, false, Option, Some, None, if◌then◌else◌}
+use Rattle.jiff_core.specs.declared.civil.date.Date.{Date}
 use Rattle.gi_pairs.specs.declared.cycle_id.CycleId.{CycleId}
 use Rattle.gi_pairs.specs.declared.side.Side.{Side}
+use Rattle.gi_messages.specs.declared.message.Nomint.{Nomint}
+use Rattle.gi_nominations.specs.Book.{in_force}
 use Rattle.gi_cycles.specs.declared.cycle_state.CycleState.{CycleState}
 use Rattle.gi_cycles.specs.declared.cycle_state.CycleState.TheVariants.{Collecting, Frozen, Matched}
 use Rattle.gi_desk.specs.History.{closings, is_closed, state_of}
@@ -13,6 +16,10 @@ use Rattle.gi_facts.specs.declared.fact.Fact.{Fact}
 use Rattle.gi_facts.specs.declared.fact.Fact.TheVariants.{Contracted, Noticed, Nominated, Closed, Met}
 use Rattle.gi_desk.specs.declared.outcome.Outcome.{Outcome}
 use Rattle.gi_desk.specs.declared.outcome.Outcome.TheVariants.{Records, RepeatsNomination, RepeatsMeeting, Saves, Resends, Stops, Refuses}
+
+-- of the nominations that are kept the same one is in force for each portfolio and gas day as of those that were taken
+abbrev pub HasInForce : List Nomint → List Nomint → Type 0
+HasInForce kept taken = (portfolio : List ℕ) (day : Date) → in_force portfolio day kept ≡ in_force portfolio day taken
 
 -- which cycle a state is of
 abbrev pub id_of : CycleState → CycleId

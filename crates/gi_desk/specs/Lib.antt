@@ -7,6 +7,7 @@ pub mod Machine
 pub mod Kept
 pub mod Queries
 pub mod Writable
+pub mod Stages
 pub mod DeskKept
 pub mod FaultText
 pub mod Laws

@@ -107,7 +107,7 @@ reply side s call = let o = outcome side s call in record { answer = answer_of s
 unfoldable pub after : Side → DeskState → Call → DeskState
 after side s call = next_of s (outcome side s call)
 
--- both, before anything is changed; and that they are those of some call
+-- what a call comes to and the reply to it, with nothing made yet; and that they are those of some call
 abbrev pub prepared : Side → DeskState → Call → Prepared
 prepared side s call = record { outcome = outcome side s call; reply = reply side s call }
 

@@ -5,18 +5,20 @@ ghost use Rattle.gi_desk.specs.Writable.{FitsDesk};
 mod call_outcome;
 mod letting_out;
 mod queries;
+mod readings;
 mod recording;
 mod replaying;
 mod stepping;
 
 use crate::role::Role;
-use gi_cycles::CycleState;
+use crate::stage::Stage;
 use gi_day::Calendar;
 use gi_facts::Fact;
 use gi_nominations::Book;
-use gi_pairs::Code;
+use gi_pairs::{Code, CycleId};
 use gi_processing::Contracts;
 use std::alloc::Global;
+use std::collections::BTreeMap;
 use std::marker::{Model, PhantomData};
 
 /// One operator's desk: its facts, and what they come to.
@@ -26,12 +28,12 @@ pub struct Desk<R: Role> {
     calendar: Calendar,
     point: Code,
     facts: Vec<Fact>,
-    /// The nominations that the facts record.
+    /// The nominations in force by the facts.
     book: Book,
-    /// The contracts and the notices that they record.
+    /// The contracts that stand by them, and what the notices leave.
     contracts: Contracts,
-    /// How far each closed cycle is, in the order of their closings.
-    states: Vec<CycleState>,
+    /// How far each closed cycle is.
+    stages: BTreeMap<CycleId, Stage>,
     /// How many facts stand on the store.
     saved: u32,
     halted: bool,
@@ -46,7 +48,7 @@ impl<R: Role> Model for Desk<R> {
 
     ghost view = { λ d. record { point = d.point; facts = d.facts.items; saved = d.saved; halted = d.halted } };
 
-    ghost invariant = { λ d. IsKept R.SIDE d.point d.facts.items d.states.items d.book d.contracts d.saved };
+    ghost invariant = { λ d. IsKept R.SIDE d.point d.facts.items d.stages.entries d.book d.contracts d.saved };
 }
 
 impl<R: Role> Desk<R> {

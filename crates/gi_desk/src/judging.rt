@@ -1,8 +1,9 @@
 //! What each call comes to, by the facts of a desk.
 
 ghost use Rattle.std.specs.Prelude.{◌≡◌, ◌≤◌, ◌&&◌, ◌↔◌, IfSome, IsTrue, List, Some, length, nat_le};
-ghost use Rattle.gi_desk.specs.History.{capacity_of, documents_of};
-ghost use Rattle.gi_desk.specs.Judging.{by_decision, by_verdict as by_verdict_of, closed as closed_of, contracted as contracted_of, if_same as if_same_fact, marked as marked_of, nominated as nominated_of, noticed as noticed_of, resent as resent_of, verdict_on};
+ghost use Rattle.gi_desk.specs.History.{capacity_of};
+ghost use Rattle.gi_desk.specs.Judging.{by_decision, by_verdict as by_verdict_of, contracted as contracted_of, if_same as if_same_fact, marked as marked_of, noticed as noticed_of};
+ghost use Rattle.gi_processing.specs.Readings.{ReadsAs};
 ghost use Rattle.gi_pairs.specs.Limits.{most_processed_rows};
 ghost use Rattle.gi_pairs.specs.declared.cycle_id.CycleId.{CycleId};
 ghost use Rattle.gi_desk.specs.Deciding.{IsForRole, address_of, by_order};
@@ -12,16 +13,14 @@ ghost use Rattle.gi_desk.specs.declared.refusal.Refusal.TheVariants.{OutOfMemory
 ghost use Rattle.gi_desk.specs.Machine.{is_record as is_record_of, most_facts, unless_full as unless_full_of};
 
 use crate::decision::Decision;
-use crate::history::{
-    is_closed, last_closed, number_of_closing, number_of_meeting, number_of_taking,
-};
+use crate::history::number_of_taking;
 use crate::outcome::Outcome;
 use crate::refusal::Refusal;
 use gi_cycles::CycleState;
 use gi_day::Calendar;
 use gi_facts::Fact;
 use gi_messages::{Message, Nomint};
-use gi_nominations::{Book, Setting, Verdict};
+use gi_nominations::Verdict;
 use gi_pairs::{Code, CycleId, MOST_PROCESSED_ROWS, Side, Table};
 use gi_processing::{Contract, Contracts, Notice, NoticeFault};
 
@@ -29,7 +28,7 @@ use gi_processing::{Contract, Contracts, Notice, NoticeFault};
 pub const MOST_FACTS: usize = 1_000_000;
 
 pub(crate) fn contracted(contracts: &Contracts, contract: &Contract) -> Outcome
-    ensures { (facts : List Fact) → contracts.now ≡ capacity_of facts → result ≡ contracted_of facts contract.now }
+    ensures { (facts : List Fact) → ReadsAs contracts.now (capacity_of facts) → result ≡ contracted_of facts contract.now }
 {
     if contracts.refuses(contract) {
         return Outcome::Refuses(Refusal::TooManyPortfolios);
@@ -49,42 +48,7 @@ pub(crate) fn noticed(calendar: &Calendar, notice: &Notice) -> Outcome
     }
 }
 
-pub(crate) fn verdict(
-    calendar: &Calendar,
-    facts: &[Fact],
-    book: &Book,
-    contracts: &Contracts,
-    document: &Nomint,
-) -> Verdict
-    requires book { book.now.documents ≡ documents_of facts.now }
-    requires contracts { contracts.now ≡ capacity_of facts.now }
-    ensures { result ≡ verdict_on book.now.point facts.now document.now }
-{
-    let setting = Setting {
-        frame: calendar.frame(document.day).unwrap(),
-        known: contracts.knows(document.portfolio, document.day),
-        last_closed: last_closed(facts, document.day),
-    };
-    book.judge(&setting, document)
-}
-
-pub(crate) fn nominated(
-    calendar: &Calendar,
-    facts: &[Fact],
-    book: &Book,
-    contracts: &Contracts,
-    document: Nomint,
-) -> Outcome
-    requires few { length facts.now ≤ most_facts }
-    requires book { book.now.documents ≡ documents_of facts.now }
-    requires contracts { contracts.now ≡ capacity_of facts.now }
-    ensures { result ≡ nominated_of book.now.point facts.now document }
-{
-    let verdict = verdict(calendar, facts, book, contracts, &document);
-    by_verdict(facts, document, verdict)
-}
-
-fn by_verdict(facts: &[Fact], document: Nomint, verdict: Verdict) -> Outcome
+pub(crate) fn by_verdict(facts: &[Fact], document: Nomint, verdict: Verdict) -> Outcome
     requires { length facts.now ≤ most_facts }
     ensures { result ≡ by_verdict_of facts.now document verdict }
 {
@@ -95,24 +59,6 @@ fn by_verdict(facts: &[Fact], document: Nomint, verdict: Verdict) -> Outcome
         },
         Verdict::Refused(fault) => Outcome::Refuses(Refusal::Nomination(fault)),
     }
-}
-
-pub(crate) fn closed(calendar: &Calendar, facts: &[Fact], id: &CycleId) -> Outcome
-    ensures { result ≡ closed_of facts.now id.now }
-{
-    let frame = calendar.frame(id.day).unwrap();
-    if id.cycle >= frame.cycle_count() {
-        return Outcome::Refuses(Refusal::NoSuchCycle);
-    }
-    if is_closed(facts, *id) {
-        return Outcome::Refuses(Refusal::AlreadyClosed);
-    }
-    if let Some(last) = last_closed(facts, id.day) {
-        if id.cycle < last {
-            return Outcome::Refuses(Refusal::OutOfOrder { last });
-        }
-    }
-    Outcome::Records(Fact::Closed(*id))
 }
 
 pub(crate) fn addressed(side: Side, message: &Message) -> Option<(Code, CycleId)>
@@ -144,19 +90,6 @@ pub(crate) fn is_short(decision: &Decision) -> bool
     matches!(decision, Decision::Refused(Refusal::OutOfMemory))
 }
 
-pub(crate) fn decided(facts: &[Fact], id: CycleId, decision: Decision) -> Outcome
-    requires few { length facts.now ≤ most_facts }
-    ensures { result ≡ by_decision facts.now id decision }
-{
-    match decision {
-        Decision::Meet(peer) => Outcome::Records(Fact::Met { id, peer }),
-        Decision::Again => Outcome::RepeatsMeeting {
-            n: number_of_meeting(facts, id) as u32,
-        },
-        Decision::Refused(refusal) => Outcome::Refuses(refusal),
-    }
-}
-
 pub(crate) fn can_meet(state: &CycleState, peer: &Table) -> bool
     ensures { (facts : List Fact) (id : CycleId) → result ≡ (is_record_of (by_decision facts id (by_order peer.now state.now)) && nat_le (length peer.now.rows) most_processed_rows) }
 {
@@ -167,16 +100,6 @@ pub(crate) fn can_meet(state: &CycleState, peer: &Table) -> bool
         }
         CycleState::Matched(_) => false,
     }
-}
-
-pub(crate) fn resent(facts: &[Fact], saved: u32, id: &CycleId) -> Outcome
-    ensures { result ≡ resent_of facts.now saved id.now }
-{
-    let number = number_of_closing(facts, *id);
-    if number > saved as usize {
-        return Outcome::Refuses(Refusal::NotClosed);
-    }
-    Outcome::Resends(*id)
 }
 
 fn if_same(n: u32, fact: &Fact, next: &Fact) -> Outcome

@@ -36,6 +36,9 @@
 //! }
 //! ```
 //!
+//! Who keeps more of a step than the desk does makes it in two: [`Desk::prepare`], its own copies
+//! and places, then [`Desk::make`].
+//!
 //! A desk that starts again is made of its saved facts ([`Desk::replay`]). Packets may be lost or
 //! come twice, so what saved facts let out can be let out again ([`Call::Resend`]).
 //!
@@ -60,6 +63,7 @@ mod refusal;
 mod replay_fault;
 mod reply;
 mod role;
+mod stage;
 mod stage_name;
 mod stages;
 mod telling;

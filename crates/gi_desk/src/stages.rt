@@ -1,22 +1,26 @@
 //! How far the closed cycles are.
 
-ghost use Rattle.std.specs.Prelude.{◌≡◌, ◌≤◌, ◌++◌, ℕ, List, [], ◌∷◌, None, OnErr, OnOk, length, position};
-ghost use Rattle.std.specs.Option.{option_copied};
+ghost use Rattle.std.specs.Prelude.{◌≡◌, ◌≤◌, ◌+◌, ◌++◌, ℕ, List, [], ◌∷◌, None, OnErr, OnOk, Some, length};
 ghost use Rattle.gi_pairs.specs.Limits.{most_processed_rows};
 ghost use Rattle.gi_pairs.specs.declared.side.Side.{Side};
+ghost use Rattle.gi_processing.specs.Processing.{processed};
 ghost use Rattle.gi_cycles.specs.States.{FrozenCycle, matched_of};
 ghost use Rattle.gi_cycles.specs.declared.cycle_state.CycleState.TheVariants.{Frozen, Matched};
 ghost use Rattle.gi_lesser.specs.Lesser.{HasShapeOf};
-ghost use Rattle.gi_desk.specs.Kept.{closed_state, id_of, is_state_of, states_of};
+ghost use Rattle.gi_desk.specs.History.{capacity_of, documents_of};
+ghost use Rattle.gi_desk.specs.Kept.{id_of};
 ghost use Rattle.gi_desk.specs.Queries.{stage_of};
 ghost use Rattle.gi_desk.specs.Machine.{bad_fact};
+ghost use Rattle.gi_desk.specs.Stages.{AreStages};
 ghost use Rattle.gi_facts.specs.declared.fact.Fact.{Fact};
-ghost use Rattle.gi_facts.specs.declared.fact.Fact.TheVariants.{Met};
+ghost use Rattle.gi_facts.specs.declared.fact.Fact.TheVariants.{Closed, Met};
 
+use crate::stage::Stage;
 use crate::stage_name::StageName;
 use gi_cycles::{Collecting, CycleState};
 use gi_pairs::{CycleId, Table};
 use std::alloc::{AllocError, Global};
+use std::collections::BTreeMap;
 use std::mem;
 
 fn cycle_of(state: &CycleState) -> CycleId
@@ -39,10 +43,25 @@ pub(crate) fn stage(state: &CycleState) -> StageName
     }
 }
 
-pub(crate) fn find(states: &[CycleState], id: CycleId) -> Option<&CycleState>
-    ensures { (side : Side) (facts : List Fact) → states.now ≡ states_of side facts → option_copied result ≡ closed_state side facts id }
+pub(crate) fn close(
+    stages: &mut BTreeMap<CycleId, Stage>,
+    id: &CycleId,
+    own: Table,
+    number: u32,
+) -> Result<(), AllocError>
+    requires { length own.rows ≤ most_processed_rows }
+    ensures closed { (side : Side) (point : List ℕ) (facts : List Fact) → AreStages side point facts stages.old.entries → bad_fact side point (facts ++ Closed id.now ∷ []) ≡ None
+        → own ≡ processed (capacity_of facts) (documents_of facts) side id.now.day id.now.cycle → number ≡ length facts + 1
+        → OnOk result (AreStages side point (facts ++ Closed id.now ∷ []) stages.new.entries) }
+    ensures kept { OnErr result (stages.new.entries ≡ stages.old.entries) }
 {
-    states.iter().find(|state| cycle_of(state) == id)
+    let stage = Stage {
+        state: CycleState::Frozen(Collecting::new(*id).close(own)),
+        closing: number,
+        meeting: None,
+    };
+    stages.insert(*id, stage)?;
+    Ok(())
 }
 
 fn meet_in(alloc: Global, state: &mut CycleState, peer: Table) -> Result<(), AllocError>
@@ -69,26 +88,33 @@ fn meet_in(alloc: Global, state: &mut CycleState, peer: Table) -> Result<(), All
     }
 }
 
-fn place_of(states: &[CycleState], id: &CycleId) -> Option<usize>
-    ensures { result ≡ position (is_state_of id.now) states.now }
+fn meet_at(alloc: Global, stage: &mut Stage, peer: Table, number: u32) -> Result<(), AllocError>
+    requires frozen { (cycle : FrozenCycle) × (stage.now.state ≡ Frozen cycle) × HasShapeOf cycle.own peer }
+    requires few { length peer.rows ≤ most_processed_rows }
+    ensures met { (cycle : FrozenCycle) → stage.old.state ≡ Frozen cycle
+        → OnOk result (stage.new ≡ record { state = Matched (matched_of cycle peer); closing = stage.old.closing; meeting = Some number }) }
+    ensures kept { OnErr result (stage.new ≡ stage.old) }
 {
-    states.iter().position(|state| cycle_of(state) == *id)
+    meet_in(alloc, &mut stage.state, peer)?;
+    stage.meeting = Some(number);
+    Ok(())
 }
 
 pub(crate) fn meet(
     alloc: Global,
-    states: &mut Vec<CycleState>,
+    stages: &mut BTreeMap<CycleId, Stage>,
     id: &CycleId,
     peer: Table,
+    number: u32,
 ) -> Result<(), AllocError>
-    requires legal { (side : Side) × (point : List ℕ) × (facts : List Fact)
-        × (states.now.items ≡ states_of side facts) × (bad_fact side point (facts ++ Met id.now peer ∷ []) ≡ None) }
-    ensures met { (side : Side) (point : List ℕ) (facts : List Fact) → states.old.items ≡ states_of side facts → bad_fact side point (facts ++ Met id.now peer ∷ []) ≡ None
-        → OnOk result (states.new.items ≡ states_of side (facts ++ Met id.now peer ∷ [])) }
-    ensures kept { OnErr result (states.new.items ≡ states.old.items) }
+    requires { (side : Side) × (point : List ℕ) × (facts : List Fact)
+        × AreStages side point facts stages.now.entries × (bad_fact side point (facts ++ Met id.now peer ∷ []) ≡ None) }
+    ensures met { (side : Side) (point : List ℕ) (facts : List Fact) → AreStages side point facts stages.old.entries → bad_fact side point (facts ++ Met id.now peer ∷ []) ≡ None
+        → number ≡ length facts + 1 → OnOk result (AreStages side point (facts ++ Met id.now peer ∷ []) stages.new.entries) }
+    ensures kept { OnErr result (stages.new.entries ≡ stages.old.entries) }
 {
-    let Some(place) = place_of(states, id) else {
+    let Some(stage) = stages.get_mut(id) else {
         unreachable!()
     };
-    meet_in(alloc, &mut states[place], peer)
+    meet_at(alloc, stage, peer, number)
 }

@@ -13,6 +13,9 @@ use rayon::prelude::*;
 use std::alloc::{AllocError, Global};
 use std::thread::Threads;
 
+/// The fewest rows of the first side that are worth a thread of their own.
+const ROWS_FOR_A_THREAD: usize = 2_048;
+
 fn place_of(rows: &[Row], key: Key) -> usize
     requires { IsStrictlySortedBy key_cmp (keys_of rows.now) }
     ensures value { result ≡ count_below key rows.now }
@@ -61,6 +64,7 @@ fn all_parts(
 {
     (0..ours.len())
         .into_par_iter()
+        .with_min_len(ROWS_FOR_A_THREAD)
         .map(
             |i: usize| -> Result<Vec<Row>, AllocError>
                 requires { (i < length ours.now) × IsStrictlySortedBy key_cmp (keys_of ours.now) × IsStrictlySortedBy key_cmp (keys_of theirs.now) }

@@ -140,3 +140,11 @@ pub verdict-repeat : (book : Documents) (setting : Setting) (document : Nomint) 
 verdict-repeat book setting document e =
     let all = accepted book setting document Repeat (λ fault no. absurd cc) e in
     repeat_of (in_force document.portfolio document.day book.documents) book document refl all.by
+
+-- ---- of two books
+
+-- Where two books are of one point and have the same document in force for a nomination's portfolio and gas day, the verdict on it is the same.
+pub verdict-same : (book other : Documents) (setting : Setting) (document : Nomint) → book.point ≡ other.point
+    → in_force document.portfolio document.day book.documents ≡ in_force document.portfolio document.day other.documents → verdict book setting document ≡ verdict other setting document
+unfolding verdict
+verdict-same book other setting document point held = rw (point, held) refl

@@ -1,3 +1,4 @@
 pub mod BookLaws
+mod FiledLaws
 pub mod JudgingLaws
 pub mod LinesLaws

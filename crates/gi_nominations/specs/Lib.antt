@@ -1,5 +1,6 @@
 pub mod FaultText
 pub mod Lines
 pub mod Book
+pub mod PortfolioDay
 pub mod BookKept
 pub mod Judging

@@ -1,27 +1,29 @@
-ghost use Rattle.std.specs.Prelude.{◌≡◌, ℕ, List, [], Some, false, All, OnOk, OnErr};
+ghost use Rattle.std.specs.Prelude.{◌≡◌, ℕ, List, [], Some, None, true, false, All, OnOk, OnErr};
 ghost use Rattle.std.specs.Option.{option_copied};
 ghost use Rattle.jiff_core.specs.declared.civil.date.Date.{Date};
 ghost use Rattle.gi_messages.specs.declared.message.Nomint.{Nomint};
-ghost use Rattle.gi_nominations.specs.Book.{in_force as in_force_of, is_of, with_document, IsNewer, IsUpTo};
+ghost use Rattle.gi_nominations.specs.Book.{in_force as in_force_of, is_of, DocumentStands, IsNewer, IsUpTo};
 ghost use Rattle.gi_nominations.specs.declared.verdict.Verdict.TheVariants as Verdict;
 ghost use Rattle.gi_nominations.specs.Judging.{verdict, IsRecordable, IsRepeat, by_version as judged_by_version};
 
 use crate::judging::{is_day_over, lines_fault};
 use crate::nomination_fault::NominationFault;
+use crate::portfolio_day::PortfolioDay;
 use crate::setting::Setting;
 use crate::verdict::Verdict;
 use gi_day::GasDay;
 use gi_messages::Nomint;
 use gi_pairs::Code;
 use std::alloc::{AllocError, Global};
+use std::collections::BTreeMap;
 use std::marker::Model;
 
-/// The nominations that an operator has taken from its shippers at an interconnection point, in
-/// the order in which they were taken.
+/// The nominations in force at an interconnection point: of those that an operator has taken from
+/// its shippers the last one of each portfolio and gas day. What was in force before is not kept.
 #[derive(Debug, Drop)]
 pub struct Book {
     point: Code,
-    documents: Vec<Nomint>,
+    documents: BTreeMap<PortfolioDay, Nomint>,
 }
 
 impl Model for Book {
@@ -29,13 +31,11 @@ impl Model for Book {
 
     ghost Value = { Documents };
 
-    ghost use Rattle.gi_nominations.specs.BookKept.{book_of};
+    ghost use Rattle.gi_nominations.specs.BookKept.{book_of, IsFiled};
 
     ghost view = { book_of };
 
-    ghost use Rattle.gi_nominations.specs.Book.{Rises};
-
-    ghost invariant = { λ book. Rises book.documents.items };
+    ghost invariant = { λ book. IsFiled book.documents.entries };
 }
 
 fn by_version(held: &Nomint, nomint: &Nomint) -> Verdict
@@ -54,13 +54,6 @@ fn by_version(held: &Nomint, nomint: &Nomint) -> Verdict
     Verdict::Refused(NominationFault::Conflict { held: version })
 }
 
-#[tactic(auto, unfolding(crate::specs::Book::in_force))]
-fn last_of(documents: &[Nomint], portfolio: Code, day: GasDay) -> Option<&Nomint>
-    ensures { option_copied result ≡ in_force_of portfolio day documents.now }
-{
-    documents.iter().rev().find(|document| document.portfolio == portfolio && document.day == day)
-}
-
 impl Book {
     /// The book of a point, without any document. It takes no memory.
     pub fn new(alloc: Global, point: Code) -> Book
@@ -68,17 +61,19 @@ impl Book {
     {
         Book {
             point,
-            documents: Vec::new(alloc),
+            documents: BTreeMap::new(alloc),
         }
     }
 
-    /// The nomination in force of a portfolio and a gas day: the last one taken of both.
+    /// The nomination in force of a portfolio and a gas day: the last one taken of both. It is one
+    /// look-up in the map.
     pub fn in_force(&self, portfolio: Code, day: GasDay) -> Option<&Nomint>
         ensures value { option_copied result ≡ in_force_of portfolio day self.now.documents }
-        // No document taken of both has a higher version.
+        // It is the only document of both that is kept, and none has a higher version.
+        ensures sole { (held : Nomint) → option_copied result ≡ Some held → All (λ document. is_of portfolio day document ≡ true → document ≡ held) self.now.documents }
         ensures highest { (held : Nomint) → option_copied result ≡ Some held → All (IsUpTo portfolio day held) self.now.documents }
     {
-        last_of(&self.documents, portfolio, day)
+        self.documents.get(&PortfolioDay { portfolio, day })
     }
 
     /// What becomes of a nomination: the first of the refusals whose condition holds, in their
@@ -118,15 +113,23 @@ impl Book {
         }
     }
 
-    /// Takes a nomination, which is from then on the one in force of its portfolio and gas day. Its
-    /// version is above that of the one in force. Where memory runs out the book stays as it was.
+    /// Takes a nomination, which is from then on the one in force of its portfolio and gas day, in
+    /// the place of the one that was. Its version is above that one's. Where memory runs out the
+    /// book stays as it was.
     pub fn take(&mut self, nomint: Nomint) -> Result<(), AllocError>
         requires newer { IsNewer self.now.documents nomint }
-        ensures taken { OnOk result (self.new ≡ with_document self.old nomint) }
+        ensures point { self.new.point ≡ self.old.point }
+        ensures stands { OnOk result (DocumentStands self.old.documents self.new.documents nomint) }
         ensures kept { OnErr result (self.new ≡ self.old) }
+
+        // A document that takes the place of another one needs no memory.
+        ensures absent { OnErr result (in_force_of nomint.portfolio nomint.day self.old.documents ≡ None) }
+
+        // The equation `stands`, for the document's own portfolio and gas day and for all others.
         ensures held { OnOk result (in_force_of nomint.portfolio nomint.day self.new.documents ≡ Some nomint) }
         ensures others { OnOk result ((portfolio : List ℕ) (day : Date) → is_of portfolio day nomint ≡ false → in_force_of portfolio day self.new.documents ≡ in_force_of portfolio day self.old.documents) }
     {
-        self.documents.push(nomint).map_err(|_| AllocError)
+        self.documents.insert(PortfolioDay::of(&nomint), nomint)?;
+        Ok(())
     }
 }

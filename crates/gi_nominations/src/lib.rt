@@ -4,6 +4,7 @@
 mod book;
 mod judging;
 mod nomination_fault;
+mod portfolio_day;
 mod setting;
 mod verdict;
 

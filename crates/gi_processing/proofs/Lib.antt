@@ -1,10 +1,16 @@
 mod Counterparties
+mod HoursLaws
+mod KeptLaws
+mod KeyLaws
 mod LastRecorded
 mod PassLaws
-mod Portfolios
+mod PortfolioLaws
 mod ProcessingLaws
 mod ProcessingLemmas
+pub mod ProcessingReadings
 mod ProcessingRows
+pub mod ReadingLaws
 pub mod ReductionLaws
 mod RowLaws
+mod RowOrder
 pub mod SoundLaws

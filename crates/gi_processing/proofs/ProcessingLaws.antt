@@ -1,8 +1,9 @@
 -- The processed table is one.
 use Rattle.std.proofs.Common.{◌≡◌, ℕ, ◌-◌, ◌<◌, ◌≤◌, ◌&&◌, List, [], ◌∷◌, length, map, find, slice_index, Option, Some, None, sum, Contains, inl, inr, nat_le, true, false, arith, refl, sym, ap, ◌∙◌, subst}
 use Rattle.std.specs.Prelude.{◌↔◌}
-use Rattle.std.specs.List.{IsDistinct}
+use Rattle.std.specs.List.Sorted.{IsPermutation}
 use Rattle.jiff_core.specs.declared.civil.date.Date.{Date}
+use Rattle.std.proofs.lemmas.List.Sorted.{length_permutation}
 use Rattle.std.proofs.lemmas.List.FromFn.{get_or-map-range_with_len}
 use Rattle.gi_pairs.specs.Row.{key_of}
 use Rattle.gi_pairs.specs.Direction.{place_of}
@@ -17,7 +18,6 @@ use Rattle.gi_pairs.proofs.Reading.{reading-found}
 use Rattle.gi_messages.specs.declared.line.Line.{Line}
 use Rattle.gi_nominations.specs.Book.{in_force}
 use Rattle.gi_nominations.specs.Lines.{has_twins}
-use Rattle.std.specs.Str.{bytes_eq}
 use Rattle.std.proofs.lemmas.Bool.Decides.{Decides-eqb, nat_tests}
 use Rattle.gi_pairs.specs.Limits.{most_processed_rows}
 use Rattle.gi_pairs.specs.Pair.{pair_of}
@@ -30,17 +30,17 @@ use Rattle.gi_processing.specs.Recording.{portfolios_of}
 use Rattle.gi_processing.specs.Reduction.{IsReduction, in_direction, is_in, part, quantity_at, total}
 use Rattle.gi_processing.specs.declared.span.Span.{Span}
 use Rattle.gi_processing.proofs.Counterparties.{in_by_counterparty}
-use Rattle.gi_processing.proofs.Portfolios.{known_in}
+use Rattle.gi_processing.proofs.PortfolioLaws.{known_in, portfolios_of-distinct}
 use Rattle.gi_processing.proofs.ReductionLaws.{is_reduction, no_part_exceeds, parts_sum}
 use Rattle.gi_processing.proofs.ProcessingRows.{in_flat_map, key_in_rows, key_of-row, lines_sound, rows-few}
 
-pub kept_from : (capacity : Capacity) (documents : List Nomint) (span : Span) (portfolios : List (List ℕ)) → portfolios ≡ portfolios_of capacity.contracts
-    → length portfolios ≤ most_portfolios → IsDistinct bytes_eq portfolios → IsSpan span → AreSound capacity documents span.day → CanProcess capacity documents span
-kept_from capacity documents span portfolios is few distinct hours sound = record {
+pub kept_from : (capacity : Capacity) (documents : List Nomint) (span : Span) (portfolios : List (List ℕ)) → IsPermutation (portfolios_of capacity.contracts) portfolios
+    → length portfolios ≤ most_portfolios → IsSpan span → AreSound capacity documents span.day → CanProcess capacity documents span
+kept_from capacity documents span portfolios moved few hours sound = record {
   hours = hours;
   sound = sound;
-  few = subst (λ (ps : List (List ℕ)). length ps ≤ most_portfolios) is few;
-  distinct = subst (λ (ps : List (List ℕ)). IsDistinct bytes_eq ps) is distinct;
+  few = subst (λ n. n ≤ most_portfolios) (length_permutation (portfolios_of capacity.contracts) portfolios moved) few;
+  distinct = portfolios_of-distinct capacity.contracts;
 }
 
 pub processed_rows-few : (capacity : Capacity) (documents : List Nomint) (span : Span) → CanProcess capacity documents span → length (processed_rows capacity span documents) ≤ most_processed_rows

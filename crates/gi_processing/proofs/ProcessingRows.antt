@@ -72,7 +72,7 @@ other_is : (side : Side) (portfolio : List ℕ) (line : Line) → other_of side 
 other_is I portfolio line = refl
 other_is M portfolio line = refl
 
-abbrev keys_for : Side → List ℕ → List Line → List Key
+abbrev pub keys_for : Side → List ℕ → List Line → List Key
 keys_for side portfolio = map (line_key side portfolio)
 
 keys_of-rows : (capacity : Capacity) (span : Span) (portfolio : List ℕ) (all lines : List Line) → keys_of (map (processed_row capacity span portfolio all) lines) ≡ keys_for span.side portfolio lines
@@ -141,7 +141,7 @@ other_portfolio p q (x ∷ xs) h (inl is) = ap (bytes_eq p) (sym is) ∙ h.0
 other_portfolio p q (x ∷ xs) h (inr k) = other_portfolio p q xs h.1 k
 
 -- keys of two portfolios differ
-apart : (side : Side) (p q : List ℕ) (a b : Line) (same : Bool) → is_eq (key_cmp (line_key side p a) (line_key side q b)) ≡ same → bytes_eq p q ≡ false → same ≡ false
+pub apart : (side : Side) (p q : List ℕ) (a b : Line) (same : Bool) → is_eq (key_cmp (line_key side p a) (line_key side q b)) ≡ same → bytes_eq p q ≡ false → same ≡ false
 apart side p q a b false e other = refl
 apart side p q a b true e other =
     let keys = key_same (line_key side p a) (line_key side q b) e in

@@ -2,6 +2,9 @@ pub mod Capacity
 pub mod CapacityLimits
 pub mod ContractsKept
 pub mod FaultText
+pub mod HoursLeft
+pub mod Kept
 pub mod Processing
+pub mod Readings
 pub mod Recording
 pub mod Reduction

@@ -1,12 +1,12 @@
 -- Which contracts and notices are recorded, and what is kept of them.
-use Rattle.std.specs.Prelude.{◌≡◌, ℕ, ◌≤◌, List, [], ◌∷◌, ◌++◌, length, map, fold, All, Bool, not, ◌&&◌, ◌||◌, nat_le, nat_lt, if◌then◌else◌, Option, Some, None}
+use Rattle.std.specs.Prelude.{◌≡◌, ℕ, ◌≤◌, List, [], ◌∷◌, ◌++◌, length, map, fold, Bool, not, ◌&&◌, ◌||◌, nat_le, nat_lt, if◌then◌else◌, Option, Some, None}
 use Rattle.std.specs.List.{list_any}
 use Rattle.std.specs.Str.{bytes_eq}
 use Rattle.gi_day.specs.Cycles.{hour_count}
 use Rattle.gi_pairs.specs.Limits.{last_hour}
 use Rattle.jiff_core.specs.declared.civil.date.Date.{Date}
 use Rattle.gi_pairs.specs.declared.direction.Direction.{Direction}
-use Rattle.gi_processing.specs.Capacity.{Capacity, contract_of, covers, is_for, notice_of}
+use Rattle.gi_processing.specs.Capacity.{Capacity, contract_of, covers, is_for, left_of, notice_of}
 use Rattle.gi_processing.specs.CapacityLimits.{most_permille, most_portfolios}
 use Rattle.gi_processing.specs.declared.contract.Contract.{Contract}
 use Rattle.gi_processing.specs.declared.notice.Notice.{Notice}
@@ -26,11 +26,12 @@ ContractStands old new contract =
     (portfolio : List ℕ) (day : Date) (direction : Direction)
     → contract_of portfolio day direction new ≡ (if is_for portfolio day direction contract then Some contract else contract_of portfolio day direction old)
 
--- the notice stands for its day, direction and hours, and for all others the one that stood
+-- the notice stands for its day, direction and hours, and for all others the one that stood: so much of a contract is left
 abbrev pub NoticeStands : List Notice → List Notice → Notice → Type 0
 NoticeStands old new notice =
-    (day : Date) (direction : Direction) (hour : ℕ)
-    → notice_of day direction hour new ≡ (if covers day direction hour notice then Some notice else notice_of day direction hour old)
+    (contract : Option Contract) (day : Date) (direction : Direction) (hour : ℕ)
+    → left_of contract (notice_of day direction hour new)
+    ≡ (if covers day direction hour notice then left_of contract (Some notice) else left_of contract (notice_of day direction hour old))
 
 -- portfolios with one more, where it is not among them
 abbrev pub with_portfolio : List (List ℕ) → List ℕ → List (List ℕ)
@@ -74,8 +75,3 @@ pub record IsNotice (notice : Notice) : Type 0 where
   pub ends : notice.last ≤ last_hour
   pub firm : notice.firm ≤ most_permille
   pub interruptible : notice.interruptible ≤ most_permille
-
--- what holds of what is recorded
-pub record IsCapacity (c : Capacity) : Type 0 where
-  pub few : length (portfolios_of c.contracts) ≤ most_portfolios
-  pub notices : All IsNotice c.notices

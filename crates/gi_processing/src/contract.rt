@@ -1,6 +1,8 @@
 ghost use Rattle.std.specs.Prelude.{◌≡◌};
-ghost use Rattle.gi_processing.specs.Capacity.{is_for as is_for_of, is_of};
+ghost use Rattle.gi_processing.specs.Kept.{contract_at, contract_key};
 
+use crate::contract_key::ContractKey;
+use crate::contracted::Contracted;
 use gi_day::GasDay;
 use gi_pairs::{Code, Direction, Quantity};
 
@@ -16,15 +18,34 @@ pub struct Contract {
 }
 
 impl Contract {
-    pub(crate) fn is_of(&self, portfolio: Code, day: GasDay) -> bool
-        ensures { result ≡ is_of portfolio day self.now }
+    pub(crate) fn at(key: ContractKey, contracted: Contracted) -> Contract
+        ensures { result ≡ contract_at key contracted }
     {
-        self.portfolio == portfolio && self.day == day
+        Contract {
+            portfolio: key.portfolio,
+            day: key.day,
+            direction: key.direction,
+            firm: contracted.firm,
+            interruptible: contracted.interruptible,
+        }
     }
 
-    pub(crate) fn is_for(&self, portfolio: Code, day: GasDay, direction: Direction) -> bool
-        ensures { result ≡ is_for_of portfolio day direction self.now }
+    pub(crate) fn key(&self) -> ContractKey
+        ensures { result ≡ contract_key self.now.portfolio self.now.day self.now.direction }
     {
-        self.is_of(portfolio, day) && self.direction == direction
+        ContractKey {
+            portfolio: self.portfolio,
+            day: self.day,
+            direction: self.direction,
+        }
+    }
+
+    pub(crate) fn contracted(&self) -> Contracted
+        ensures { result ≡ record { firm = self.now.firm; interruptible = self.now.interruptible } }
+    {
+        Contracted {
+            firm: self.firm,
+            interruptible: self.interruptible,
+        }
     }
 }

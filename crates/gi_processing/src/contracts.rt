@@ -1,32 +1,40 @@
-ghost use Rattle.std.specs.Prelude.{◌≡◌, ◌↔◌, ◌+◌, ◌*◌, ◌^◌, ◌<◌, ◌≤◌, IsTrue, OnOk, OnErr, IfSome, IfNone, IsOkUnless, Some, None, Err, [], false, length};
-ghost use Rattle.std.specs.List.{IsDistinct, list_any};
+ghost use Rattle.std.specs.Prelude.{◌≡◌, ℕ, ◌↔◌, ◌*◌, ◌+◌, ◌^◌, ◌<◌, ◌≤◌, IsTrue, OnOk, OnErr, IsOk, IsOkUnless, Some, None, Err, [], true, false, length};
+ghost use Rattle.std.specs.BTreeMap.{IsOrdered, get};
+ghost use Rattle.std.specs.List.{IsDistinct};
+ghost use Rattle.std.specs.List.Sorted.{IsPermutation};
 ghost use Rattle.std.specs.Str.{bytes_eq};
 ghost use Rattle.gi_pairs.specs.Quantity.{most_quantity};
 ghost use Rattle.gi_processing.specs.Capacity.{available as available_of, contract_of, has_contract, has_notice, left_of, knows as knows_of, notice_of, part as part_of, parts as parts_of};
 ghost use Rattle.gi_processing.specs.CapacityLimits.{most_permille, most_portfolios};
-ghost use Rattle.gi_processing.specs.Recording.{ContractStands, IsNotice, NoticeStands, is_refused, is_too_many as is_too_many_of, notice_refusal, portfolios_of, with_contract, with_notice, with_portfolio};
+ghost use Rattle.gi_processing.specs.HoursLeft.{IsLeft, left_at, left_under};
+ghost use Rattle.gi_processing.specs.Kept.{CutsRows, left_in, notice_cmp, notice_key};
+ghost use Rattle.gi_processing.specs.Readings.{RecordsContract, RecordsNotice};
+ghost use Rattle.gi_processing.specs.Recording.{ContractStands, IsNotice, NoticeStands, is_refused, notice_refusal, portfolios_of};
 ghost use Rattle.gi_processing.specs.declared.contract.Contract.{Contract};
 ghost use Rattle.gi_processing.specs.declared.notice_fault.NoticeFault.{NoticeFault};
 
 use crate::contract::Contract;
 use crate::contract_fault::ContractFault;
+use crate::contract_key::ContractKey;
+use crate::contracted::Contracted;
+use crate::hours_left::{HoursLeft, Thousandths};
 use crate::notice::{MOST_PERMILLE, Notice};
 use crate::notice_fault::NoticeFault;
+use crate::notice_key::NoticeKey;
+use crate::portfolios::Portfolios;
 use gi_day::{DayFrame, GasDay};
 use gi_pairs::{Code, Direction, Quantity};
 use std::alloc::{AllocError, Global};
+use std::collections::BTreeMap;
 use std::marker::Model;
 
-/// How many portfolios have contracts at a side, over all days.
-pub const MOST_PORTFOLIOS: usize = 64;
-
-/// The contracts and the notices that are recorded at a side, each in the order in which it came.
+/// The contracts that stand at a side, and what the notices leave of them.
 #[derive(Debug, Drop)]
 pub struct Contracts {
-    contracts: Vec<Contract>,
-    notices: Vec<Notice>,
-    /// The portfolios that have contracts, each once.
-    portfolios: Vec<Code>,
+    contracts: BTreeMap<ContractKey, Contracted>,
+    /// A row for each gas day and direction that has a notice.
+    notices: BTreeMap<NoticeKey, HoursLeft>,
+    portfolios: Portfolios,
 }
 
 impl Model for Contracts {
@@ -40,29 +48,6 @@ impl Model for Contracts {
     ghost invariant = { IsKept };
 }
 
-#[tactic(auto, unfolding(crate::specs::Capacity::contract_of))]
-fn last_contract(
-    contracts: &[Contract],
-    portfolio: Code,
-    day: GasDay,
-    direction: Direction,
-) -> Option<Contract>
-    ensures { result ≡ contract_of portfolio day direction contracts.now }
-{
-    let mut from_last = contracts.iter().rev();
-    let found = from_last.find(|contract| contract.is_for(portfolio, day, direction));
-    found.copied()
-}
-
-#[tactic(auto, unfolding(crate::specs::Capacity::notice_of))]
-fn last_notice(notices: &[Notice], day: GasDay, direction: Direction, hour: u8) -> Option<Notice>
-    ensures { result ≡ notice_of day direction hour notices.now }
-{
-    let mut from_last = notices.iter().rev();
-    let found = from_last.find(|notice| notice.covers(day, direction, hour));
-    found.copied()
-}
-
 fn part(quantity: Quantity, permille: u16) -> u64
     ensures value { result ≡ part_of quantity permille }
     ensures whole { permille ≡ most_permille → result ≡ quantity }
@@ -72,48 +57,32 @@ fn part(quantity: Quantity, permille: u16) -> u64
     quantity.value() * u64::from(permille) / u64::from(MOST_PERMILLE)
 }
 
-fn parts(contract: Contract, firm: u16, interruptible: u16) -> u64
-    ensures value { result ≡ parts_of contract firm interruptible }
-    ensures whole { firm ≡ most_permille → interruptible ≡ most_permille → result ≡ contract.firm + contract.interruptible }
-    ensures in_range { firm ≤ most_permille → interruptible ≤ most_permille → result ≤ 2 * most_quantity }
+fn parts(contract: Contract, left: Thousandths) -> u64
+    ensures value { result ≡ parts_of contract left.firm left.interruptible }
+    ensures in_range { IsLeft left → result ≤ 2 * most_quantity }
 {
-    part(contract.firm, firm) + part(contract.interruptible, interruptible)
+    part(contract.firm, left.firm) + part(contract.interruptible, left.interruptible)
 }
 
-fn quantity_left(contract: Option<Contract>, notice: Option<Notice>) -> u64
-    ensures value { result ≡ left_of contract notice }
-    ensures no_notice { IfSome contract (λ contract. IfNone notice (result ≡ contract.firm + contract.interruptible)) }
-    ensures in_range { IfSome notice IsNotice → result ≤ 2 * most_quantity }
+fn row_of(rows: &BTreeMap<NoticeKey, HoursLeft>, key: &NoticeKey) -> HoursLeft
+    ensures { (hour : ℕ) → left_at result.hours hour ≡ left_in (get notice_cmp rows.now key.now) hour }
 {
-    match contract {
-        Some(contract) => match notice {
-            Some(notice) => parts(contract, notice.firm, notice.interruptible),
-            None => parts(contract, MOST_PERMILLE, MOST_PERMILLE),
-        },
-        None => 0,
+    match rows.get(key) {
+        Some(row) => *row,
+        None => HoursLeft::new(),
     }
 }
 
-fn is_among(portfolios: &[Code], portfolio: Code) -> bool
-    ensures { result ≡ list_any (bytes_eq portfolio) portfolios.now }
+fn cut_hours(rows: &mut BTreeMap<NoticeKey, HoursLeft>, notice: &Notice) -> Result<(), AllocError>
+    requires { IsNotice notice.now }
+    ensures cut { OnOk result (CutsRows notice.now rows.old rows.new) }
+    ensures ordered { IsOrdered notice_cmp rows.new }
+    ensures absent { OnErr result (get notice_cmp rows.old (notice_key notice.now.day notice.now.direction) ≡ None) }
+    ensures kept { OnErr result (rows.new.entries ≡ rows.old.entries) }
 {
-    portfolios.iter().any(|other| portfolio == *other)
-}
-
-fn is_too_many(portfolios: &[Code], portfolio: Code) -> bool
-    ensures { result ≡ is_too_many_of portfolios.now portfolio }
-{
-    !is_among(portfolios, portfolio) && portfolios.len() >= MOST_PORTFOLIOS
-}
-
-fn add_portfolio(portfolios: &mut Vec<Code>, portfolio: Code) -> Result<(), AllocError>
-    ensures added { OnOk result (portfolios.new.items ≡ with_portfolio portfolios.old.items portfolio) }
-    ensures kept { OnErr result (portfolios.new.items ≡ portfolios.old.items) }
-{
-    if is_among(portfolios, portfolio) {
-        return Ok(());
-    }
-    portfolios.push(portfolio)?;
+    let key = notice.key();
+    let row = row_of(rows, &key).cut(notice);
+    rows.insert(key, row)?;
     Ok(())
 }
 
@@ -124,30 +93,30 @@ impl Contracts {
         ensures { result ≡ record { contracts = []; notices = [] } }
     {
         Contracts {
-            contracts: Vec::new(alloc),
-            notices: Vec::new(alloc),
-            portfolios: Vec::new(alloc),
+            contracts: BTreeMap::new(alloc),
+            notices: BTreeMap::new(alloc),
+            portfolios: Portfolios::new(),
         }
     }
 
-    /// Records a contract. `TooManyPortfolios` where its portfolio has no contract yet, on any day,
-    /// and 64 portfolios have one, then `OutOfMemory`; after either nothing is changed.
+    /// Records a contract, in place of the one that stood for its portfolio, gas day and direction,
+    /// which takes no memory. `TooManyPortfolios` where its portfolio has no contract yet, on any
+    /// day, and 64 portfolios have one, then `OutOfMemory`; after either nothing is changed.
     pub fn set(&mut self, contract: Contract) -> Result<(), ContractFault>
         ensures refused { (result ≡ Err ContractFault.TooManyPortfolios) ↔ IsTrue (is_refused contract self.old.contracts) }
-        ensures added { OnOk result (self.new ≡ with_contract self.old contract) }
         ensures stands { OnOk result (ContractStands self.old.contracts self.new.contracts contract) }
+        ensures reads { OnOk result (RecordsContract self.old self.new contract) }
+        ensures replaces { has_contract contract.portfolio contract.day contract.direction self.old.contracts ≡ true → IsOk result }
+        ensures notices { self.new.notices ≡ self.old.notices }
         ensures kept { OnErr result (self.new ≡ self.old) }
     {
-        if is_too_many(&self.portfolios, contract.portfolio) {
+        if self.portfolios.is_too_many(contract.portfolio) {
             return Err(ContractFault::TooManyPortfolios);
         }
-        let Ok(()) = self.contracts.reserve(1) else {
+        let Ok(_) = self.contracts.insert(contract.key(), contract.contracted()) else {
             return Err(ContractFault::OutOfMemory);
         };
-        let Ok(()) = add_portfolio(&mut self.portfolios, contract.portfolio) else {
-            return Err(ContractFault::OutOfMemory);
-        };
-        self.contracts.push_reserved(contract);
+        self.portfolios.add(contract.portfolio);
         Ok(())
     }
 
@@ -156,27 +125,53 @@ impl Contracts {
     pub fn refuses(&self, contract: &Contract) -> bool
         ensures { result ≡ is_refused contract.now self.now.contracts }
     {
-        is_too_many(&self.portfolios, contract.portfolio)
+        self.portfolios.is_too_many(contract.portfolio)
     }
 
     /// Records a notice, under the frame of its day. The refusals, in their order, are `NoticeRange`,
-    /// `PermilleRange` and `OutOfMemory`; after each nothing is changed.
+    /// `PermilleRange` and `OutOfMemory`; after each nothing is changed. No memory is taken where its
+    /// gas day and direction have a notice already.
     pub fn notice(&mut self, frame: &DayFrame, notice: Notice) -> Result<(), NoticeFault>
         requires { frame.now ≡ notice.day }
         ensures refused { (fault : NoticeFault) → notice_refusal notice ≡ Some fault → result ≡ Err fault }
         ensures taken { notice_refusal notice ≡ None → IsOkUnless result NoticeFault.OutOfMemory }
-        ensures added { OnOk result (self.new ≡ with_notice self.old notice) }
         ensures stands { OnOk result (NoticeStands self.old.notices self.new.notices notice) }
+        ensures reads { OnOk result (RecordsNotice self.old self.new notice) }
+        ensures covered { notice_refusal notice ≡ None → has_notice notice.day notice.direction notice.first self.old.notices ≡ true → IsOk result }
+        ensures contracts { self.new.contracts ≡ self.old.contracts }
         ensures kept { OnErr result (self.new ≡ self.old) }
     {
         if let Some(fault) = notice.fault(frame) {
             return Err(fault);
         }
-        let Ok(()) = self.notices.reserve(1) else {
+        let Ok(()) = cut_hours(&mut self.notices, &notice) else {
             return Err(NoticeFault::OutOfMemory);
         };
-        self.notices.push_reserved(notice);
         Ok(())
+    }
+
+    fn contract(&self, portfolio: Code, day: GasDay, direction: Direction) -> Option<Contract>
+        ensures { result ≡ contract_of portfolio day direction self.now.contracts }
+    {
+        let key = ContractKey {
+            portfolio,
+            day,
+            direction,
+        };
+        match self.contracts.get(&key) {
+            Some(contracted) => Some(Contract::at(key, *contracted)),
+            None => None,
+        }
+    }
+
+    fn left(&self, day: GasDay, direction: Direction, hour: u8) -> Thousandths
+        ensures value { result ≡ left_under (notice_of day direction hour self.now.notices) }
+        ensures in_range { IsLeft result }
+    {
+        match self.notices.get(&NoticeKey { day, direction }) {
+            Some(row) => row.at(hour),
+            None => Thousandths::WHOLE,
+        }
     }
 
     /// Whether a contract of the portfolio for the day, in either direction, is recorded.
@@ -184,9 +179,8 @@ impl Contracts {
     pub fn knows(&self, portfolio: Code, day: GasDay) -> bool
         ensures { result ≡ knows_of portfolio day self.now.contracts }
     {
-        self.contracts
-            .iter()
-            .any(|contract| contract.is_of(portfolio, day))
+        self.contract(portfolio, day, Direction::IM).is_some()
+            || self.contract(portfolio, day, Direction::MI).is_some()
     }
 
     /// What is available to the portfolio in an hour of a gas day and direction, in kWh/h: the parts
@@ -200,16 +194,17 @@ impl Contracts {
             → has_notice day direction hour self.now.notices ≡ false
             → result ≡ contract.firm + contract.interruptible }
     {
-        let contract = last_contract(&self.contracts, portfolio, day, direction);
-        let notice = last_notice(&self.notices, day, direction, hour);
-        quantity_left(contract, notice)
+        match self.contract(portfolio, day, direction) {
+            Some(contract) => parts(contract, self.left(day, direction, hour)),
+            None => 0,
+        }
     }
 
     pub(crate) fn portfolios(&self) -> &[Code]
-        ensures value { result.now ≡ portfolios_of self.now.contracts }
+        ensures value { IsPermutation (portfolios_of self.now.contracts) result.now }
         ensures few { length result.now ≤ most_portfolios }
         ensures distinct { IsDistinct bytes_eq result.now }
     {
-        &self.portfolios
+        self.portfolios.as_slice()
     }
 }

@@ -3,16 +3,22 @@
 
 mod contract;
 mod contract_fault;
+mod contract_key;
+mod contracted;
 mod contracts;
+mod hours_left;
 mod notice;
 mod notice_fault;
+mod notice_key;
+mod portfolios;
 mod processing;
 mod reduction;
 mod span;
 
 pub use contract::Contract;
 pub use contract_fault::ContractFault;
-pub use contracts::{Contracts, MOST_PORTFOLIOS};
+pub use contracts::Contracts;
 pub use notice::{MOST_PERMILLE, Notice};
 pub use notice_fault::NoticeFault;
+pub use portfolios::MOST_PORTFOLIOS;
 pub use processing::processed;

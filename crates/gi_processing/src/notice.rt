@@ -1,8 +1,9 @@
 ghost use Rattle.std.specs.Prelude.{◌≡◌, IfNone};
-ghost use Rattle.gi_processing.specs.Capacity.{covers as covers_of};
+ghost use Rattle.gi_processing.specs.Kept.{notice_key};
 ghost use Rattle.gi_processing.specs.Recording.{IsNotice, has_hours, is_over as is_over_of, notice_refusal};
 
 use crate::notice_fault::NoticeFault;
+use crate::notice_key::NoticeKey;
 use gi_day::{DayFrame, GasDay};
 use gi_pairs::Direction;
 
@@ -26,10 +27,13 @@ pub struct Notice {
 }
 
 impl Notice {
-    pub(crate) fn covers(&self, day: GasDay, direction: Direction, hour: u8) -> bool
-        ensures { result ≡ covers_of day direction hour self.now }
+    pub(crate) fn key(&self) -> NoticeKey
+        ensures { result ≡ notice_key self.now.day self.now.direction }
     {
-        self.day == day && self.direction == direction && self.first <= hour && hour <= self.last
+        NoticeKey {
+            day: self.day,
+            direction: self.direction,
+        }
     }
 
     fn is_within(&self, hours: u8) -> bool

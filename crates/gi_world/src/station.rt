@@ -31,7 +31,8 @@ impl<R: Role> Model for Station<R> {
     ghost view = { λ s. record { desk = s.desk; sent = s.sent.items; told = s.told.items } };
 }
 
-/// Does nothing: what it promises of a desk is always so, and is known once it is called.
+/// Does nothing: what it promises of a desk is always so, and is known once it is called; `saved`
+/// tells that no more facts are saved than there are.
 fn known<R: Role>(desk: &Desk<R>)
     ensures legal { IsLegal R.SIDE desk.now }
     ensures fits { FitsDesk R.SIDE desk.now.point desk.now.facts }

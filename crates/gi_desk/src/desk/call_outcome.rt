@@ -2,50 +2,46 @@
 
 ghost use Rattle.std.specs.Prelude.{◌≡◌, IfErr, IfOk, IsTrue};
 ghost use Rattle.gi_messages.specs.Decoding.{decoded};
-ghost use Rattle.gi_desk.specs.History.{capacity_of, documents_of, state_of};
+ghost use Rattle.gi_desk.specs.History.{state_of};
 ghost use Rattle.gi_desk.specs.Deciding.{HasFewRows, IsForRole, decision};
-ghost use Rattle.gi_desk.specs.Judging.{by_decision, delivered as delivered_of, nominated as nominated_of, submitted as submitted_of};
+ghost use Rattle.gi_desk.specs.Judging.{by_decision as by_decision_of, closed as closed_of, delivered as delivered_of, nominated as nominated_of, resent as resent_of, submitted as submitted_of, verdict_on};
 ghost use Rattle.gi_desk.specs.Kept.{learns_with_memory};
 ghost use Rattle.gi_desk.specs.Machine.{can_be_read, comes_to as comes_to_of, may_want, outcome as outcome_of, would_record as would_record_of};
 ghost use Rattle.gi_facts.specs.declared.fact.Fact.TheVariants.{Met, Nominated};
 
 use crate::call::Call;
+use crate::decision::Decision;
 use crate::desk::Desk;
 use crate::judging::{
-    addressed, can_meet, closed, contracted, decided, is_record, is_short, marked, nominated,
-    noticed, resent, unless_full, verdict,
+    addressed, by_verdict, can_meet, contracted, is_record, is_short, marked, noticed, unless_full,
 };
 use crate::outcome::Outcome;
 use crate::refusal::Refusal;
 use crate::role::Role;
-use crate::stages::find;
 use gi_cycles::{Collecting, CycleState};
 use gi_facts::Fact;
 use gi_messages::{LAST_VERSION, Message, MessageFault, Nomint, decode};
-use gi_nominations::{Book, Verdict};
+use gi_nominations::{Setting, Verdict};
 use gi_pairs::{CycleId, Table};
-use gi_processing::Contracts;
 use std::alloc::AllocError;
 
 impl<R: Role> Desk<R> {
-    pub(super) fn contracts(&self) -> &Contracts
-        ensures { result.now ≡ capacity_of self.now.facts }
+    fn verdict(&self, document: &Nomint) -> Verdict
+        ensures { result ≡ verdict_on self.now.point self.now.facts document.now }
     {
-        &self.contracts
-    }
-
-    pub(super) fn book(&self) -> &Book
-        ensures { result.now ≡ record { point = self.now.point; documents = documents_of self.now.facts } }
-    {
-        &self.book
+        let setting = Setting {
+            frame: self.calendar.frame(document.day).unwrap(),
+            known: self.contracts().knows(document.portfolio, document.day),
+            last_closed: self.last_closed(document.day),
+        };
+        self.book().judge(&setting, document)
     }
 
     fn nominated(&self, document: Nomint) -> Outcome
         ensures { result ≡ nominated_of self.now.point self.now.facts document }
     {
-        let book = self.book();
-        let contracts = self.contracts();
-        nominated(&self.calendar, &self.facts, book, contracts, document)
+        let verdict = self.verdict(&document);
+        by_verdict(&self.facts, document, verdict)
     }
 
     fn submitted(&self, bytes: &[u8]) -> Result<Outcome, AllocError>
@@ -60,18 +56,48 @@ impl<R: Role> Desk<R> {
         }
     }
 
+    fn closed(&self, id: &CycleId) -> Outcome
+        ensures { result ≡ closed_of self.now.facts id.now }
+    {
+        let frame = self.calendar.frame(id.day).unwrap();
+        if id.cycle >= frame.cycle_count() {
+            return Outcome::Refuses(Refusal::NoSuchCycle);
+        }
+        if self.is_closed(id) {
+            return Outcome::Refuses(Refusal::AlreadyClosed);
+        }
+        if let Some(last) = self.last_closed(id.day) {
+            if id.cycle < last {
+                return Outcome::Refuses(Refusal::OutOfOrder { last });
+            }
+        }
+        Outcome::Records(Fact::Closed(*id))
+    }
+
+    fn by_decision(&self, id: CycleId, decision: Decision) -> Outcome
+        ensures { result ≡ by_decision_of self.now.facts id decision }
+    {
+        match decision {
+            Decision::Meet(peer) => Outcome::Records(Fact::Met { id, peer }),
+            Decision::Again => Outcome::RepeatsMeeting {
+                n: self.number_of_meeting(&id),
+            },
+            Decision::Refused(refusal) => Outcome::Refuses(refusal),
+        }
+    }
+
     fn decided(&self, id: &CycleId, message: &Message) -> Result<Outcome, AllocError>
         requires kind { IsForRole R.SIDE message.now }
         requires few { HasFewRows message.now }
-        ensures { IfOk result (λ outcome. outcome ≡ by_decision self.now.facts id.now (decision R.SIDE (state_of R.SIDE self.now.facts id.now) message.now)) }
+        ensures { IfOk result (λ outcome. outcome ≡ by_decision_of self.now.facts id.now (decision R.SIDE (state_of R.SIDE self.now.facts id.now) message.now)) }
     {
         let collecting = CycleState::Collecting(Collecting::new(*id));
-        let state = find(&self.states, *id).unwrap_or(&collecting);
+        let state = self.find(id).unwrap_or(&collecting);
         let decision = R::decide(self.alloc, state, message);
         if is_short(&decision) {
             return Err(AllocError);
         }
-        Ok(decided(&self.facts, *id, decision))
+        Ok(self.by_decision(*id, decision))
     }
 
     fn delivered(&self, bytes: &[u8]) -> Result<Outcome, AllocError>
@@ -92,6 +118,15 @@ impl<R: Role> Desk<R> {
         self.decided(&id, &message)
     }
 
+    fn resending(&self, id: &CycleId) -> Outcome
+        ensures { result ≡ resent_of self.now.facts self.now.saved id.now }
+    {
+        if self.number_of_closing(id) > self.saved {
+            return Outcome::Refuses(Refusal::NotClosed);
+        }
+        Outcome::Resends(*id)
+    }
+
     fn comes_to(&self, call: &Call) -> Result<Outcome, AllocError>
         ensures value { IfOk result (λ outcome. outcome ≡ comes_to_of R.SIDE self.now call.now) }
         ensures short { IfErr result (λ _. IsTrue (learns_with_memory call.now)) }
@@ -100,9 +135,9 @@ impl<R: Role> Desk<R> {
             Call::Contract(contract) => Ok(contracted(self.contracts(), contract)),
             Call::Notice(notice) => Ok(noticed(&self.calendar, notice)),
             Call::Submit(body) => self.submitted(body.as_slice()),
-            Call::Close(id) => Ok(closed(&self.calendar, &self.facts, id)),
+            Call::Close(id) => Ok(self.closed(id)),
             Call::Deliver(body) => self.delivered(body.as_slice()),
-            Call::Resend(id) => Ok(resent(&self.facts, self.saved, id)),
+            Call::Resend(id) => Ok(self.resending(id)),
             Call::MarkSaved { n, fact } => Ok(marked(&self.facts, self.saved, *n, fact)),
             Call::Halt => Ok(Outcome::Stops),
         }
@@ -125,7 +160,7 @@ impl<R: Role> Desk<R> {
             Fact::Contracted(contract) => is_record(&contracted(self.contracts(), contract)),
             Fact::Noticed(notice) => is_record(&noticed(&self.calendar, notice)),
             Fact::Nominated(document) => self.would_take(document),
-            Fact::Closed(id) => is_record(&closed(&self.calendar, &self.facts, id)),
+            Fact::Closed(id) => is_record(&self.closed(id)),
             Fact::Met { id, peer } => self.would_meet(id, peer),
         }
     }
@@ -133,16 +168,15 @@ impl<R: Role> Desk<R> {
     fn would_take(&self, document: &Nomint) -> bool
         ensures { result ≡ would_record_of R.SIDE self.now.point self.now.facts (Nominated document.now) }
     {
-        let book = self.book();
-        let contracts = self.contracts();
-        let verdict = verdict(&self.calendar, &self.facts, book, contracts, document);
-        verdict == Verdict::Recordable && 1 <= document.version && document.version <= LAST_VERSION
+        self.verdict(document) == Verdict::Recordable
+            && 1 <= document.version
+            && document.version <= LAST_VERSION
     }
 
     fn would_meet(&self, id: &CycleId, peer: &Table) -> bool
         ensures { result ≡ would_record_of R.SIDE self.now.point self.now.facts (Met id.now peer.now) }
     {
-        match find(&self.states, *id) {
+        match self.find(id) {
             Some(state) => can_meet(state, peer),
             None => false,
         }

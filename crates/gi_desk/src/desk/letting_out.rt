@@ -10,11 +10,9 @@ ghost use Rattle.gi_desk.specs.Messages.{on_met, told_packets as told_packets_of
 
 use crate::desk::Desk;
 use crate::fact_packets::{on_closing, on_meeting, on_taking};
-use crate::history::{number_of_closing, number_of_meeting};
 use crate::outcome::Outcome;
 use crate::packet::Packet;
 use crate::role::Role;
-use crate::stages::find;
 use crate::telling::told_packets;
 use gi_cycles::{CycleState, Matched};
 use gi_facts::Fact;
@@ -34,7 +32,7 @@ impl<R: Role> Desk<R> {
         requires { is_closed id.now self.now.facts ≡ true }
         ensures { result.now ≡ state_of R.SIDE self.now.facts id.now }
     {
-        find(&self.states, *id).unwrap()
+        self.find(id).unwrap()
     }
 
     fn matched(&self, id: &CycleId) -> &Matched
@@ -82,21 +80,21 @@ impl<R: Role> Desk<R> {
         }
     }
 
-    fn saved_out(&self, n: usize) -> Result<Vec<Packet>, AllocError>
+    fn saved_out(&self, n: u32) -> Result<Vec<Packet>, AllocError>
         requires { 1 ≤ n }
         ensures { IfOk result (λ packets. packets.items ≡ saved_out_of R.SIDE self.now n) }
     {
-        if n > self.saved as usize {
+        if n > self.saved {
             return Ok(Vec::new(self.alloc));
         }
-        self.let_out(n as u32)
+        self.let_out(n)
     }
 
     fn saved_for_peer(&self, n: u32) -> Result<Vec<Packet>, AllocError>
         requires { 1 ≤ n }
         ensures { IfOk result (λ packets. packets.items ≡ filter is_for_peer (saved_out_of R.SIDE self.now n)) }
     {
-        if n > self.saved {
+        if self.saved < n {
             return Ok(Vec::new(self.alloc));
         }
         self.for_peer(n)
@@ -105,8 +103,8 @@ impl<R: Role> Desk<R> {
     fn resent(&self, id: &CycleId) -> Result<Vec<Packet>, AllocError>
         ensures { IfOk result (λ packets. packets.items ≡ saved_out_of R.SIDE self.now (number_of (is_closing id.now) self.now.facts) ++ saved_out_of R.SIDE self.now (number_of (is_meeting id.now) self.now.facts)) }
     {
-        let mut packets = self.saved_out(number_of_closing(&self.facts, *id))?;
-        let mut later = self.saved_out(number_of_meeting(&self.facts, *id))?;
+        let mut packets = self.saved_out(self.number_of_closing(id))?;
+        let mut later = self.saved_out(self.number_of_meeting(id))?;
         packets.append(&mut later)?;
         Ok(packets)
     }
@@ -117,7 +115,7 @@ impl<R: Role> Desk<R> {
         ensures short { IfErr result (λ _. IsTrue (grows outcome.now)) }
     {
         match outcome {
-            Outcome::RepeatsNomination { n } => self.saved_out(*n as usize),
+            Outcome::RepeatsNomination { n } => self.saved_out(*n),
             Outcome::RepeatsMeeting { n } => self.saved_for_peer(*n),
             Outcome::Saves { n } => self.let_out(*n),
             Outcome::Resends(id) => self.resent(id),

@@ -7,11 +7,10 @@ ghost use Rattle.gi_desk.specs.History.{is_meeting, number_of, state_of};
 ghost use Rattle.gi_desk.specs.Queries.{acknowledged as is_acknowledged, confirmed as confirmed_of, fact_at, matched_in as matched_in_state, met_saved as met_saved_of, outgoing as outgoing_of, stage_of, told as told_in, unsaved as next_unsaved};
 
 use crate::desk::Desk;
-use crate::history::number_of_meeting;
 use crate::packet::Packets;
 use crate::role::Role;
 use crate::stage_name::StageName;
-use crate::stages::{find, stage};
+use crate::stages::stage;
 use crate::telling::told_if;
 use gi_cycles::{CycleState, Matched};
 use gi_facts::Fact;
@@ -59,7 +58,7 @@ impl<R: Role> Desk<R> {
     pub fn state(&self, id: CycleId) -> StageName
         ensures { result ≡ stage_of (state_of R.SIDE self.now.facts id) }
     {
-        match find(&self.states, id) {
+        match self.find(&id) {
             Some(state) => stage(state),
             None => StageName::Collecting,
         }
@@ -78,16 +77,18 @@ impl<R: Role> Desk<R> {
     fn met_saved(&self, id: &CycleId) -> Option<&Matched>
         ensures { option_copied result ≡ met_saved_of R.SIDE self.now id.now }
     {
+        // Of legal facts a cycle that met is matched.
+        self.known();
         if self.lacks_saved_meeting(id) {
             return None;
         }
-        matched_in(find(&self.states, *id)?)
+        matched_in(self.find(id)?)
     }
 
     fn lacks_saved_meeting(&self, id: &CycleId) -> bool
         ensures { result ≡ nat_lt self.now.saved (number_of (is_meeting id.now) self.now.facts) }
     {
-        number_of_meeting(&self.facts, *id) > self.saved as usize
+        self.number_of_meeting(id) > self.saved
     }
 
     /// What the portfolio is told of the cycle: its confirmed rows, once a saved fact met the

@@ -14,8 +14,7 @@ use crate::desk::Desk;
 use crate::history::{record_contract, record_notice};
 use crate::ranges::fact_known;
 use crate::role::Role;
-use crate::stages::meet;
-use gi_cycles::{Collecting, CycleState};
+use crate::stages::{close, meet};
 use gi_facts::Fact;
 use gi_messages::Nomint;
 use gi_pairs::{CycleId, Table};
@@ -48,10 +47,9 @@ impl<R: Role> Desk<R> {
         ensures kept { OnErr result (self.new ≡ self.old) }
     {
         let own = self.processed(id)?;
-        self.states.reserve(1)?;
+        let number = self.len() + 1;
         self.facts.reserve(1)?;
-        self.states
-            .push_reserved(CycleState::Frozen(Collecting::new(*id).close(own)));
+        close(&mut self.stages, id, own, number)?;
         self.facts.push_reserved(Fact::Closed(*id));
         Ok(())
     }
@@ -67,8 +65,9 @@ impl<R: Role> Desk<R> {
             id: *id,
             peer: peer.copy()?,
         };
+        let number = self.len() + 1;
         self.facts.reserve(1)?;
-        meet(self.alloc, &mut self.states, id, peer)?;
+        meet(self.alloc, &mut self.stages, id, peer, number)?;
         self.facts.push_reserved(fact);
         Ok(())
     }

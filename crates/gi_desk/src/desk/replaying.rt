@@ -14,6 +14,7 @@ use gi_nominations::Book;
 use gi_pairs::Code;
 use gi_processing::Contracts;
 use std::alloc::Global;
+use std::collections::BTreeMap;
 use std::marker::PhantomData;
 
 impl<R: Role> Desk<R> {
@@ -28,7 +29,7 @@ impl<R: Role> Desk<R> {
             book: Book::new(alloc, point),
             contracts: Contracts::new(alloc),
             facts: Vec::new(alloc),
-            states: Vec::new(alloc),
+            stages: BTreeMap::new(alloc),
             saved: 0,
             halted: false,
             role: PhantomData,

@@ -4,10 +4,10 @@ use Rattle.gi_desk.proofs.desk.Desk.answer.Goals as goal
 
 pub overflow_cast-result : goal.overflow_cast-result
 overflow_cast-result g c =
-    let few = legal-few g.R.Role.SIDE c.self.inside.point c.self.inside.facts.items c.self.invariant.legal in
+    let few = legal-few g.R.Role.SIDE c.self.inside.point c.self.inside.facts.items c.self.invariant.stages.legal in
     grind (arith, few)
 
 pub overflow_add-result : goal.overflow_add-result
 overflow_add-result g c =
-    let few = legal-few g.R.Role.SIDE c.self.inside.point c.self.inside.facts.items c.self.invariant.legal in
+    let few = legal-few g.R.Role.SIDE c.self.inside.point c.self.inside.facts.items c.self.invariant.stages.legal in
     grind (arith, few)

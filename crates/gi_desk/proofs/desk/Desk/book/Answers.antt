@@ -1,11 +1,12 @@
-use Rattle.std.proofs.Common.{ap, ◌∙◌}
-use Rattle.gi_nominations.specs.Book.{Documents}
+use Rattle.std.proofs.Common.{◌∙◌, ap, subst}
 use Rattle.gi_desk.specs.History.{documents_of}
+use Rattle.gi_desk.specs.Kept.{HasInForce}
 use Rattle.gi_desk.specs.Machine.{DeskState}
 use Rattle.gi_desk.proofs.desk.Desk.book.Goals as goal
 
-abbrev documents_at : DeskState → Documents
-documents_at s = record { point = s.point; documents = documents_of s.facts }
+pub returns-clause-at : goal.returns-clause-at
+returns-clause-at g c = c.self.invariant.running.at ∙ ap (λ (s : DeskState). s.point) c.self.view_is
 
-pub returns : goal.returns
-returns g c = c.self.invariant.running.nominations ∙ ap documents_at c.self.view_is
+pub returns-clause-nominations : goal.returns-clause-nominations
+returns-clause-nominations g c =
+    subst (λ (s : DeskState). HasInForce c.self.inside.book.documents (documents_of s.facts)) c.self.view_is c.self.invariant.running.nominations

@@ -2,10 +2,8 @@ use Rattle.std.proofs.Common.{◌≡◌, ◌++◌, ◌∷◌, [], List, refl, sy
 use Rattle.gi_desk.specs.Machine.{DeskState}
 use Rattle.gi_facts.specs.declared.fact.Fact.{Fact}
 use Rattle.gi_facts.specs.declared.fact.Fact.TheVariants.{Contracted}
-use Rattle.gi_desk.proofs.Fitting.{states_fit-other}
-use Rattle.gi_desk.proofs.KeptLaws.{kept-more, running-contract}
-use Rattle.gi_desk.proofs.StageLaws.{states-other}
-use Rattle.gi_processing.specs.Capacity.{Capacity}
+use Rattle.gi_desk.proofs.KeptLaws.{kept-other, running-contract}
+use Rattle.gi_processing.proofs.ReadingLaws.{reads-refused}
 use Rattle.gi_processing.specs.Recording.{is_refused}
 use Rattle.gi_desk.specs.History.{capacity_of}
 use Rattle.gi_desk.proofs.Legality.{recorded-contract}
@@ -13,7 +11,8 @@ use Rattle.gi_desk.proofs.desk.Desk.contract.Goals as goal
 
 pub record_contract-requires : goal.record_contract-requires
 record_contract-requires g c =
-    ap (λ (all : Capacity). is_refused c.args.contract.now all.contracts) (c.self.invariant.running.capacity ∙ ap (λ (s : DeskState). capacity_of s.facts) c.self.view_is)
+    reads-refused c.self.inside.contracts (capacity_of c.self.inside.facts.items) c.self.invariant.running.capacity c.args.contract.now
+    ∙ ap (λ (s : DeskState). is_refused c.args.contract.now (capacity_of s.facts).contracts) c.self.view_is
     ∙ recorded-contract g.R.Role.SIDE c.args.self.now.point c.args.self.now.facts c.args.contract.now c.requires.recorded
 
 pub invariant_of-self-2 : goal.invariant_of-self-2
@@ -24,8 +23,6 @@ invariant_of-self-2 g c =
     let view = sym c.self.view_is in
     let added : c.push_reserved.new.self.items ≡ inside.facts.items ++ fact ∷ [] =
     c.push_reserved.ensures.items ∙ ap (λ (facts : List Fact). facts ++ fact ∷ []) c.in_ok-reserve.ensures.items in
-    kept-more side inside.point inside.facts.items inside.states.items inside.book inside.book inside.contracts c.record_contract.new.contracts inside.saved c.args.self.now fact c.push_reserved.new.self.items inside.states.items
-    c.self.invariant (ap (λ (s : DeskState). s.point) view) (ap (λ (s : DeskState). s.facts) view) c.requires.recorded c.requires.room
-    c.requires.fits (states_fit-other side inside.facts.items fact refl c.self.invariant.fits.states)
-    added (c.self.invariant.stages ∙ sym (states-other side inside.facts.items fact refl))
+    kept-other side inside.point inside.facts.items inside.stages.entries inside.book inside.book inside.contracts c.record_contract.new.contracts inside.saved c.args.self.now fact c.push_reserved.new.self.items
+    c.self.invariant refl (ap (λ (s : DeskState). s.point) view) (ap (λ (s : DeskState). s.facts) view) c.requires.recorded c.requires.room c.requires.fits added
     (running-contract inside.point inside.facts.items inside.book inside.contracts c.record_contract.new.contracts c.args.contract.now c.self.invariant.running c.in_ok-record_contract.ensures.added)

@@ -1,7 +1,5 @@
-use Rattle.std.proofs.Common.{◌≡◌, Some, None, sym, ap, ◌∙◌, subst}
+use Rattle.std.proofs.Common.{Some, None, sym, ap, ◌∙◌}
 use Rattle.std.specs.Option.{option_copied}
-use Rattle.gi_desk.specs.Kept.{states_of}
-use Rattle.gi_desk.specs.Machine.{DeskState, bad_fact}
 use Rattle.gi_desk.proofs.Told.{found_met, none_met}
 use Rattle.gi_desk.proofs.desk.Desk.met_saved.Goals as goal
 
@@ -12,16 +10,12 @@ pub returns-in_err-find : goal.returns-in_err-find
 returns-in_err-find g c =
     let side = g.R.Role.SIDE in
     let s = c.args.self.now in
-    let legal = subst (λ (s : DeskState). bad_fact side s.point s.facts ≡ None) c.self.view_is c.self.invariant.legal in
-    let states = c.deref.ensures.value ∙ c.self.invariant.stages ∙ ap (λ (s : DeskState). states_of side s.facts) c.self.view_is in
     ap option_copied c.from_residual.ensures
-    ∙ found_met side s c.args.id.now None legal c.if-lacks_saved_meeting.ensures (c.in_err-find.ensures side s.facts states)
+    ∙ found_met side s c.args.id.now None c.known.ensures.legal c.if-lacks_saved_meeting.ensures c.in_err-find.ensures
 
 pub returns : goal.returns
 returns g c =
     let side = g.R.Role.SIDE in
     let s = c.args.self.now in
-    let legal = subst (λ (s : DeskState). bad_fact side s.point s.facts ≡ None) c.self.view_is c.self.invariant.legal in
-    let states = c.deref.ensures.value ∙ c.self.invariant.stages ∙ ap (λ (s : DeskState). states_of side s.facts) c.self.view_is in
     c.matched_in.ensures
-    ∙ found_met side s c.args.id.now (Some c.in_ok-find.field-0.now) legal c.if-lacks_saved_meeting.ensures (c.in_ok-find.ensures side s.facts states)
+    ∙ found_met side s c.args.id.now (Some c.in_ok-find.field-0.now) c.known.ensures.legal c.if-lacks_saved_meeting.ensures c.in_ok-find.ensures

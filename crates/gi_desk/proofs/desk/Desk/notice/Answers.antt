@@ -2,9 +2,7 @@ use Rattle.std.proofs.Common.{◌≡◌, ◌++◌, ◌∷◌, [], List, refl, sy
 use Rattle.gi_desk.specs.Machine.{DeskState}
 use Rattle.gi_facts.specs.declared.fact.Fact.{Fact}
 use Rattle.gi_facts.specs.declared.fact.Fact.TheVariants.{Noticed}
-use Rattle.gi_desk.proofs.Fitting.{states_fit-other}
-use Rattle.gi_desk.proofs.KeptLaws.{kept-more, running-notice}
-use Rattle.gi_desk.proofs.StageLaws.{states-other}
+use Rattle.gi_desk.proofs.KeptLaws.{kept-other, running-notice}
 use Rattle.gi_desk.proofs.Legality.{recorded-notice}
 use Rattle.gi_desk.proofs.desk.Desk.notice.Goals as goal
 
@@ -19,8 +17,6 @@ invariant_of-self-2 g c =
     let view = sym c.self.view_is in
     let added : c.push_reserved.new.self.items ≡ inside.facts.items ++ fact ∷ [] =
     c.push_reserved.ensures.items ∙ ap (λ (facts : List Fact). facts ++ fact ∷ []) c.in_ok-reserve.ensures.items in
-    kept-more side inside.point inside.facts.items inside.states.items inside.book inside.book inside.contracts c.record_notice.new.contracts inside.saved c.args.self.now fact c.push_reserved.new.self.items inside.states.items
-    c.self.invariant (ap (λ (s : DeskState). s.point) view) (ap (λ (s : DeskState). s.facts) view) c.requires.recorded c.requires.room
-    c.requires.fits (states_fit-other side inside.facts.items fact refl c.self.invariant.fits.states)
-    added (c.self.invariant.stages ∙ sym (states-other side inside.facts.items fact refl))
+    kept-other side inside.point inside.facts.items inside.stages.entries inside.book inside.book inside.contracts c.record_notice.new.contracts inside.saved c.args.self.now fact c.push_reserved.new.self.items
+    c.self.invariant refl (ap (λ (s : DeskState). s.point) view) (ap (λ (s : DeskState). s.facts) view) c.requires.recorded c.requires.room c.requires.fits added
     (running-notice inside.point inside.facts.items inside.book inside.contracts c.record_notice.new.contracts c.args.notice.now c.self.invariant.running c.in_ok-record_notice.ensures.added)

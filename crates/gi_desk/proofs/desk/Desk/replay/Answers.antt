@@ -39,7 +39,7 @@ returns-in_err-record_again g c =
 
 pub overflow_cast-desk : goal.overflow_cast-desk
 overflow_cast-desk g c =
-    let few = legal-few g.R.Role.SIDE c.desk-2.inside.point c.desk-2.inside.facts.items c.desk-2.invariant.legal in
+    let few = legal-few g.R.Role.SIDE c.desk-2.inside.point c.desk-2.inside.facts.items c.desk-2.invariant.stages.legal in
     grind (arith, few)
 
 pub returns : goal.returns

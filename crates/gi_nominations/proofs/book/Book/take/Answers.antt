@@ -1,23 +1,32 @@
-use Rattle.std.proofs.Common.{◌≡◌, [], ◌∷◌, ◌++◌, OnOk, OnErr, ap, subst, ◌∙◌, rules}
-use Rattle.std.proofs.lemmas.Result.{on_ok_weaker}
-use Rattle.gi_nominations.specs.Book.{in_force, Rises}
-use Rattle.gi_nominations.proofs.BookLaws.{in_force-taken, in_force-others, rises-pushed}
+use Rattle.std.proofs.Common.{◌≡◌, subst, None, Result, Ok, Err, OnErr}
+use Rattle.std.specs.BTreeMap.{values}
+use Rattle.gi_nominations.specs.Book.{Documents, DocumentStands, in_force}
+use Rattle.gi_nominations.proofs.BookLaws.{stands-held, stands-others}
+use Rattle.gi_nominations.proofs.FiledLaws.{filed_inserted, none_before, stands}
 use Rattle.gi_nominations.proofs.book.Book.take.Goals as goal
 
+pub invariant_of-self-2 : goal.invariant_of-self-2
+invariant_of-self-2 c =
+    filed_inserted c.self.inside.documents.entries c.insert.new.self.entries c.of.result c.args.nomint c.of.ensures c.self.invariant c.in_ok-insert.ensures.entries c.in_ok-insert.ensures.ordered
+
+pub returns-clause-stands : goal.returns-clause-stands
+returns-clause-stands c =
+    subst (λ (book : Documents). DocumentStands book.documents (values c.insert.new.self) c.args.nomint) c.self.view_is
+    (stands c.self.inside.documents.entries c.insert.new.self.entries c.of.result c.args.nomint c.of.ensures c.self.invariant c.in_ok-insert.ensures.entries c.in_ok-insert.ensures.ordered c.in_ok-insert.ensures.updates.0)
+
 pub returns-clause-held : goal.returns-clause-held
-returns-clause-held c =
-    let taken : OnOk c.map_err.result (c.push.new.self.items ≡ c.args.self.now.documents ++ (c.args.nomint ∷ [])) = Prim.search rules in
-    let n = c.args.nomint in
-    on_ok_weaker c.map_err.result (λ e. ap (in_force n.portfolio n.day) e ∙ in_force-taken c.args.self.now.documents n) taken
+returns-clause-held c = stands-held c.args.self.now.documents (values c.insert.new.self) c.args.nomint (returns-clause-stands c)
 
 pub returns-clause-others : goal.returns-clause-others
-returns-clause-others c =
-    let taken : OnOk c.map_err.result (c.push.new.self.items ≡ c.args.self.now.documents ++ (c.args.nomint ∷ [])) = Prim.search rules in
-    on_ok_weaker c.map_err.result (λ e portfolio day other. ap (in_force portfolio day) e ∙ in_force-others portfolio day c.args.self.now.documents c.args.nomint other) taken
+returns-clause-others c = stands-others c.args.self.now.documents (values c.insert.new.self) c.args.nomint (returns-clause-stands c)
 
-pub invariant_of-self : goal.invariant_of-self
-invariant_of-self c =
-    let taken : OnOk c.map_err.result (c.push.new.self.items ≡ c.args.self.now.documents ++ (c.args.nomint ∷ [])) = Prim.search rules in
-    let kept : OnErr c.map_err.result (c.push.new.self.items ≡ c.args.self.now.documents) = Prim.search rules in
-    let before : Rises c.args.self.now.documents = subst (λ book. Rises book.documents) c.self.view_is c.self.invariant in
-    rises-pushed c.map_err.result c.args.self.now.documents c.push.new.self.items c.args.nomint taken kept before c.requires.newer
+on_err : {T E P : Type 0} (r : Result T E) → P → OnErr r P
+on_err (Ok x) p = tt
+on_err (Err e) p = p
+
+pub returns-in_err-insert-clause-absent : goal.returns-in_err-insert-clause-absent
+returns-in_err-insert-clause-absent c =
+    let n = c.args.nomint in
+    on_err _
+    (subst (λ (book : Documents). in_force n.portfolio n.day book.documents ≡ None) c.self.view_is
+    (none_before c.self.inside.documents.entries c.of.result n c.of.ensures c.self.invariant c.in_err-insert.ensures.absent))

@@ -5,5 +5,5 @@ pub invariant_of-self : goal.invariant_of-self
 invariant_of-self c =
     let old = c.args.self.now in
     record {
-      sound = sound_noticed c.notice.result old.contracts c.notice.new.self c.args.notice old.book.documents c.notice.ensures.added c.notice.ensures.kept old.sound;
+      sound = sound_noticed old.contracts c.notice.new.self old.book.documents c.notice.ensures.contracts old.sound;
     }

@@ -1,0 +1,80 @@
+//! What a desk's facts say, read from what it keeps beside them.
+
+ghost use Rattle.std.specs.Prelude.{◌≡◌};
+ghost use Rattle.std.specs.Option.{option_copied};
+ghost use Rattle.gi_processing.specs.Readings.{ReadsAs};
+ghost use Rattle.gi_desk.specs.History.{capacity_of, documents_of, is_closed as is_closed_in, is_closing, is_meeting, last_closed as last_closed_of, number_of};
+ghost use Rattle.gi_desk.specs.Kept.{HasInForce, closed_state};
+
+use crate::desk::Desk;
+use crate::role::Role;
+use gi_cycles::CycleState;
+use gi_day::GasDay;
+use gi_nominations::Book;
+use gi_pairs::CycleId;
+use gi_processing::Contracts;
+
+impl<R: Role> Desk<R> {
+    pub(super) fn contracts(&self) -> &Contracts
+        ensures { ReadsAs result.now (capacity_of self.now.facts) }
+    {
+        &self.contracts
+    }
+
+    pub(super) fn book(&self) -> &Book
+        ensures at { result.now.point ≡ self.now.point }
+        ensures nominations { HasInForce result.now.documents (documents_of self.now.facts) }
+    {
+        &self.book
+    }
+
+    pub(super) fn find(&self, id: &CycleId) -> Option<&CycleState>
+        ensures { option_copied result ≡ closed_state R.SIDE self.now.facts id.now }
+    {
+        match self.stages.get(id) {
+            Some(stage) => Some(&stage.state),
+            None => None,
+        }
+    }
+
+    pub(super) fn is_closed(&self, id: &CycleId) -> bool
+        ensures { result ≡ is_closed_in id.now self.now.facts }
+    {
+        self.stages.contains_key(id)
+    }
+
+    pub(super) fn last_closed(&self, day: GasDay) -> Option<u8>
+        ensures { result ≡ last_closed_of day self.now.facts }
+    {
+        let first = CycleId { day, cycle: 0 };
+        let last = CycleId {
+            day,
+            cycle: u8::MAX,
+        };
+        // The closings of a day only rise, so the last one has its greatest number.
+        match self.stages.range(first..=last).next_back() {
+            Some((id, _)) => Some(id.cycle),
+            None => None,
+        }
+    }
+
+    pub(super) fn number_of_closing(&self, id: &CycleId) -> u32
+        ensures { result ≡ number_of (is_closing id.now) self.now.facts }
+    {
+        let beyond = self.facts.len() as u32 + 1;
+        match self.stages.get(id) {
+            Some(stage) => stage.closing,
+            None => beyond,
+        }
+    }
+
+    pub(super) fn number_of_meeting(&self, id: &CycleId) -> u32
+        ensures { result ≡ number_of (is_meeting id.now) self.now.facts }
+    {
+        let beyond = self.facts.len() as u32 + 1;
+        match self.stages.get(id) {
+            Some(stage) => stage.meeting.unwrap_or(beyond),
+            None => beyond,
+        }
+    }
+}
