@@ -1,4 +1,4 @@
 pub mod BookLaws
-mod FiledLaws
+pub mod FiledLaws
 pub mod JudgingLaws
 pub mod LinesLaws

@@ -11,5 +11,6 @@ mod verdict;
 pub use book::Book;
 pub use judging::MOST_LINES;
 pub use nomination_fault::NominationFault;
+pub use portfolio_day::PortfolioDay;
 pub use setting::Setting;
 pub use verdict::Verdict;

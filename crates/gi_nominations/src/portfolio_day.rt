@@ -8,14 +8,16 @@ use gi_pairs::Code;
 /// What a nomination is for: a portfolio and a gas day, ordered by the portfolio's code, then by
 /// the day.
 #[derive(Clone, Copy, Debug, PartialEq, Eq, PartialOrd, Ord)]
-pub(crate) struct PortfolioDay {
+pub struct PortfolioDay {
+    /// The portfolio.
     pub portfolio: Code,
+    /// The gas day.
     pub day: GasDay,
 }
 
 impl PortfolioDay {
     /// What the nomination is for.
-    pub(crate) fn of(nomint: &Nomint) -> PortfolioDay
+    pub fn of(nomint: &Nomint) -> PortfolioDay
         ensures { result ≡ portfolio_day_of nomint.now }
     {
         PortfolioDay {
