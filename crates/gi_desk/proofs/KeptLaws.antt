@@ -10,6 +10,7 @@ use Rattle.gi_pairs.specs.declared.side.Side.{Side}
 use Rattle.gi_messages.specs.declared.message.Nomint.{Nomint}
 use Rattle.gi_processing.specs.Capacity.{Capacity}
 use Rattle.gi_nominations.specs.Book.{Documents, DocumentStands, in_force}
+use Rattle.gi_nominations.specs.declared.portfolio_day.PortfolioDay.{PortfolioDay}
 use Rattle.gi_nominations.proofs.BookLaws.{in_force-agrees}
 use Rattle.gi_processing.specs.Readings.{ReadsAs, RecordsContract, RecordsNotice}
 use Rattle.gi_processing.specs.Recording.{with_contract, with_notice}
@@ -23,6 +24,7 @@ use Rattle.gi_desk.specs.DeskKept.{IsKept, IsRunning}
 use Rattle.gi_desk.specs.Kept.{HasInForce, changes_cycle, states_of}
 use Rattle.gi_desk.specs.Machine.{DeskState, bad_fact, most_facts, would_record}
 use Rattle.gi_desk.specs.Stages.{AreStages, closed_stage, stage_in}
+use Rattle.gi_desk.specs.Takings.{AreTakings}
 use Rattle.gi_desk.specs.declared.stage.Stage.{Stage}
 use Rattle.gi_desk.specs.Writable.{FitsDesk, FitsState}
 use Rattle.gi_facts.specs.Writable.{FitsCycle, FitsFact, FitsProcessed}
@@ -30,9 +32,10 @@ use Rattle.gi_facts.specs.declared.fact.Fact.{Fact}
 use Rattle.gi_facts.specs.declared.fact.Fact.TheVariants.{Closed, Contracted, Met, Nominated, Noticed}
 use Rattle.gi_desk.proofs.CycleLaws.{recorded-below}
 use Rattle.gi_desk.proofs.Fitting.{fits-more, fits-none, states_fit-closed, states_fit-met, states_fit-other}
-use Rattle.gi_desk.proofs.HistoryLaws.{capacity_more, documents_more}
+use Rattle.gi_desk.proofs.HistoryLaws.{capacity_more, documents_more, no_document}
 use Rattle.gi_desk.proofs.Legality.{legal-more, legal-sound}
 use Rattle.gi_desk.proofs.StagesKept.{stages-other}
+use Rattle.gi_desk.proofs.TakingLaws.{legal-rising, takings-none, takings-other}
 
 -- ---- the book and the contracts with what one more fact records
 
@@ -109,12 +112,17 @@ running-met point old book contracts id peer running =
     running-read point old (old ++ Met id peer ∷ []) book contracts contracts running (same_documents old (Met id peer) refl)
     (subst (ReadsAs contracts) (sym (same_capacity old (Met id peer) refl)) running.capacity)
 
+-- the numbers of takings with one more fact that takes no nomination
+pub takings-same : (side : Side) (point : List ℕ) (old : List Fact) (fact : Fact) (takings : List (PortfolioDay × ℕ)) → ((document : Nomint) → fact ≡ Nominated document → ⊥) → bad_fact side point old ≡ None
+    → AreTakings old takings → AreTakings (old ++ fact ∷ []) takings
+takings-same side point old fact takings other legal = takings-other old fact takings (no_document fact other) (legal-rising side point old legal)
+
 -- a desk without facts
-pub kept-none : (side : Side) (point : List ℕ) (facts : List Fact) (entries : List (CycleId × Stage)) (book : Documents) (contracts : Capacity)
+pub kept-none : (side : Side) (point : List ℕ) (facts : List Fact) (entries : List (CycleId × Stage)) (book : Documents) (contracts : Capacity) (takings : List (PortfolioDay × ℕ))
     → IsCode point → facts ≡ [] → entries ≡ [] → book ≡ record { point = point; documents = [] } → contracts ≡ record { contracts = []; notices = [] }
-    → IsKept side point facts entries book contracts 0
+    → IsKept side point facts entries book contracts takings 0
 unfolding bad_fact is_closed capacity_of documents_of
-kept-none side point facts entries book contracts code none no_stage no_document no_contract = record {
+kept-none side point facts entries book contracts takings code none no_stage no_document no_contract = record {
   stages = record {
     legal = ap (bad_fact side point) none;
     at = λ id. ap (λ (es : List (CycleId × Stage)). stage_in es id) no_stage ∙ ap (λ (fs : List Fact). closed_stage side fs id) (sym none);
@@ -124,6 +132,7 @@ kept-none side point facts entries book contracts code none no_stage no_document
     nominations = λ portfolio day. (λ t. in_force portfolio day (no_document t).documents) ∙ (λ t. in_force portfolio day (documents_of (sym none t)));
     capacity = subst (λ (c : Capacity). ReadsAs contracts c) (no_contract ∙ ap capacity_of (sym none)) (reads-self contracts);
   };
+  numbers = takings-none facts takings none;
   within = omega arith;
   fits = subst (λ (all : List Fact). FitsDesk side point all) (sym none) (fits-none side point code);
 }
@@ -136,16 +145,17 @@ kept-legal side point old s fact legal point_is facts_is recorded room =
     (subst (λ (facts : List Fact). length facts < most_facts) facts_is room)
 
 -- and with the stages that belong to it, where all states can be written, what is kept stays so
-pub kept-more : (side : Side) (point : List ℕ) (old : List Fact) (entries : List (CycleId × Stage)) (book new_book : Documents) (contracts new_contracts : Capacity) (saved : ℕ) (fact : Fact) (new : List Fact) (later : List (CycleId × Stage))
-    → IsKept side point old entries book contracts saved → FitsFact fact → All FitsState (states_of side (old ++ fact ∷ []))
-    → new ≡ old ++ fact ∷ [] → AreStages side point (old ++ fact ∷ []) later → IsRunning point (old ++ fact ∷ []) new_book new_contracts → IsKept side point new later new_book new_contracts saved
-kept-more side point old entries book new_book contracts new_contracts saved fact new later kept fits all_fit new_is stages running =
+pub kept-more : (side : Side) (point : List ℕ) (old : List Fact) (entries : List (CycleId × Stage)) (book new_book : Documents) (contracts new_contracts : Capacity) (takings new_takings : List (PortfolioDay × ℕ)) (saved : ℕ) (fact : Fact) (new : List Fact) (later : List (CycleId × Stage))
+    → IsKept side point old entries book contracts takings saved → FitsFact fact → All FitsState (states_of side (old ++ fact ∷ []))
+    → new ≡ old ++ fact ∷ [] → AreStages side point (old ++ fact ∷ []) later → IsRunning point (old ++ fact ∷ []) new_book new_contracts → AreTakings (old ++ fact ∷ []) new_takings → IsKept side point new later new_book new_contracts new_takings saved
+kept-more side point old entries book new_book contracts new_contracts takings new_takings saved fact new later kept fits all_fit new_is stages running numbers =
     let longer : length (old ++ fact ∷ []) ≡ length old + 1 = length-append old (fact ∷ []) in
     let within = kept.within in
-    subst (λ (facts : List Fact). IsKept side point facts later new_book new_contracts saved) (sym new_is)
+    subst (λ (facts : List Fact). IsKept side point facts later new_book new_contracts new_takings saved) (sym new_is)
     (record {
       stages = stages;
       running = running;
+      numbers = numbers;
       within = omega (arith, longer, within);
       fits = fits-more side point old fact kept.fits fits all_fit;
     })
@@ -163,26 +173,26 @@ pub recorded-cycle : (side : Side) (s : DeskState) (id : CycleId) → would_reco
 recorded-cycle side s id e = below_is_cycle id.day id.cycle (recorded-below side s.point s.facts id e)
 
 -- one more fact that changes no cycle
-pub kept-other : (side : Side) (point : List ℕ) (old : List Fact) (entries : List (CycleId × Stage)) (book new_book : Documents) (contracts new_contracts : Capacity) (saved : ℕ) (s : DeskState) (fact : Fact) (new : List Fact)
-    → IsKept side point old entries book contracts saved → changes_cycle fact ≡ false → s.point ≡ point → s.facts ≡ old → would_record side s.point s.facts fact ≡ true → length s.facts < most_facts → FitsFact fact
-    → new ≡ old ++ fact ∷ [] → IsRunning point (old ++ fact ∷ []) new_book new_contracts → IsKept side point new entries new_book new_contracts saved
-kept-other side point old entries book new_book contracts new_contracts saved s fact new kept other point_is facts_is recorded room fits new_is running =
+pub kept-other : (side : Side) (point : List ℕ) (old : List Fact) (entries : List (CycleId × Stage)) (book new_book : Documents) (contracts new_contracts : Capacity) (takings new_takings : List (PortfolioDay × ℕ)) (saved : ℕ) (s : DeskState) (fact : Fact) (new : List Fact)
+    → IsKept side point old entries book contracts takings saved → changes_cycle fact ≡ false → s.point ≡ point → s.facts ≡ old → would_record side s.point s.facts fact ≡ true → length s.facts < most_facts → FitsFact fact
+    → new ≡ old ++ fact ∷ [] → IsRunning point (old ++ fact ∷ []) new_book new_contracts → AreTakings (old ++ fact ∷ []) new_takings → IsKept side point new entries new_book new_contracts new_takings saved
+kept-other side point old entries book new_book contracts new_contracts takings new_takings saved s fact new kept other point_is facts_is recorded room fits new_is running numbers =
     let legal = kept-legal side point old s fact kept.stages.legal point_is facts_is recorded room in
-    kept-more side point old entries book new_book contracts new_contracts saved fact new entries kept fits (states_fit-other side old fact other kept.fits.states) new_is
-    (stages-other side point old fact entries other legal kept.stages) running
+    kept-more side point old entries book new_book contracts new_contracts takings new_takings saved fact new entries kept fits (states_fit-other side old fact other kept.fits.states) new_is
+    (stages-other side point old fact entries other legal kept.stages) running numbers
 
 -- one more closing
-pub kept-closed : (side : Side) (point : List ℕ) (old : List Fact) (entries : List (CycleId × Stage)) (book : Documents) (contracts : Capacity) (saved : ℕ) (id : CycleId) (new : List Fact) (later : List (CycleId × Stage))
-    → IsKept side point old entries book contracts saved → FitsCycle id → FitsProcessed (processed (capacity_of old) (documents_of old) side id.day id.cycle)
-    → new ≡ old ++ Closed id ∷ [] → AreStages side point (old ++ Closed id ∷ []) later → IsKept side point new later book contracts saved
-kept-closed side point old entries book contracts saved id new later kept fits own_fits new_is stages =
-    kept-more side point old entries book book contracts contracts saved (Closed id) new later kept fits (states_fit-closed side point old id stages.legal kept.fits.states fits own_fits) new_is stages
-    (running-closed point old book contracts id kept.running)
+pub kept-closed : (side : Side) (point : List ℕ) (old : List Fact) (entries : List (CycleId × Stage)) (book : Documents) (contracts : Capacity) (takings : List (PortfolioDay × ℕ)) (saved : ℕ) (id : CycleId) (new : List Fact) (later : List (CycleId × Stage))
+    → IsKept side point old entries book contracts takings saved → FitsCycle id → FitsProcessed (processed (capacity_of old) (documents_of old) side id.day id.cycle)
+    → new ≡ old ++ Closed id ∷ [] → AreStages side point (old ++ Closed id ∷ []) later → IsKept side point new later book contracts takings saved
+kept-closed side point old entries book contracts takings saved id new later kept fits own_fits new_is stages =
+    kept-more side point old entries book book contracts contracts takings takings saved (Closed id) new later kept fits (states_fit-closed side point old id stages.legal kept.fits.states fits own_fits) new_is stages
+    (running-closed point old book contracts id kept.running) (takings-same side point old (Closed id) takings (λ document e. absurd cc) kept.stages.legal kept.numbers)
 
 -- one more meeting
-pub kept-met : (side : Side) (point : List ℕ) (old : List Fact) (entries : List (CycleId × Stage)) (book : Documents) (contracts : Capacity) (saved : ℕ) (id : CycleId) (peer : TableContents) (new : List Fact) (later : List (CycleId × Stage))
-    → IsKept side point old entries book contracts saved → FitsFact (Met id peer) → new ≡ old ++ Met id peer ∷ [] → AreStages side point (old ++ Met id peer ∷ []) later
-    → IsKept side point new later book contracts saved
-kept-met side point old entries book contracts saved id peer new later kept fits new_is stages =
-    kept-more side point old entries book book contracts contracts saved (Met id peer) new later kept fits (states_fit-met side point old id peer stages.legal kept.fits.states fits) new_is stages
-    (running-met point old book contracts id peer kept.running)
+pub kept-met : (side : Side) (point : List ℕ) (old : List Fact) (entries : List (CycleId × Stage)) (book : Documents) (contracts : Capacity) (takings : List (PortfolioDay × ℕ)) (saved : ℕ) (id : CycleId) (peer : TableContents) (new : List Fact) (later : List (CycleId × Stage))
+    → IsKept side point old entries book contracts takings saved → FitsFact (Met id peer) → new ≡ old ++ Met id peer ∷ [] → AreStages side point (old ++ Met id peer ∷ []) later
+    → IsKept side point new later book contracts takings saved
+kept-met side point old entries book contracts takings saved id peer new later kept fits new_is stages =
+    kept-more side point old entries book book contracts contracts takings takings saved (Met id peer) new later kept fits (states_fit-met side point old id peer stages.legal kept.fits.states fits) new_is stages
+    (running-met point old book contracts id peer kept.running) (takings-same side point old (Met id peer) takings (λ document e. absurd cc) kept.stages.legal kept.numbers)

@@ -19,4 +19,5 @@ mod StagesKept
 pub mod StateLaws
 pub mod StepFacts
 pub mod StepLaws
+mod TakingLaws
 mod Told

@@ -87,7 +87,7 @@ pub number_of-more : (is : Fact → Bool) (facts more : List Fact) → list_any 
 unfolding number_of
 number_of-more is facts more any = ap (λ (fs : List Fact). length fs + 1) (facts_before-more is facts more any)
 
-number_of-last : (is : Fact → Bool) (facts : List Fact) (last : Fact) → list_any is facts ≡ false → is last ≡ true → number_of is (facts ++ last ∷ []) ≡ length facts + 1
+pub number_of-last : (is : Fact → Bool) (facts : List Fact) (last : Fact) → list_any is facts ≡ false → is last ≡ true → number_of is (facts ++ last ∷ []) ≡ length facts + 1
 unfolding number_of facts_before
 number_of-last is facts last none here = ap (λ (fs : List Fact). length fs + 1) (all_before is facts last none here)
 

@@ -48,7 +48,7 @@ any_by : {X : Type 0} (test : X → Bool) (b : Bool) (xs ys : List X) → (list_
 any_by test true xs ys rest any = refl
 any_by test false xs ys rest any = rest any
 
-any-more : {X : Type 0} (test : X → Bool) (xs ys : List X) → list_any test xs ≡ true → list_any test (xs ++ ys) ≡ true
+pub any-more : {X : Type 0} (test : X → Bool) (xs ys : List X) → list_any test xs ≡ true → list_any test (xs ++ ys) ≡ true
 any-more test [] ys any = absurd cc
 any-more test (x ∷ xs) ys any = any_by test (test x) xs ys (any-more test xs ys) any
 

@@ -3,11 +3,13 @@ use Rattle.std.specs.Prelude.{◌≡◌, ◌≤◌, ℕ, List, length}
 use Rattle.gi_pairs.specs.declared.cycle_id.CycleId.{CycleId}
 use Rattle.gi_pairs.specs.declared.side.Side.{Side}
 use Rattle.gi_nominations.specs.Book.{Documents}
+use Rattle.gi_nominations.specs.declared.portfolio_day.PortfolioDay.{PortfolioDay}
 use Rattle.gi_processing.specs.Capacity.{Capacity}
 use Rattle.gi_processing.specs.Readings.{ReadsAs}
 use Rattle.gi_desk.specs.History.{capacity_of, documents_of}
 use Rattle.gi_desk.specs.Kept.{HasInForce}
 use Rattle.gi_desk.specs.Stages.{AreStages}
+use Rattle.gi_desk.specs.Takings.{AreTakings}
 use Rattle.gi_desk.specs.Writable.{FitsDesk}
 use Rattle.gi_desk.specs.declared.stage.Stage.{Stage}
 use Rattle.gi_facts.specs.declared.fact.Fact.{Fact}
@@ -19,8 +21,9 @@ pub record IsRunning (point : List ℕ) (facts : List Fact) (book : Documents) (
   pub capacity : ReadsAs contracts (capacity_of facts)
 
 -- each fact is one that it would record after those before it, and all of it can be written
-pub record IsKept (side : Side) (point : List ℕ) (facts : List Fact) (entries : List (CycleId × Stage)) (book : Documents) (contracts : Capacity) (saved : ℕ) : Type 0 where
+pub record IsKept (side : Side) (point : List ℕ) (facts : List Fact) (entries : List (CycleId × Stage)) (book : Documents) (contracts : Capacity) (takings : List (PortfolioDay × ℕ)) (saved : ℕ) : Type 0 where
   pub stages : AreStages side point facts entries
   pub running : IsRunning point facts book contracts
+  pub numbers : AreTakings facts takings
   pub within : saved ≤ length facts
   pub fits : FitsDesk side point facts

@@ -3,7 +3,9 @@ use Rattle.std.specs.Prelude.{◌≡◌, ℕ, ◌+◌, ◌≤◌, List, [], ◌�
 use Rattle.gi_pairs.specs.Table.{TableContents}
 use Rattle.gi_pairs.specs.declared.cycle_id.CycleId.{CycleId}
 use Rattle.gi_pairs.specs.declared.side.Side.{Side}
-use Rattle.gi_desk.specs.History.{frozen_table, is_closed, peer_of, state_of}
+use Rattle.gi_messages.specs.declared.message.Nomint.{Nomint}
+use Rattle.gi_nominations.specs.Book.{in_force}
+use Rattle.gi_desk.specs.History.{documents_of, frozen_table, is_closed, peer_of, state_of}
 use Rattle.gi_desk.specs.Kept.{changes_cycle}
 use Rattle.gi_desk.specs.LetOut.{let_out, packets_of}
 use Rattle.gi_desk.specs.Machine.{DeskState, after as state_after, bad_fact, comes_to, is_for_peer, reply, started_again, would_record}
@@ -13,7 +15,7 @@ use Rattle.gi_facts.specs.Writable.{FitsFact}
 use Rattle.gi_desk.specs.declared.reply.Answer.TheVariants as answers
 use Rattle.gi_desk.specs.declared.call.Call.{Call}
 use Rattle.gi_facts.specs.declared.fact.Fact.{Fact}
-use Rattle.gi_facts.specs.declared.fact.Fact.TheVariants.{Closed, Met}
+use Rattle.gi_facts.specs.declared.fact.Fact.TheVariants.{Closed, Met, Nominated}
 use Rattle.gi_desk.specs.declared.outcome.Outcome.TheVariants.{Records}
 use Rattle.gi_desk.specs.declared.packet.Packet.{Packet}
 use Rattle.gi_desk.specs.declared.refusal.Refusal.{Refusal}
@@ -45,6 +47,13 @@ MeetsOnce =
     (side : Side) (point : List ℕ) (before after : List Fact) (id : CycleId) (peer : TableContents)
     → bad_fact side point (before ++ Met id peer ∷ after) ≡ None
     → (is_closed id before ≡ true) × (peer_of id before ≡ None) × (peer_of id after ≡ None)
+
+-- Of facts that a desk would record in turn, the nomination in force has the highest version of all that were taken of its
+-- portfolio and gas day.
+abbrev pub KeepsTheHighestVersion : Type 0
+KeepsTheHighestVersion =
+    (side : Side) (point : List ℕ) (before after : List Fact) (document held : Nomint) → bad_fact side point (before ++ Nominated document ∷ after) ≡ None
+    → in_force document.portfolio document.day (documents_of (before ++ Nominated document ∷ after)) ≡ Some held → document.version ≤ held.version
 
 -- the new facts are the old ones, or those with one more at the end
 abbrev pub HasOneMoreAtMost : List Fact → List Fact → Type 0

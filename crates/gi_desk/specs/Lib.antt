@@ -8,6 +8,7 @@ pub mod Kept
 pub mod Queries
 pub mod Writable
 pub mod Stages
+pub mod Takings
 pub mod DeskKept
 pub mod FaultText
 pub mod Laws

@@ -14,7 +14,7 @@ use crate::role::Role;
 use crate::stage::Stage;
 use gi_day::Calendar;
 use gi_facts::Fact;
-use gi_nominations::Book;
+use gi_nominations::{Book, PortfolioDay};
 use gi_pairs::{Code, CycleId};
 use gi_processing::Contracts;
 use std::alloc::Global;
@@ -32,6 +32,8 @@ pub struct Desk<R: Role> {
     book: Book,
     /// The contracts that stand by them, and what the notices leave.
     contracts: Contracts,
+    /// The number of the fact that took each nomination in force.
+    takings: BTreeMap<PortfolioDay, u32>,
     /// How far each closed cycle is.
     stages: BTreeMap<CycleId, Stage>,
     /// How many facts stand on the store.
@@ -48,7 +50,7 @@ impl<R: Role> Model for Desk<R> {
 
     ghost view = { λ d. record { point = d.point; facts = d.facts.items; saved = d.saved; halted = d.halted } };
 
-    ghost invariant = { λ d. IsKept R.SIDE d.point d.facts.items d.stages.entries d.book d.contracts d.saved };
+    ghost invariant = { λ d. IsKept R.SIDE d.point d.facts.items d.stages.entries d.book d.contracts d.takings.entries d.saved };
 }
 
 impl<R: Role> Desk<R> {

@@ -1,8 +1,8 @@
-//! What each call comes to, by the facts of a desk.
+//! What calls come to, as far as that does not take the whole desk.
 
 ghost use Rattle.std.specs.Prelude.{◌≡◌, ◌≤◌, ◌&&◌, ◌↔◌, IfSome, IsTrue, List, Some, length, nat_le};
 ghost use Rattle.gi_desk.specs.History.{capacity_of};
-ghost use Rattle.gi_desk.specs.Judging.{by_decision, by_verdict as by_verdict_of, contracted as contracted_of, if_same as if_same_fact, marked as marked_of, noticed as noticed_of};
+ghost use Rattle.gi_desk.specs.Judging.{by_decision, contracted as contracted_of, if_same as if_same_fact, marked as marked_of, noticed as noticed_of};
 ghost use Rattle.gi_processing.specs.Readings.{ReadsAs};
 ghost use Rattle.gi_pairs.specs.Limits.{most_processed_rows};
 ghost use Rattle.gi_pairs.specs.declared.cycle_id.CycleId.{CycleId};
@@ -13,14 +13,12 @@ ghost use Rattle.gi_desk.specs.declared.refusal.Refusal.TheVariants.{OutOfMemory
 ghost use Rattle.gi_desk.specs.Machine.{is_record as is_record_of, most_facts, unless_full as unless_full_of};
 
 use crate::decision::Decision;
-use crate::history::number_of_taking;
 use crate::outcome::Outcome;
 use crate::refusal::Refusal;
 use gi_cycles::CycleState;
 use gi_day::Calendar;
 use gi_facts::Fact;
-use gi_messages::{Message, Nomint};
-use gi_nominations::Verdict;
+use gi_messages::Message;
 use gi_pairs::{Code, CycleId, MOST_PROCESSED_ROWS, Side, Table};
 use gi_processing::{Contract, Contracts, Notice, NoticeFault};
 
@@ -45,19 +43,6 @@ pub(crate) fn noticed(calendar: &Calendar, notice: &Notice) -> Outcome
         Some(NoticeFault::NoticeRange) => Outcome::Refuses(Refusal::NoticeRange),
         Some(NoticeFault::PermilleRange) => Outcome::Refuses(Refusal::PermilleRange),
         Some(NoticeFault::OutOfMemory) => Outcome::Refuses(Refusal::OutOfMemory),
-    }
-}
-
-pub(crate) fn by_verdict(facts: &[Fact], document: Nomint, verdict: Verdict) -> Outcome
-    requires { length facts.now ≤ most_facts }
-    ensures { result ≡ by_verdict_of facts.now document verdict }
-{
-    match verdict {
-        Verdict::Recordable => Outcome::Records(Fact::Nominated(document)),
-        Verdict::Repeat => Outcome::RepeatsNomination {
-            n: number_of_taking(facts, &document) as u32,
-        },
-        Verdict::Refused(fault) => Outcome::Refuses(Refusal::Nomination(fault)),
     }
 }
 

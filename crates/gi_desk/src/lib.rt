@@ -2,7 +2,8 @@
 //!
 //! A desk reads no file, no clock and no message by itself. It takes one [`Call`] after the other
 //! ([`Desk::step`]) and gives a [`Reply`] to each: an [`Answer`], and the packets that may leave
-//! now. What it knows is a list of facts, of which the first so many are saved:
+//! now. What it knows is a list of facts, of which the first so many are saved, and beside it what
+//! they come to:
 //!
 //! ```text
 //!             call
@@ -76,9 +77,9 @@ pub use gi_facts::{Fact, FactFault, decode_fact, encode_fact};
 pub use judging::MOST_FACTS;
 pub use laws::{
     closes_once, confirms_for_good, confirms_through_restarts, freezes_for_good, fronts_are_legal,
-    lets_out_for_good, matches_for_good, meets_once, only_appends, orders_only_of_cycles,
-    records_what_calls_record, refusals_change_nothing, says_only_what_is_saved, stays_legal,
-    writes_messages,
+    keeps_the_highest_version, lets_out_for_good, matches_for_good, meets_once, only_appends,
+    orders_only_of_cycles, records_what_calls_record, refusals_change_nothing,
+    says_only_what_is_saved, stays_legal, writes_messages,
 };
 pub use outcome::Outcome;
 pub use packet::{Body, Packet, Packets, Recipient};

@@ -12,7 +12,7 @@ use Rattle.gi_processing.specs.CapacityLimits.{most_permille}
 use Rattle.gi_processing.specs.declared.contract.Contract.{Contract}
 use Rattle.gi_processing.specs.declared.notice.Notice.{Notice}
 
--- what is recorded, each in the order in which it came
+-- contracts and notices, each list read from its end: all that is recorded, or what is kept of that
 pub record Capacity : Type 0 where
   pub contracts : List Contract
   pub notices : List Notice

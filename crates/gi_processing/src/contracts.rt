@@ -174,7 +174,8 @@ impl Contracts {
         }
     }
 
-    /// Whether a contract of the portfolio for the day, in either direction, is recorded.
+    /// Whether a contract of the portfolio stands for the day, in either direction. It is two look-ups
+    /// at most.
     #[tactic(auto, unfolding(crate::specs::Capacity::knows))]
     pub fn knows(&self, portfolio: Code, day: GasDay) -> bool
         ensures { result ≡ knows_of portfolio day self.now.contracts }

@@ -13,7 +13,7 @@ use crate::call::Call;
 use crate::decision::Decision;
 use crate::desk::Desk;
 use crate::judging::{
-    addressed, by_verdict, can_meet, contracted, is_record, is_short, marked, noticed, unless_full,
+    addressed, can_meet, contracted, is_record, is_short, marked, noticed, unless_full,
 };
 use crate::outcome::Outcome;
 use crate::refusal::Refusal;
@@ -40,8 +40,13 @@ impl<R: Role> Desk<R> {
     fn nominated(&self, document: Nomint) -> Outcome
         ensures { result ≡ nominated_of self.now.point self.now.facts document }
     {
-        let verdict = self.verdict(&document);
-        by_verdict(&self.facts, document, verdict)
+        match self.verdict(&document) {
+            Verdict::Recordable => Outcome::Records(Fact::Nominated(document)),
+            Verdict::Repeat => Outcome::RepeatsNomination {
+                n: self.number_of_taking(&document),
+            },
+            Verdict::Refused(fault) => Outcome::Refuses(Refusal::Nomination(fault)),
+        }
     }
 
     fn submitted(&self, bytes: &[u8]) -> Result<Outcome, AllocError>

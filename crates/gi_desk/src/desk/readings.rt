@@ -3,14 +3,17 @@
 ghost use Rattle.std.specs.Prelude.{◌≡◌};
 ghost use Rattle.std.specs.Option.{option_copied};
 ghost use Rattle.gi_processing.specs.Readings.{ReadsAs};
-ghost use Rattle.gi_desk.specs.History.{capacity_of, documents_of, is_closed as is_closed_in, is_closing, is_meeting, last_closed as last_closed_of, number_of};
+ghost use Rattle.gi_desk.specs.History.{capacity_of, documents_of, is_closed as is_closed_in, is_closing, is_meeting, is_taking, last_closed as last_closed_of, number_of};
+ghost use Rattle.gi_nominations.specs.declared.verdict.Verdict.TheVariants.{Repeat};
+ghost use Rattle.gi_desk.specs.Judging.{verdict_on};
 ghost use Rattle.gi_desk.specs.Kept.{HasInForce, closed_state};
 
 use crate::desk::Desk;
 use crate::role::Role;
 use gi_cycles::CycleState;
 use gi_day::GasDay;
-use gi_nominations::Book;
+use gi_messages::Nomint;
+use gi_nominations::{Book, PortfolioDay};
 use gi_pairs::CycleId;
 use gi_processing::Contracts;
 
@@ -76,5 +79,15 @@ impl<R: Role> Desk<R> {
             Some(stage) => stage.meeting.unwrap_or(beyond),
             None => beyond,
         }
+    }
+
+    pub(super) fn number_of_taking(&self, document: &Nomint) -> u32
+        requires { verdict_on self.now.point self.now.facts document.now ≡ Repeat }
+        ensures { result ≡ number_of (is_taking document.now) self.now.facts }
+    {
+        let Some(number) = self.takings.get(&PortfolioDay::of(document)) else {
+            unreachable!()
+        };
+        *number
     }
 }

@@ -1,4 +1,5 @@
-//! How a fact is recorded: what belongs together is grown before any of it is changed.
+//! How a fact is recorded: room for it is taken, what is kept beside the facts is changed or reads
+//! as it did, and then the fact is put behind the others.
 
 ghost use Rattle.std.specs.Prelude.{◌≡◌, ◌<◌, ◌≤◌, ◌++◌, ◌∷◌, [], IfOk, OnErr, OnOk, length, true};
 ghost use Rattle.gi_day.specs.Cycles.{IsCycle};
@@ -17,6 +18,7 @@ use crate::role::Role;
 use crate::stages::{close, meet};
 use gi_facts::Fact;
 use gi_messages::Nomint;
+use gi_nominations::PortfolioDay;
 use gi_pairs::{CycleId, Table};
 use gi_processing::{Contract, Notice, processed};
 use std::alloc::AllocError;
@@ -106,7 +108,10 @@ impl<R: Role> Desk<R> {
         ensures kept { OnErr result (self.new ≡ self.old) }
     {
         let taken = document.copy()?;
+        let number = self.len() + 1;
         self.facts.reserve(1)?;
+        // Where the book has no room then, no nomination is in force that this number could be of.
+        self.takings.insert(PortfolioDay::of(&document), number)?;
         self.book.take(taken)?;
         self.facts.push_reserved(Fact::Nominated(document));
         Ok(())

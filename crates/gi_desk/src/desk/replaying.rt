@@ -29,6 +29,7 @@ impl<R: Role> Desk<R> {
             book: Book::new(alloc, point),
             contracts: Contracts::new(alloc),
             facts: Vec::new(alloc),
+            takings: BTreeMap::new(alloc),
             stages: BTreeMap::new(alloc),
             saved: 0,
             halted: false,

@@ -106,8 +106,9 @@ impl<R: Role> Desk<R> {
 
     /// Takes a call: answers it, makes its change and gives what it lets out. A refused call
     /// changes nothing. The refusals, in their order, are `Halted`, the call's own, `Full` and
-    /// `OutOfMemory`; the last never comes for `Halt`, on a halted desk, or for a refused notice,
-    /// closing, resending or mark. No packet leaves of a fact that is not saved.
+    /// `OutOfMemory`; the last never comes for `Halt`, on a halted desk, for a message that is too
+    /// large, or for a refused contract, notice, closing, resending or mark. No packet leaves of a
+    /// fact that is not saved.
     pub fn step(&mut self, call: &Call) -> Reply
         ensures { IsStep R.SIDE self.old call.now result self.new }
     {

@@ -1,9 +1,11 @@
-use Rattle.std.proofs.Common.{◌≡◌, ◌++◌, subst, ◌∷◌, [], List, refl, sym, ap, ◌∙◌}
+use Rattle.std.proofs.Common.{◌≡◌, ◌+◌, ◌++◌, length, subst, ◌∷◌, [], List, refl, sym, ap, ◌∙◌}
 use Rattle.gi_messages.specs.declared.message.Nomint.{Nomint}
 use Rattle.gi_desk.specs.Machine.{DeskState}
 use Rattle.gi_facts.specs.declared.fact.Fact.{Fact}
 use Rattle.gi_facts.specs.declared.fact.Fact.TheVariants.{Nominated}
 use Rattle.gi_desk.proofs.KeptLaws.{kept-other, running-taken}
+use Rattle.gi_desk.proofs.TakingLaws.{PutsNumber, legal-rising, takings-stray, takings-taken}
+use Rattle.gi_nominations.specs.declared.portfolio_day.PortfolioDay.{PortfolioDay}
 use Rattle.gi_nominations.specs.Book.{DocumentStands, IsNewer}
 use Rattle.gi_desk.specs.History.{documents_of}
 use Rattle.gi_desk.specs.Kept.{HasInForce}
@@ -23,9 +25,15 @@ invariant_of-self-2 g c =
     let inside = c.self.inside in
     let fact : Fact = Nominated c.args.document in
     let view = sym c.self.view_is in
+    let facts_is = ap (λ (s : DeskState). s.facts) view in
     let added : c.push_reserved.new.self.items ≡ inside.facts.items ++ fact ∷ [] =
     c.push_reserved.ensures.items ∙ ap (λ (facts : List Fact). facts ++ fact ∷ []) c.in_ok-reserve.ensures.items in
-    kept-other side inside.point inside.facts.items inside.stages.entries inside.book c.take.new.self inside.contracts inside.contracts inside.saved c.args.self.now fact c.push_reserved.new.self.items
-    c.self.invariant refl (ap (λ (s : DeskState). s.point) view) (ap (λ (s : DeskState). s.facts) view) c.requires.recorded c.requires.room c.requires.fits added
+    let number : c.len-number.result + 1 ≡ length inside.facts.items + 1 = (λ t. c.len-number.ensures t + 1) ∙ ap (λ (fs : List Fact). length fs + 1) facts_is in
+    let newer = subst (λ (fs : List Fact). IsNewer (documents_of fs) c.args.document) facts_is (recorded-newer side c.args.self.now.point c.args.self.now.facts c.args.document c.requires.recorded) in
+    let puts = subst (λ (key : PortfolioDay). PutsNumber inside.takings.entries c.insert.new.self.entries key (c.len-number.result + 1)) c.of.ensures c.in_ok-insert.ensures.updates.0 in
+    kept-other side inside.point inside.facts.items inside.stages.entries inside.book c.take.new.self inside.contracts inside.contracts inside.takings.entries c.insert.new.self.entries inside.saved c.args.self.now fact c.push_reserved.new.self.items
+    c.self.invariant refl (ap (λ (s : DeskState). s.point) view) facts_is c.requires.recorded c.requires.room c.requires.fits added
     (running-taken inside.point inside.facts.items inside.book c.take.new.self inside.contracts c.args.document c.self.invariant.running c.take.ensures.point
     (subst (λ (d : Nomint). DocumentStands inside.book.documents c.take.new.self.documents d) c.in_ok-taken.ensures c.in_ok-take.ensures.stands))
+    (takings-taken inside.facts.items c.args.document (c.len-number.result + 1) inside.takings.entries c.insert.new.self.entries (legal-rising side inside.point inside.facts.items c.self.invariant.stages.legal) newer
+    c.self.invariant.numbers puts number)
