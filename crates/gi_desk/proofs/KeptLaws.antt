@@ -137,6 +137,15 @@ kept-none side point facts entries book contracts takings code none no_stage no_
   fits = subst (λ (all : List Fact). FitsDesk side point all) (sym none) (fits-none side point code);
 }
 
+-- the same facts and nominations, with numbers that belong to them
+pub kept-numbered : (side : Side) (point : List ℕ) (facts : List Fact) (entries : List (CycleId × Stage)) (book : Documents) (contracts : Capacity) (takings : List (PortfolioDay × ℕ)) (saved : ℕ)
+    (new : List Fact) (new_book : Documents) (new_takings : List (PortfolioDay × ℕ)) → IsKept side point facts entries book contracts takings saved → new ≡ facts → new_book ≡ book → AreTakings facts new_takings
+    → IsKept side point new entries new_book contracts new_takings saved
+kept-numbered side point facts entries book contracts takings saved new new_book new_takings kept new_is book_is numbers =
+    subst (λ (fs : List Fact). IsKept side point fs entries new_book contracts new_takings saved) (sym new_is)
+    (subst (λ (b : Documents). IsKept side point facts entries b contracts new_takings saved) (sym book_is)
+    (record { stages = kept.stages; running = kept.running; numbers = numbers; within = kept.within; fits = kept.fits }))
+
 -- a fact that some call would record may come next
 pub kept-legal : (side : Side) (point : List ℕ) (old : List Fact) (s : DeskState) (fact : Fact) → bad_fact side point old ≡ None → s.point ≡ point → s.facts ≡ old
     → would_record side s.point s.facts fact ≡ true → length s.facts < most_facts → bad_fact side point (old ++ fact ∷ []) ≡ None

@@ -2,7 +2,7 @@
 use Rattle.std.proofs.Common.{arith, ◌≡◌, ◌≤◌, ℕ, List, [], ◌∷◌, ◌++◌, Bool, true, false, cond, not, ◌||◌, nat_lt, ltb-false, Option, Some, None, refl, sym, ap, ◌∙◌, subst}
 use Rattle.std.specs.List.{list_any}
 use Rattle.std.specs.Option.{option_or}
-use Rattle.std.proofs.lemmas.Bool.{and_parts, or_parts}
+use Rattle.std.proofs.lemmas.Bool.{and_parts}
 use Rattle.std.proofs.lemmas.List.{append-nil, append_assoc}
 use Rattle.std.proofs.lemmas.List.Folds.{list_any-append}
 use Rattle.jiff_core.specs.declared.civil.date.Date.{Date}
@@ -13,11 +13,10 @@ use Rattle.gi_pairs.specs.declared.cycle_id.CycleId.{CycleId}
 use Rattle.gi_pairs.specs.declared.side.Side.{Side}
 use Rattle.gi_desk.specs.History.{closings, is_closed, is_closing, last_closed}
 use Rattle.gi_desk.specs.Judging.{unless_later}
-use Rattle.gi_desk.specs.Machine.{bad_fact, bad_from, is_record, most_facts, would_record}
+use Rattle.gi_desk.specs.Machine.{bad_fact, bad_from, is_record, would_record}
 use Rattle.gi_desk.specs.declared.outcome.Outcome.{Outcome}
 use Rattle.gi_desk.specs.declared.outcome.Outcome.TheVariants.{Records, Refuses}
 use Rattle.gi_desk.specs.declared.refusal.Refusal.TheVariants.{AlreadyClosed, NoSuchCycle, OutOfOrder}
-use Rattle.gi_facts.specs.Same.{same_cycle}
 use Rattle.gi_facts.specs.declared.fact.Fact.{Fact}
 use Rattle.gi_facts.specs.declared.fact.Fact.TheVariants.{Contracted, Noticed, Nominated, Closed, Met}
 use Rattle.gi_facts.proofs.SameLemmas.{same_cycle-is, same_cycle-self}

@@ -1,7 +1,7 @@
 -- What is read from the stages is what the facts say.
 use Rattle.std.proofs.Common.{arith, ◌≡◌, ◌<◌, ◌≤◌, ◌+◌, ℕ, List, [], ◌∷◌, ◌++◌, length, take_while, Bool, true, false, cond, not, ◌||◌, Option, Some, None, is_some, refl, sym, ap, ◌∙◌, subst}
 use Rattle.std.specs.Prelude.{option_map}
-use Rattle.std.specs.BTreeMap.{BTreeMap, get}
+use Rattle.std.specs.BTreeMap.{BTreeMap}
 use Rattle.std.specs.BTreeMap.Range.{IsInRange, IsLeBy, IsRangeOf}
 use Rattle.std.specs.Int.{IsInRange as IsWithin}
 use Rattle.std.specs.List.{list_any}
@@ -23,13 +23,11 @@ use Rattle.gi_pairs.specs.CycleId.{answered}
 use Rattle.gi_pairs.specs.Table.{TableContents}
 use Rattle.gi_pairs.specs.declared.cycle_id.CycleId.{CycleId}
 use Rattle.gi_pairs.specs.declared.side.Side.{Side}
-use Rattle.gi_cycles.specs.declared.cycle_state.CycleState.{CycleState}
 use Rattle.gi_desk.specs.History.{facts_before, is_closed, is_closing, is_meeting, last_closed, number_of, peer_of, state_of}
 use Rattle.gi_desk.specs.Kept.{closed_state}
 use Rattle.gi_desk.specs.Machine.{bad_fact}
 use Rattle.gi_desk.specs.Stages.{AreStages, closed_stage, stage_at, stage_in}
 use Rattle.gi_desk.specs.declared.stage.Stage.{Stage}
-use Rattle.gi_facts.specs.Same.{same_cycle}
 use Rattle.gi_facts.specs.declared.fact.Fact.{Fact}
 use Rattle.gi_facts.specs.declared.fact.Fact.TheVariants.{Closed}
 use Rattle.gi_facts.proofs.SameLemmas.{same_cycle-is}

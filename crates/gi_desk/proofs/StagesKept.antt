@@ -1,14 +1,13 @@
 -- The stages that a desk keeps, after one more fact.
-use Rattle.std.proofs.Common.{arith, ◌≡◌, ◌≤◌, ◌+◌, ℕ, List, [], ◌∷◌, ◌++◌, length, Bool, true, false, cond, not, ◌&&◌, ◌||◌, Option, Some, None, is_some, refl, sym, ap, ◌∙◌, subst}
+use Rattle.std.proofs.Common.{◌≡◌, ◌≤◌, ◌+◌, ℕ, List, [], ◌∷◌, ◌++◌, length, Bool, true, false, cond, ◌||◌, Option, Some, None, is_some, refl, sym, ap, ◌∙◌, subst}
 use Rattle.std.specs.Prelude.{option_map}
-use Rattle.std.specs.BTreeMap.{insert_entry, is_at}
+use Rattle.std.specs.BTreeMap.{is_at}
 use Rattle.std.specs.Cmp.{IsTotalOrder, int_cmp_total, nat_cmp_total, on_total, then_total, tied_itself}
 use Rattle.std.specs.List.{list_any}
-use Rattle.std.specs.Map.{lookup, set_value}
-use Rattle.std.specs.Ordering.{int_cmp, is_eq, nat_cmp, on, ordering_then}
+use Rattle.std.specs.Ordering.{int_cmp, is_eq, nat_cmp, ordering_then}
 use Rattle.std.specs.declared.cmp.Ordering.{Ordering}
 use Rattle.std.specs.declared.cmp.Ordering.TheVariants.{Less, Equal, Greater}
-use Rattle.std.proofs.lemmas.Bool.{both_ways, false_from_ne_true, or_parts}
+use Rattle.std.proofs.lemmas.Bool.{both_ways}
 use Rattle.std.proofs.lemmas.Map.Lookups.{exact_signed, exact_unsigned}
 use Rattle.jiff_core.specs.Date.{epoch_day}
 use Rattle.jiff_core.specs.declared.civil.date.Date.{Date}
@@ -23,19 +22,18 @@ use Rattle.gi_pairs.specs.declared.side.Side.{Side}
 use Rattle.gi_processing.specs.Processing.{processed}
 use Rattle.gi_lesser.specs.Lesser.{HasShapeOf}
 use Rattle.gi_cycles.specs.States.{FrozenCycle, matched_of}
-use Rattle.gi_cycles.specs.declared.cycle_state.CycleState.{CycleState}
 use Rattle.gi_cycles.specs.declared.cycle_state.CycleState.TheVariants.{Frozen, Matched}
-use Rattle.gi_desk.specs.History.{capacity_of, documents_of, facts_before, frozen_cycle, frozen_table, is_closed, is_closing, is_meeting, number_of, peer_in, peer_of, state_of}
+use Rattle.gi_desk.specs.History.{capacity_of, documents_of, facts_before, frozen_cycle, frozen_table, is_closed, is_closing, is_meeting, number_of, peer_in, peer_of}
 use Rattle.gi_desk.specs.Kept.{changes_cycle}
 use Rattle.gi_desk.specs.Machine.{bad_fact}
 use Rattle.gi_desk.specs.Stages.{AreStages, closed_stage, stage_at, stage_in}
 use Rattle.gi_desk.specs.declared.stage.Stage.{Stage}
 use Rattle.gi_facts.specs.Same.{same_cycle}
 use Rattle.gi_facts.specs.declared.fact.Fact.{Fact}
-use Rattle.gi_facts.specs.declared.fact.Fact.TheVariants.{Contracted, Noticed, Nominated, Closed, Met}
+use Rattle.gi_facts.specs.declared.fact.Fact.TheVariants.{Closed, Met}
 use Rattle.gi_facts.proofs.SameLemmas.{same_cycle-is, same_cycle-self}
-use Rattle.gi_desk.proofs.Confirmed.{met_closed, peer_later, peer_none, a_peer}
-use Rattle.gi_desk.proofs.CycleLaws.{IsMeeting, is_closed-last, legal-before, none_in, none_of, peer_of-last, recorded-closing, recorded-meeting, unmet}
+use Rattle.gi_desk.proofs.Confirmed.{peer_later, peer_none, a_peer}
+use Rattle.gi_desk.proofs.CycleLaws.{is_closed-last, legal-before, none_of, peer_of-last, recorded-closing, recorded-meeting, unmet}
 use Rattle.gi_desk.proofs.Legality.{legal-recorded}
 use Rattle.gi_desk.proofs.StageLaws.{all_before, closed_same, not_closing, not_met, peer_same, state-closed, state-meeting, state-met, state-same}
 use Rattle.gi_desk.proofs.StateLaws.{facts_before-more, is_closed-more}

@@ -1,5 +1,5 @@
 -- The numbers of the facts that took the nominations in force, after one more fact.
-use Rattle.std.proofs.Common.{arith, ◌≡◌, ◌<◌, ◌≤◌, ◌+◌, ℕ, List, [], ◌∷◌, ◌++◌, length, find, reverse, append-nil, append_assoc, Bool, true, false, cond, ◌||◌, ◌&&◌, nat_eq, nat_lt, Option, Some, None, refl, sym, ap, ◌∙◌, subst}
+use Rattle.std.proofs.Common.{arith, ◌≡◌, ◌≤◌, ◌+◌, ℕ, List, [], ◌∷◌, ◌++◌, length, find, reverse, append-nil, append_assoc, Bool, true, false, cond, ◌||◌, ◌&&◌, nat_eq, nat_lt, Some, None, refl, sym, ap, ◌∙◌, subst}
 use Rattle.std.specs.BTreeMap.{is_at}
 use Rattle.std.specs.List.{list_any}
 use Rattle.std.proofs.lemmas.Bool.{and_from, and_parts, both_ways}
@@ -30,10 +30,10 @@ use Rattle.gi_desk.proofs.StateLaws.{any-more}
 -- ---- of legal facts the versions rise
 
 -- a nomination that was taken is not above the one in force
-record HasAbove (facts : List Fact) (document : Nomint) : Type 0 where
-  held : Nomint
-  in_force : in_force document.portfolio document.day (documents_of facts) ≡ Some held
-  above : document.version ≤ held.version
+pub record HasAbove (facts : List Fact) (document : Nomint) : Type 0 where
+  pub held : Nomint
+  pub in_force : in_force document.portfolio document.day (documents_of facts) ≡ Some held
+  pub above : document.version ≤ held.version
 
 pub record AreRising (facts : List Fact) : Type 0 where
   -- what is in force was taken
@@ -248,11 +248,11 @@ same_taking held document portfolio day version (Met id peer) = refl
 
 find_passes : {X : Type 0} (p : X → Bool) (xs : List X) (x : X) → find p xs ≡ Some x → p x ≡ true
 find_passes p [] x e = absurd (none-some x e)
-find_passes p (y ∷ ys) x e = by_first (p y) refl e
+find_passes p (y ∷ ys) x e = by_first (p y) refl (find_passes p ys x) e
   where
-    by_first : (b : Bool) → p y ≡ b → cond b (Some y) (find p ys) ≡ Some x → p x ≡ true
-    by_first true is found = subst (λ z. p z ≡ true) (same_Some y x found) is
-    by_first false is found = find_passes p ys x found
+    by_first : (b : Bool) → p y ≡ b → (find p ys ≡ Some x → p x ≡ true) → cond b (Some y) (find p ys) ≡ Some x → p x ≡ true
+    by_first true is rest found = subst (λ z. p z ≡ true) (same_Some y x found) is
+    by_first false is rest found = rest found
 
 force_of : (portfolio : List ℕ) (day : Date) (documents : List Nomint) (held : Nomint) → in_force portfolio day documents ≡ Some held → is_of portfolio day held ≡ true
 unfolding in_force

@@ -64,7 +64,9 @@ impl<R: Role> Desk<R> {
     pub(super) fn number_of_closing(&self, id: &CycleId) -> u32
         ensures { result ≡ number_of (is_closing id.now) self.now.facts }
     {
-        let beyond = self.facts.len() as u32 + 1;
+        // There are so few facts that one more has a number.
+        self.known();
+        let beyond = self.len() + 1;
         match self.stages.get(id) {
             Some(stage) => stage.closing,
             None => beyond,
@@ -74,7 +76,9 @@ impl<R: Role> Desk<R> {
     pub(super) fn number_of_meeting(&self, id: &CycleId) -> u32
         ensures { result ≡ number_of (is_meeting id.now) self.now.facts }
     {
-        let beyond = self.facts.len() as u32 + 1;
+        // There are so few facts that one more has a number.
+        self.known();
+        let beyond = self.len() + 1;
         match self.stages.get(id) {
             Some(stage) => stage.meeting.unwrap_or(beyond),
             None => beyond,

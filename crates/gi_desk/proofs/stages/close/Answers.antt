@@ -1,5 +1,4 @@
 use Rattle.std.proofs.Common.{◌≡◌, ◌∙◌}
-use Rattle.gi_cycles.specs.States.{FrozenCycle}
 use Rattle.gi_processing.specs.Processing.{processed}
 use Rattle.gi_desk.specs.History.{capacity_of, documents_of}
 use Rattle.gi_desk.proofs.StagesKept.{stages-closed}

@@ -10,7 +10,7 @@ use Rattle.gi_pairs.specs.CycleId.{answered}
 use Rattle.gi_cycles.specs.States.{matched_of}
 use Rattle.gi_cycles.specs.declared.cycle_state.CycleState.TheVariants.{Matched}
 use Rattle.gi_desk.specs.History.{frozen_cycle}
-use Rattle.gi_desk.specs.Stages.{stage_at, stage_in}
+use Rattle.gi_desk.specs.Stages.{stage_in}
 use Rattle.gi_desk.specs.declared.stage.Stage.{Stage}
 use Rattle.gi_desk.proofs.StagesKept.{stage-kept, stage-to-meet, stages-met}
 use Rattle.gi_desk.proofs.stages.meet.Goals as goal

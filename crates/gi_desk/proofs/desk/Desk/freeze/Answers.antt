@@ -1,5 +1,4 @@
-use Rattle.std.proofs.Common.{◌≡◌, ◌+◌, ◌≤◌, ◌++◌, ◌∷◌, [], sym, ap, ◌∙◌, subst, List, length}
-use Rattle.gi_pairs.specs.Limits.{most_processed_rows}
+use Rattle.std.proofs.Common.{◌≡◌, ◌+◌, ◌++◌, ◌∷◌, [], sym, ap, ◌∙◌, subst, List, length}
 use Rattle.gi_pairs.specs.Table.{TableContents}
 use Rattle.gi_processing.specs.Processing.{processed as processed_of}
 use Rattle.gi_desk.specs.History.{capacity_of, documents_of}

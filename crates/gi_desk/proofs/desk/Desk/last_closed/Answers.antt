@@ -6,7 +6,7 @@ use Rattle.gi_pairs.specs.CycleId.{answered}
 use Rattle.gi_pairs.specs.declared.cycle_id.CycleId.{CycleId}
 use Rattle.gi_desk.specs.History.{last_closed}
 use Rattle.gi_desk.specs.Machine.{DeskState}
-use Rattle.gi_desk.proofs.StageReadings.{day-forward, first_of, last-read, last_of, none-read}
+use Rattle.gi_desk.proofs.StageReadings.{day-forward, first_of, last-read, none-read}
 use Rattle.gi_desk.proofs.desk.Desk.last_closed.Goals as goal
 
 pub range-requires : goal.range-requires

@@ -1,9 +1,7 @@
-use Rattle.std.proofs.Common.{◌≡◌, Option, None, Bor, ℕ, sym, ap, ◌∙◌, subst}
+use Rattle.std.proofs.Common.{Option, Bor, ℕ, sym, ap, ◌∙◌, subst}
 use Rattle.std.specs.Option.{option_copied}
 use Rattle.std.proofs.lemmas.Option.{none-some, same_Some}
-use Rattle.gi_nominations.specs.PortfolioDay.{portfolio_day_of}
 use Rattle.gi_nominations.specs.declared.portfolio_day.PortfolioDay.{PortfolioDay}
-use Rattle.gi_desk.specs.History.{is_taking, number_of}
 use Rattle.gi_desk.specs.Machine.{DeskState}
 use Rattle.gi_desk.specs.Takings.{AreTakings, taking_in}
 use Rattle.gi_desk.proofs.TakingLaws.{repeat-read}

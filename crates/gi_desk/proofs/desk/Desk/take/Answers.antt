@@ -1,12 +1,12 @@
-use Rattle.std.proofs.Common.{◌≡◌, ◌+◌, ◌++◌, length, subst, ◌∷◌, [], List, refl, sym, ap, ◌∙◌}
+use Rattle.std.proofs.Common.{◌≡◌, ◌+◌, ◌++◌, length, subst, ◌∷◌, [], List, None, refl, sym, ap, ◌∙◌}
 use Rattle.gi_messages.specs.declared.message.Nomint.{Nomint}
 use Rattle.gi_desk.specs.Machine.{DeskState}
 use Rattle.gi_facts.specs.declared.fact.Fact.{Fact}
 use Rattle.gi_facts.specs.declared.fact.Fact.TheVariants.{Nominated}
-use Rattle.gi_desk.proofs.KeptLaws.{kept-other, running-taken}
+use Rattle.gi_desk.proofs.KeptLaws.{kept-numbered, kept-other, running-taken}
 use Rattle.gi_desk.proofs.TakingLaws.{PutsNumber, legal-rising, takings-stray, takings-taken}
 use Rattle.gi_nominations.specs.declared.portfolio_day.PortfolioDay.{PortfolioDay}
-use Rattle.gi_nominations.specs.Book.{DocumentStands, IsNewer}
+use Rattle.gi_nominations.specs.Book.{DocumentStands, IsNewer, in_force}
 use Rattle.gi_desk.specs.History.{documents_of}
 use Rattle.gi_desk.specs.Kept.{HasInForce}
 use Rattle.gi_desk.proofs.Legality.{recorded-newer}
@@ -37,3 +37,15 @@ invariant_of-self-2 g c =
     (subst (λ (d : Nomint). DocumentStands inside.book.documents c.take.new.self.documents d) c.in_ok-taken.ensures c.in_ok-take.ensures.stands))
     (takings-taken inside.facts.items c.args.document (c.len-number.result + 1) inside.takings.entries c.insert.new.self.entries (legal-rising side inside.point inside.facts.items c.self.invariant.stages.legal) newer
     c.self.invariant.numbers puts number)
+
+pub invariant_of-self-in_err-take : goal.invariant_of-self-in_err-take
+invariant_of-self-in_err-take g c =
+    let side = g.R.Role.SIDE in
+    let inside = c.self.inside in
+    let document = c.args.document in
+    let absent = sym (c.self.invariant.running.nominations document.portfolio document.day)
+    ∙ subst (λ (d : Nomint). in_force d.portfolio d.day inside.book.documents ≡ None) c.in_ok-taken.ensures c.in_err-take.ensures.absent in
+    let puts = subst (λ (key : PortfolioDay). PutsNumber inside.takings.entries c.insert.new.self.entries key (c.len-number.result + 1)) c.of.ensures c.in_ok-insert.ensures.updates.0 in
+    kept-numbered side inside.point inside.facts.items inside.stages.entries inside.book inside.contracts inside.takings.entries inside.saved c.reserve.new.self.items c.take.new.self c.insert.new.self.entries
+    c.self.invariant c.in_ok-reserve.ensures.items c.in_err-take.ensures.kept
+    (takings-stray inside.facts.items document (c.len-number.result + 1) inside.takings.entries c.insert.new.self.entries absent c.self.invariant.numbers puts)

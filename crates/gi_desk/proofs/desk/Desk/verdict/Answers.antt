@@ -1,4 +1,4 @@
-use Rattle.std.proofs.Common.{◌≡◌, refl, ◌∙◌, rules, sym, ap}
+use Rattle.std.proofs.Common.{◌≡◌, ◌∙◌, rules}
 use Rattle.gi_nominations.specs.Book.{Documents}
 use Rattle.gi_nominations.specs.Judging.{verdict}
 use Rattle.gi_nominations.proofs.JudgingLaws.{verdict-same}
