@@ -32,10 +32,10 @@ use Rattle.gi_facts.specs.declared.fact.Fact.{Fact}
 use Rattle.gi_facts.specs.declared.fact.Fact.TheVariants.{Closed, Contracted, Met, Nominated, Noticed}
 use Rattle.gi_desk.proofs.CycleLaws.{recorded-below}
 use Rattle.gi_desk.proofs.Fitting.{fits-more, fits-none, states_fit-closed, states_fit-met, states_fit-other}
-use Rattle.gi_desk.proofs.HistoryLaws.{capacity_more, documents_more, no_document}
+use Rattle.gi_desk.proofs.HistoryLaws.{capacity_more, no_document}
 use Rattle.gi_desk.proofs.Legality.{legal-more, legal-sound}
 use Rattle.gi_desk.proofs.StagesKept.{stages-other}
-use Rattle.gi_desk.proofs.TakingLaws.{legal-rising, takings-none, takings-other}
+use Rattle.gi_desk.proofs.TakingLaws.{legal-rising, same_documents, taken-more, takings-none, takings-other}
 
 -- ---- the book and the contracts with what one more fact records
 
@@ -49,9 +49,6 @@ same_capacity old fact none =
     ∙ (λ t. record { contracts = before.contracts ++ (none t).contracts; notices = before.notices ++ (none t).notices })
     ∙ (λ t. record { contracts = append-nil before.contracts t; notices = append-nil before.notices t })
 
-same_documents : (old : List Fact) (fact : Fact) → documents_of (fact ∷ []) ≡ [] → documents_of (old ++ fact ∷ []) ≡ documents_of old
-same_documents old fact none = documents_more old fact ∙ ap (λ (ds : List Nomint). documents_of old ++ ds) none ∙ append-nil (documents_of old)
-
 contracted-more : (old : List Fact) (contract : Contract) → capacity_of (old ++ Contracted contract ∷ []) ≡ with_contract (capacity_of old) contract
 unfolding capacity_of
 contracted-more old contract =
@@ -61,10 +58,6 @@ noticed-more : (old : List Fact) (notice : Notice) → capacity_of (old ++ Notic
 unfolding capacity_of
 noticed-more old notice =
     capacity_more old (Noticed notice) ∙ (λ t. record { contracts = append-nil (capacity_of old).contracts t; notices = (capacity_of old).notices ++ notice ∷ [] })
-
-taken-more : (old : List Fact) (document : Nomint) → documents_of (old ++ Nominated document ∷ []) ≡ documents_of old ++ document ∷ []
-unfolding documents_of
-taken-more old document = documents_more old (Nominated document)
 
 running-read : (point : List ℕ) (old new : List Fact) (book : Documents) (contracts later : Capacity) → IsRunning point old book contracts → documents_of new ≡ documents_of old
     → ReadsAs later (capacity_of new) → IsRunning point new book later

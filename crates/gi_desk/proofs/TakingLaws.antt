@@ -66,7 +66,7 @@ no_taking (Nominated other) document none = absurd cc
 no_taking (Closed id) document none = refl
 no_taking (Met id peer) document none = refl
 
-same_documents : (facts : List Fact) (fact : Fact) → documents_of (fact ∷ []) ≡ [] → documents_of (facts ++ fact ∷ []) ≡ documents_of facts
+pub same_documents : (facts : List Fact) (fact : Fact) → documents_of (fact ∷ []) ≡ [] → documents_of (facts ++ fact ∷ []) ≡ documents_of facts
 same_documents facts fact none = documents_more facts fact ∙ ap (λ (ds : List Nomint). documents_of facts ++ ds) none ∙ append-nil (documents_of facts)
 
 rising-other : (facts : List Fact) (fact : Fact) → documents_of (fact ∷ []) ≡ [] → AreRising facts → AreRising (facts ++ fact ∷ [])
@@ -85,7 +85,7 @@ taking_itself document =
     and_from (is_of document.portfolio document.day document) (nat_eq document.version document.version)
     (is_of-again document.portfolio document.day document refl refl) (grind (arith, nat_tests))
 
-taken-more : (facts : List Fact) (document : Nomint) → documents_of (facts ++ Nominated document ∷ []) ≡ documents_of facts ++ document ∷ []
+pub taken-more : (facts : List Fact) (document : Nomint) → documents_of (facts ++ Nominated document ∷ []) ≡ documents_of facts ++ document ∷ []
 unfolding documents_of
 taken-more facts document = documents_more facts (Nominated document)
 
