@@ -60,7 +60,7 @@ class Trial:
             how = {"stdin": subprocess.DEVNULL, "stdout": out, "stderr": faults, "cwd": self.room}
             check = subprocess.Popen([*words, "--stage-times", times], env={**os.environ, "TMPDIR": folder}, **how)
             while check.poll() is None and "stage session " not in (kit.rtlib.text_of(times) or ""):
-                time.sleep(0.02)
+                time.sleep(0.2)
             os.rename(folder, f"{folder}-aside")
             open(folder, "w").close()
             check.wait()

@@ -11,7 +11,7 @@ use Rattle.gi_cycles.specs.declared.cycle_state.CycleState.{CycleState}
 use Rattle.gi_cycles.specs.declared.cycle_state.CycleState.TheVariants.{Collecting}
 use Rattle.gi_desk.specs.Deciding.{IsUnlessShort, address_of, by_order, decision}
 use Rattle.gi_desk.specs.History.{frozen_cycle, is_closed, met_by, peer_of, state_of}
-use Rattle.gi_desk.specs.Judging.{by_decision, delivered, if_addressed, resent}
+use Rattle.gi_desk.specs.Judging.{by_decision, delivered, if_addressed}
 use Rattle.gi_desk.specs.Kept.{closed_state, learns_with_memory}
 use Rattle.gi_desk.specs.Machine.{DeskState, comes_to, is_record, may_want, outcome, unless_full, wants_memory}
 use Rattle.gi_desk.specs.declared.call.Call.{Call}
@@ -108,10 +108,3 @@ running-outcome side s call running = ap (λ (b : Bool). cond b (Refuses Halted)
 pub if_failed : {X E : Type 0} {P : Type 0} (r : Result X E) → P → IfErr r (λ fault. P)
 if_failed (Ok x) p = tt
 if_failed (Err fault) p = p
-
--- ---- a cycle's packets again
-
-pub resent-called : (side : Side) (s : DeskState) (call : Call) (history : List Fact) (saved : ℕ) (id : CycleId) (o : Outcome) → o ≡ resent history saved id → history ≡ s.facts → saved ≡ s.saved
-    → call ≡ Resend id → o ≡ comes_to side s call
-resent-called side s call history saved id o is facts_are saved_is call_is =
-    is ∙ (λ i. resent (facts_are i) (saved_is i) id) ∙ ap (comes_to side s) (sym call_is)

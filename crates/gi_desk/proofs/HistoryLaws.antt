@@ -1,38 +1,20 @@
 -- What the readings of a list of facts come to.
-use Rattle.std.proofs.Common.{◌≡◌, ◌<◌, ◌+◌, ℕ, List, [], ◌∷◌, ◌++◌, length, take, reverse, find, filter_map, get_or, Bool, true, false, not, cond, nat_lt, ltb-false, Option, Some, None, refl, sym, ap, ◌∙◌, arith}
-use Rattle.std.specs.Option.{option_or, unwrap_or, option_map}
-use Rattle.std.specs.List.{position_or_len}
-use Rattle.std.proofs.lemmas.List.{length-take, reverse-append, take_more}
+use Rattle.std.proofs.Common.{◌≡◌, ◌<◌, ◌+◌, ℕ, List, [], ◌∷◌, ◌++◌, length, take, reverse, find, filter_map, get_or, append-nil, Bool, Option, Some, None, refl, sym, ap, ◌∙◌}
+use Rattle.std.specs.Option.{option_or, option_map}
+use Rattle.std.proofs.lemmas.List.{reverse-append, take_more}
 use Rattle.std.proofs.lemmas.List.Elements.{filter_map-append}
 use Rattle.std.proofs.lemmas.List.Folds.{find-append}
-use Rattle.std.proofs.lemmas.List.Sums.{prefix_len-le-length}
 use Rattle.jiff_core.specs.declared.civil.date.Date.{Date}
 use Rattle.gi_day.specs.SameDay.{same_day}
 use Rattle.gi_pairs.specs.declared.cycle_id.CycleId.{CycleId}
 use Rattle.gi_messages.specs.declared.message.Nomint.{Nomint}
-use Rattle.gi_desk.specs.History.{capacity_of, contract_in, document_in, documents_of, notice_in, closing_in, closings, facts_before, last_closed, number_of}
+use Rattle.gi_desk.specs.History.{capacity_of, contract_in, document_in, documents_of, notice_in, closing_in, closings, last_closed}
 use Rattle.gi_facts.specs.declared.fact.Fact.{Fact}
 use Rattle.gi_facts.specs.declared.fact.Fact.TheVariants.{Contracted, Noticed, Nominated, Closed, Met}
 
 -- one more item, at a place of a list
 pub one_more : {X : Type 0} (xs : List X) (i : ℕ) (x : X) → i < length xs → x ≡ get_or xs i x → take (i + 1) xs ≡ take i xs ++ x ∷ []
 one_more xs i x below is = take_more xs i x below ∙ ap (λ y. take i xs ++ y ∷ []) (sym is)
-
-counted : (is : Fact → Bool) (facts : List Fact) → number_of is facts ≡ position_or_len is facts + 1
-unfolding number_of facts_before
-counted is facts = let within = prefix_len-le-length (λ fact. not (is fact)) facts in grind (length-take, arith, within)
-
--- the number of the first fact that is so, by its place
-pub numbered : (is : Fact → Bool) (facts : List Fact) (place : Option ℕ)
-    → place ≡ cond (nat_lt (position_or_len is facts) (length facts)) (Some (position_or_len is facts)) None → unwrap_or place (length facts) + 1 ≡ number_of is facts
-numbered is facts place e = ap (λ (o : Option ℕ). unwrap_or o (length facts) + 1) e ∙ by_test (nat_lt (position_or_len is facts) (length facts)) refl ∙ sym (counted is facts)
-  where
-    by_test : (b : Bool) → nat_lt (position_or_len is facts) (length facts) ≡ b → unwrap_or (cond b (Some (position_or_len is facts)) None) (length facts) + 1 ≡ position_or_len is facts + 1
-    by_test true e = refl
-    by_test false e =
-        let above = ltb-false (position_or_len is facts) (length facts) e in
-        let within = prefix_len-le-length (λ fact. not (is fact)) facts in
-        omega (arith, above, within)
 
 mapped : {X Y : Type 0} (f : X → Y) (a b : Option X) → option_map f (option_or a b) ≡ option_or (option_map f a) (option_map f b)
 mapped f None b = refl
@@ -63,6 +45,14 @@ capacity_more facts fact =
 pub documents_more : (facts : List Fact) (fact : Fact) → documents_of (facts ++ fact ∷ []) ≡ documents_of facts ++ documents_of (fact ∷ [])
 unfolding documents_of
 documents_more facts fact = filter_map-append document_in facts (fact ∷ [])
+
+-- a fact that takes no nomination leaves those that were taken
+pub same_documents : (facts : List Fact) (fact : Fact) → documents_of (fact ∷ []) ≡ [] → documents_of (facts ++ fact ∷ []) ≡ documents_of facts
+same_documents facts fact none = documents_more facts fact ∙ ap (λ (ds : List Nomint). documents_of facts ++ ds) none ∙ append-nil (documents_of facts)
+
+pub taken-more : (facts : List Fact) (document : Nomint) → documents_of (facts ++ Nominated document ∷ []) ≡ documents_of facts ++ document ∷ []
+unfolding documents_of
+taken-more facts document = documents_more facts (Nominated document)
 
 pub no_document : (fact : Fact) → ((document : Nomint) → fact ≡ Nominated document → ⊥) → documents_of (fact ∷ []) ≡ []
 unfolding documents_of

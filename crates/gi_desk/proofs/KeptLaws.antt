@@ -32,10 +32,10 @@ use Rattle.gi_facts.specs.declared.fact.Fact.{Fact}
 use Rattle.gi_facts.specs.declared.fact.Fact.TheVariants.{Closed, Contracted, Met, Nominated, Noticed}
 use Rattle.gi_desk.proofs.CycleLaws.{recorded-below}
 use Rattle.gi_desk.proofs.Fitting.{fits-more, fits-none, states_fit-closed, states_fit-met, states_fit-other}
-use Rattle.gi_desk.proofs.HistoryLaws.{capacity_more, no_document}
+use Rattle.gi_desk.proofs.HistoryLaws.{capacity_more, no_document, same_documents, taken-more}
 use Rattle.gi_desk.proofs.Legality.{legal-more, legal-sound}
 use Rattle.gi_desk.proofs.StagesKept.{stages-other}
-use Rattle.gi_desk.proofs.TakingLaws.{legal-rising, same_documents, taken-more, takings-none, takings-other}
+use Rattle.gi_desk.proofs.TakingLaws.{legal-rising, takings-none, takings-other}
 
 -- ---- the book and the contracts with what one more fact records
 
@@ -91,14 +91,14 @@ running-taken point old book new contracts document running point_is stands = re
   capacity = subst (ReadsAs contracts) (sym (same_capacity old (Nominated document) refl)) running.capacity;
 }
 
-pub running-closed : (point : List ℕ) (old : List Fact) (book : Documents) (contracts : Capacity) (id : CycleId)
+running-closed : (point : List ℕ) (old : List Fact) (book : Documents) (contracts : Capacity) (id : CycleId)
     → IsRunning point old book contracts → IsRunning point (old ++ Closed id ∷ []) book contracts
 unfolding capacity_of documents_of
 running-closed point old book contracts id running =
     running-read point old (old ++ Closed id ∷ []) book contracts contracts running (same_documents old (Closed id) refl)
     (subst (ReadsAs contracts) (sym (same_capacity old (Closed id) refl)) running.capacity)
 
-pub running-met : (point : List ℕ) (old : List Fact) (book : Documents) (contracts : Capacity) (id : CycleId) (peer : TableContents)
+running-met : (point : List ℕ) (old : List Fact) (book : Documents) (contracts : Capacity) (id : CycleId) (peer : TableContents)
     → IsRunning point old book contracts → IsRunning point (old ++ Met id peer ∷ []) book contracts
 unfolding capacity_of documents_of
 running-met point old book contracts id peer running =
@@ -115,14 +115,14 @@ pub kept-none : (side : Side) (point : List ℕ) (facts : List Fact) (entries : 
     → IsCode point → facts ≡ [] → entries ≡ [] → book ≡ record { point = point; documents = [] } → contracts ≡ record { contracts = []; notices = [] }
     → IsKept side point facts entries book contracts takings 0
 unfolding bad_fact is_closed capacity_of documents_of
-kept-none side point facts entries book contracts takings code none no_stage no_document no_contract = record {
+kept-none side point facts entries book contracts takings code none no_stage no_nomination no_contract = record {
   stages = record {
     legal = ap (bad_fact side point) none;
     at = λ id. ap (λ (es : List (CycleId × Stage)). stage_in es id) no_stage ∙ ap (λ (fs : List Fact). closed_stage side fs id) (sym none);
   };
   running = record {
-    at = ap (λ (d : Documents). d.point) no_document;
-    nominations = λ portfolio day. (λ t. in_force portfolio day (no_document t).documents) ∙ (λ t. in_force portfolio day (documents_of (sym none t)));
+    at = ap (λ (d : Documents). d.point) no_nomination;
+    nominations = λ portfolio day. (λ t. in_force portfolio day (no_nomination t).documents) ∙ (λ t. in_force portfolio day (documents_of (sym none t)));
     capacity = subst (λ (c : Capacity). ReadsAs contracts c) (no_contract ∙ ap capacity_of (sym none)) (reads-self contracts);
   };
   numbers = takings-none facts takings none;
@@ -147,7 +147,7 @@ kept-legal side point old s fact legal point_is facts_is recorded room =
     (subst (λ (facts : List Fact). length facts < most_facts) facts_is room)
 
 -- and with the stages that belong to it, where all states can be written, what is kept stays so
-pub kept-more : (side : Side) (point : List ℕ) (old : List Fact) (entries : List (CycleId × Stage)) (book new_book : Documents) (contracts new_contracts : Capacity) (takings new_takings : List (PortfolioDay × ℕ)) (saved : ℕ) (fact : Fact) (new : List Fact) (later : List (CycleId × Stage))
+kept-more : (side : Side) (point : List ℕ) (old : List Fact) (entries : List (CycleId × Stage)) (book new_book : Documents) (contracts new_contracts : Capacity) (takings new_takings : List (PortfolioDay × ℕ)) (saved : ℕ) (fact : Fact) (new : List Fact) (later : List (CycleId × Stage))
     → IsKept side point old entries book contracts takings saved → FitsFact fact → All FitsState (states_of side (old ++ fact ∷ []))
     → new ≡ old ++ fact ∷ [] → AreStages side point (old ++ fact ∷ []) later → IsRunning point (old ++ fact ∷ []) new_book new_contracts → AreTakings (old ++ fact ∷ []) new_takings → IsKept side point new later new_book new_contracts new_takings saved
 kept-more side point old entries book new_book contracts new_contracts takings new_takings saved fact new later kept fits all_fit new_is stages running numbers =

@@ -71,6 +71,11 @@ unfolding bad_fact
 legal-front side point facts i e =
     (legal-parts side point [] (take i facts) (drop i facts) (subst (λ (all : List Fact). bad_from side point [] all ≡ None) (sym (take-append-drop i facts)) e)).0
 
+-- legal facts are legal without the last of them
+pub legal-some : (side : Side) (point : List ℕ) (facts later : List Fact) → bad_fact side point (facts ++ later) ≡ None → bad_fact side point facts ≡ None
+unfolding bad_fact
+legal-some side point facts later e = (legal-parts side point [] facts later e).0
+
 -- a fact that stands among legal ones would be recorded after those before it
 pub legal-recorded : (side : Side) (point : List ℕ) (before : List Fact) (fact : Fact) (later : List Fact) → bad_fact side point (before ++ fact ∷ later) ≡ None
     → would_record side point before fact ≡ true

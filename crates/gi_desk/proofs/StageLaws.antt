@@ -30,7 +30,7 @@ id_of-met : (cycle : FrozenCycle) (peer : Option TableContents) → id_of (met_b
 id_of-met cycle None = refl
 id_of-met cycle (Some peer) = refl
 
-pub id_of-state : (side : Side) (facts : List Fact) (id : CycleId) → id_of (state_of side facts id) ≡ id
+id_of-state : (side : Side) (facts : List Fact) (id : CycleId) → id_of (state_of side facts id) ≡ id
 unfolding state_of
 id_of-state side facts id = by_closed (is_closed id facts) refl
   where
@@ -85,7 +85,7 @@ state-same side facts fact id other none = by_closed (is_closed id facts) refl
         rw (closed, is_closed-more id facts (fact ∷ []) closed, peer_same facts fact id none, frozen_table-more side facts (fact ∷ []) id closed) refl
     by_closed false unclosed = rw (unclosed, closed_same facts fact id unclosed other) refl
 
-pub closings-more : (facts : List Fact) (fact : Fact) → closings (facts ++ fact ∷ []) ≡ closings facts ++ cons_option (closing_in fact) []
+closings-more : (facts : List Fact) (fact : Fact) → closings (facts ++ fact ∷ []) ≡ closings facts ++ cons_option (closing_in fact) []
 unfolding closings
 closings-more facts fact = filter_map-append closing_in facts (fact ∷ [])
 
@@ -147,7 +147,7 @@ table_closed side facts id unclosed =
     (all_before (is_closing id) facts (Closed id) unclosed (same_cycle-self id))
 
 -- what is frozen when a cycle is closed
-abbrev pub frozen_now : Side → List Fact → CycleId → FrozenCycle
+abbrev frozen_now : Side → List Fact → CycleId → FrozenCycle
 frozen_now side facts id = record { id = id; own = processed (capacity_of facts) (documents_of facts) side id.day id.cycle }
 
 pub state-closed : (side : Side) (facts : List Fact) (id : CycleId) → is_closed id facts ≡ false → peer_of id facts ≡ None

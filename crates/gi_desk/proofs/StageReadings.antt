@@ -19,6 +19,7 @@ use Rattle.jiff_core.specs.Date.{epoch_day}
 use Rattle.jiff_core.specs.declared.civil.date.Date.{Date}
 use Rattle.gi_day.specs.Cycles.{cycle_count}
 use Rattle.gi_day.proofs.DayFacts.{day_facts}
+use Rattle.gi_day.proofs.DayLaws.{same_day-Decides}
 use Rattle.gi_pairs.specs.CycleId.{answered}
 use Rattle.gi_pairs.specs.Table.{TableContents}
 use Rattle.gi_pairs.specs.declared.cycle_id.CycleId.{CycleId}
@@ -34,7 +35,7 @@ use Rattle.gi_facts.proofs.SameLemmas.{same_cycle-is}
 use Rattle.gi_desk.proofs.CycleLaws.{none_of, recorded-below, unmet}
 use Rattle.gi_desk.proofs.LastClosed.{IsGreatest, last-greatest, one-greatest}
 use Rattle.gi_desk.proofs.Legality.{legal-recorded}
-use Rattle.gi_desk.proofs.StagesKept.{day_is, meets-any}
+use Rattle.gi_desk.proofs.StagesKept.{meets-any}
 
 -- ---- how far a cycle is
 
@@ -149,7 +150,7 @@ le_not_gt a b below = by_order (nat_cmp a b) (ranked a b (nat_cmp a b) refl)
 -- the names between the first and the last of a gas day are those of the day
 between_day : (day : Date) (id : CycleId) → IsInRange answered (Included (first_of day)) (Included (last_of day)) id → id.day ≡ day
 between_day day id in_range =
-    sym (day_is day id.day (by_orders (int_cmp (epoch_day day) (epoch_day id.day)) (int_cmp (epoch_day id.day) (epoch_day day)) (nat_cmp 0 id.cycle) (nat_cmp id.cycle 255)
+    sym ((same_day-Decides day id.day).0 (by_orders (int_cmp (epoch_day day) (epoch_day id.day)) (int_cmp (epoch_day id.day) (epoch_day day)) (nat_cmp 0 id.cycle) (nat_cmp id.cycle 255)
     (int_cmp_total.antisymm (epoch_day id.day) (epoch_day day)) in_range.0 in_range.1))
   where
     by_orders : (o p first last : Ordering) → p ≡ ordering_reverse o → is_gt (ordering_then o first) ≡ false → is_gt (ordering_then p last) ≡ false → is_eq o ≡ true

@@ -1,18 +1,12 @@
 -- The stages that a desk keeps, after one more fact.
-use Rattle.std.proofs.Common.{◌≡◌, ◌≤◌, ◌+◌, ℕ, List, [], ◌∷◌, ◌++◌, length, Bool, true, false, cond, ◌||◌, Option, Some, None, is_some, refl, sym, ap, ◌∙◌, subst}
+use Rattle.std.proofs.Common.{◌≡◌, ◌≤◌, ◌+◌, ℕ, List, [], ◌∷◌, ◌++◌, length, Bool, true, false, cond, ◌||◌, Option, Some, None, is_some, nat_eq, refl, sym, ap, ◌∙◌}
 use Rattle.std.specs.Prelude.{option_map}
 use Rattle.std.specs.BTreeMap.{is_at}
-use Rattle.std.specs.Cmp.{IsTotalOrder, int_cmp_total, nat_cmp_total, on_total, then_total, tied_itself}
+use Rattle.std.specs.Cmp.{both_tied, unsigned_ties}
 use Rattle.std.specs.List.{list_any}
-use Rattle.std.specs.Ordering.{int_cmp, is_eq, nat_cmp, ordering_then}
-use Rattle.std.specs.declared.cmp.Ordering.{Ordering}
-use Rattle.std.specs.declared.cmp.Ordering.TheVariants.{Less, Equal, Greater}
-use Rattle.std.proofs.lemmas.Bool.{both_ways}
-use Rattle.std.proofs.lemmas.Map.Lookups.{exact_signed, exact_unsigned}
+use Rattle.std.specs.Ordering.{int_cmp, nat_cmp}
 use Rattle.jiff_core.specs.Date.{epoch_day}
-use Rattle.jiff_core.specs.declared.civil.date.Date.{Date}
-use Rattle.gi_day.proofs.DayLaws.{same_day-Decides}
-use Rattle.std.proofs.lemmas.Bool.Decides.{Decides-int_eq}
+use Rattle.gi_day.specs.SameDay.{same_day}
 use Rattle.std.proofs.lemmas.Option.{same_Some}
 use Rattle.gi_pairs.specs.CycleId.{answered}
 use Rattle.gi_pairs.specs.Limits.{most_processed_rows}
@@ -40,44 +34,10 @@ use Rattle.gi_desk.proofs.StateLaws.{facts_before-more, is_closed-more}
 
 -- ---- the names of cycles
 
-pub cycle_total : IsTotalOrder answered
-cycle_total = then_total (on_total (λ (id : CycleId). id.day) (on_total epoch_day int_cmp_total)) (on_total (λ (id : CycleId). id.cycle) nat_cmp_total)
-
-equal_from_test : (o : Ordering) → is_eq o ≡ true → o ≡ Equal
-equal_from_test Less e = absurd cc
-equal_from_test Equal e = refl
-equal_from_test Greater e = absurd cc
-
-then_equal : (o p : Ordering) → is_eq (ordering_then o p) ≡ true → (is_eq o ≡ true) × (is_eq p ≡ true)
-then_equal Less p e = absurd cc
-then_equal Equal p e = (refl, e)
-then_equal Greater p e = absurd cc
-
-pub day_is : (a b : Date) → is_eq (int_cmp (epoch_day a) (epoch_day b)) ≡ true → a ≡ b
-day_is a b e =
-    let numbers : epoch_day a ≡ epoch_day b = exact_signed (epoch_day a) (epoch_day b) (equal_from_test (int_cmp (epoch_day a) (epoch_day b)) e) in
-    (same_day-Decides a b).0 ((Decides-int_eq (epoch_day a) (epoch_day b)).1 numbers)
-
--- equal names are one
-pub name_is : (a b : CycleId) → is_at (answered a) b ≡ true → a ≡ b
-name_is a b e =
-    let both = then_equal (int_cmp (epoch_day a.day) (epoch_day b.day)) (nat_cmp a.cycle b.cycle) e in
-    let day = day_is a.day b.day both.0 in
-    let number = exact_unsigned a.cycle b.cycle (equal_from_test (nat_cmp a.cycle b.cycle) both.1) in
-    λ i. record { day = day i; cycle = number i }
-
-name-self : (a : CycleId) → is_at (answered a) a ≡ true
-name-self a = ap is_eq (tied_itself cycle_total a)
-
--- the map's test of names and that of facts
-pub name-same : (a b : CycleId) → is_at (answered a) b ≡ same_cycle a b
-name-same a b = by_test (is_at (answered a) b) (same_cycle a b) refl refl
-  where
-    by_test : (p q : Bool) → is_at (answered a) b ≡ p → same_cycle a b ≡ q → p ≡ q
-    by_test true true e f = refl
-    by_test false false e f = refl
-    by_test true false e f = absurd (both_ways (same_cycle a b) f (subst (λ (c : CycleId). same_cycle a c ≡ true) (name_is a b e) (same_cycle-self a)))
-    by_test false true e f = absurd (both_ways (is_at (answered a) b) e (subst (λ (c : CycleId). is_at (answered a) c ≡ true) (same_cycle-is a b f) (name-self a)))
+-- the map's test of names is that of facts
+name-same : (a b : CycleId) → is_at (answered a) b ≡ same_cycle a b
+name-same a b =
+    sym (both_tied (same_day a.day b.day) (nat_eq a.cycle b.cycle) (int_cmp (epoch_day a.day) (epoch_day b.day)) (nat_cmp a.cycle b.cycle) refl (unsigned_ties a.cycle b.cycle))
 
 -- ---- the numbers of facts
 
@@ -109,7 +69,7 @@ meeting_same facts fact id None is = refl
 meeting_same facts fact id (Some peer) is =
     ap (λ (n : ℕ). Some n) (number_of-more (is_meeting id) facts (fact ∷ []) (meets-any id facts ∙ ap is_some is))
 
-pub stage-same : (side : Side) (facts : List Fact) (fact : Fact) (id : CycleId) → is_closing id fact ≡ false → peer_in id fact ≡ None
+stage-same : (side : Side) (facts : List Fact) (fact : Fact) (id : CycleId) → is_closing id fact ≡ false → peer_in id fact ≡ None
     → closed_stage side (facts ++ fact ∷ []) id ≡ closed_stage side facts id
 unfolding is_closed
 stage-same side facts fact id other none = by_closed (is_closed id facts) refl
@@ -161,7 +121,7 @@ put_by : (side : Side) (facts : List Fact) (fact : Fact) (old new : List (CycleI
     → Puts old new id stage → closed_stage side (facts ++ fact ∷ []) id ≡ Some stage → stage_in old other ≡ closed_stage side facts other
     → (same_cycle id other ≡ false → closed_stage side (facts ++ fact ∷ []) other ≡ closed_stage side facts other) → stage_in new other ≡ closed_stage side (facts ++ fact ∷ []) other
 put_by side facts fact old new id other stage true is puts here at same =
-    puts other ∙ ap (λ (b : Bool). cond b (Some stage) (stage_in old other)) is ∙ sym here ∙ ap (closed_stage side (facts ++ fact ∷ [])) (name_is id other is)
+    puts other ∙ ap (λ (b : Bool). cond b (Some stage) (stage_in old other)) is ∙ sym here ∙ ap (closed_stage side (facts ++ fact ∷ [])) (same_cycle-is id other (sym (name-same id other) ∙ is))
 put_by side facts fact old new id other stage false is puts here at same =
     puts other ∙ ap (λ (b : Bool). cond b (Some stage) (stage_in old other)) is ∙ at ∙ sym (same (sym (name-same id other) ∙ is))
 

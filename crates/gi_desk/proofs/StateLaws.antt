@@ -1,9 +1,9 @@
 -- What later facts leave as it was.
-use Rattle.std.proofs.Common.{arith, ◌≡◌, ℕ, ◌+◌, ◌≤◌, List, [], ◌∷◌, ◌++◌, length, Bool, true, false, not, cond, ◌||◌, Option, Some, None, refl, sym, ap, ◌∙◌, subst}
+use Rattle.std.proofs.Common.{arith, ◌≡◌, ℕ, ◌≤◌, List, [], ◌∷◌, ◌++◌, length, Bool, true, false, not, cond, ◌||◌, Option, Some, None, refl, sym, ap, ◌∙◌, subst}
 use Rattle.std.specs.Prelude.{take_while, filter_map, slice_get}
 use Rattle.std.specs.List.{list_any, cons_option}
-use Rattle.std.proofs.lemmas.List.{length-take, take-append-le}
-use Rattle.std.proofs.lemmas.List.Sums.{prefix_len-le-length, take_while-cons}
+use Rattle.std.proofs.lemmas.List.{take-append-le}
+use Rattle.std.proofs.lemmas.List.Sums.{take_while-cons}
 use Rattle.gi_pairs.specs.Table.{TableContents}
 use Rattle.gi_pairs.specs.declared.cycle_id.CycleId.{CycleId}
 use Rattle.gi_pairs.specs.declared.side.Side.{Side}
@@ -82,11 +82,7 @@ unfolding state_of
 state_of-more side facts more id peer closed met =
     rw (closed, is_closed-more id facts more closed, met, peer_of-more id facts more peer met, frozen_table-more side facts more id closed) refl
 
--- the number of a fact is from 1 to one more than there are facts
+-- the number of a fact is at least 1
 pub number_of-from : (is : Fact → Bool) (facts : List Fact) → 1 ≤ number_of is facts
 unfolding number_of
 number_of-from is facts = omega arith
-
-pub number_of-within : (is : Fact → Bool) (facts : List Fact) → number_of is facts ≤ length facts + 1
-unfolding number_of facts_before
-number_of-within is facts = let within = prefix_len-le-length (λ fact. not (is fact)) facts in grind (length-take, arith, within)

@@ -17,13 +17,13 @@ use Rattle.gi_nominations.proofs.FiledLaws.{is_of-own}
 use Rattle.gi_nominations.proofs.JudgingLaws.{verdict-repeat}
 use Rattle.gi_desk.specs.History.{documents_of, is_taking, number_of}
 use Rattle.gi_desk.specs.Judging.{setting_of, verdict_on}
-use Rattle.gi_desk.specs.Laws.{KeepsTheHighestVersion}
+use Rattle.gi_desk.specs.Laws.{KeepsTheHighestVersion, VersionsRise}
 use Rattle.gi_desk.specs.Machine.{bad_fact, bad_from, most_facts, would_record}
 use Rattle.gi_desk.specs.Takings.{AreTakings, taking_in}
 use Rattle.gi_facts.specs.declared.fact.Fact.{Fact}
 use Rattle.gi_facts.specs.declared.fact.Fact.TheVariants.{Closed, Contracted, Met, Nominated, Noticed}
-use Rattle.gi_desk.proofs.HistoryLaws.{documents_more}
-use Rattle.gi_desk.proofs.Legality.{legal-first, recorded-newer}
+use Rattle.gi_desk.proofs.HistoryLaws.{same_documents, taken-more}
+use Rattle.gi_desk.proofs.Legality.{legal-first, legal-recorded, legal-some, recorded-newer}
 use Rattle.gi_desk.proofs.StagesKept.{number_of-last, number_of-more}
 use Rattle.gi_desk.proofs.StateLaws.{any-more}
 
@@ -66,9 +66,6 @@ no_taking (Nominated other) document none = absurd cc
 no_taking (Closed id) document none = refl
 no_taking (Met id peer) document none = refl
 
-pub same_documents : (facts : List Fact) (fact : Fact) → documents_of (fact ∷ []) ≡ [] → documents_of (facts ++ fact ∷ []) ≡ documents_of facts
-same_documents facts fact none = documents_more facts fact ∙ ap (λ (ds : List Nomint). documents_of facts ++ ds) none ∙ append-nil (documents_of facts)
-
 rising-other : (facts : List Fact) (fact : Fact) → documents_of (fact ∷ []) ≡ [] → AreRising facts → AreRising (facts ++ fact ∷ [])
 rising-other facts fact none rises =
     let same = same_documents facts fact none in
@@ -85,10 +82,6 @@ taking_itself document =
     and_from (is_of document.portfolio document.day document) (nat_eq document.version document.version)
     (is_of-again document.portfolio document.day document refl refl) (grind (arith, nat_tests))
 
-pub taken-more : (facts : List Fact) (document : Nomint) → documents_of (facts ++ Nominated document ∷ []) ≡ documents_of facts ++ document ∷ []
-unfolding documents_of
-taken-more facts document = documents_more facts (Nominated document)
-
 -- what is in force once one more nomination is taken
 force-taken : (facts : List Fact) (document : Nomint) (portfolio : List ℕ) (day : Date) (b : Bool) → is_of portfolio day document ≡ b
     → in_force portfolio day (documents_of (facts ++ Nominated document ∷ [])) ≡ cond b (Some document) (in_force portfolio day (documents_of facts))
@@ -97,7 +90,7 @@ force-taken facts document portfolio day b is =
     ∙ ap (λ (p : Bool). cond p (Some document) (in_force portfolio day (documents_of facts))) is
 
 -- none of the facts before took the same nomination
-pub none-took : (facts : List Fact) (document : Nomint) → AreRising facts → IsNewer (documents_of facts) document → list_any (is_taking document) facts ≡ false
+none-took : (facts : List Fact) (document : Nomint) → AreRising facts → IsNewer (documents_of facts) document → list_any (is_taking document) facts ≡ false
 none-took facts document rises newer = by_any (list_any (is_taking document) facts) refl
   where
     by_any : (b : Bool) → list_any (is_taking document) facts ≡ b → b ≡ false
@@ -186,6 +179,20 @@ highest-version side point before after document held legal e =
     let facts = before ++ Nominated document ∷ after in
     let found = (legal-rising side point facts legal).rising document (any-within (is_taking document) before after (Nominated document) (taking_itself document)) in
     subst (λ (d : Nomint). document.version ≤ d.version) (same_Some found.held held (sym found.in_force ∙ e)) found.above
+
+-- and a nomination that is taken after another one of its portfolio and gas day has a higher version
+pub versions-rise : VersionsRise
+versions-rise side point before between after document later legal of =
+    let facts = before ++ Nominated document ∷ between in
+    let all : bad_fact side point (facts ++ Nominated later ∷ after) ≡ None =
+    subst (λ (fs : List Fact). bad_fact side point fs ≡ None) (sym (append_assoc before (Nominated document ∷ between) (Nominated later ∷ after))) legal in
+    let newer = recorded-newer side point facts later (legal-recorded side point facts (Nominated later) after all) in
+    let found = (legal-rising side point facts (legal-some side point facts (Nominated later ∷ after) all)).rising document
+    (any-within (is_taking document) before between (Nominated document) (taking_itself document)) in
+    let own = is_of-takes document.portfolio document.day later of in
+    let below = newer found.held ((λ t. in_force (own.0 t) (own.1 t) (documents_of facts)) ∙ found.in_force) in
+    let above = found.above in
+    omega (arith, below, above)
 
 -- ---- the numbers
 

@@ -1,10 +1,10 @@
 -- What holds of all histories of a desk.
-use Rattle.std.specs.Prelude.{◌≡◌, ℕ, ◌+◌, ◌≤◌, List, [], ◌∷◌, ◌++◌, length, take, All, Contains, ◌⊎◌, Some, None, true, false}
+use Rattle.std.specs.Prelude.{◌≡◌, ℕ, ◌+◌, ◌<◌, ◌≤◌, List, [], ◌∷◌, ◌++◌, length, take, All, Contains, ◌⊎◌, Some, None, true, false}
 use Rattle.gi_pairs.specs.Table.{TableContents}
 use Rattle.gi_pairs.specs.declared.cycle_id.CycleId.{CycleId}
 use Rattle.gi_pairs.specs.declared.side.Side.{Side}
 use Rattle.gi_messages.specs.declared.message.Nomint.{Nomint}
-use Rattle.gi_nominations.specs.Book.{in_force}
+use Rattle.gi_nominations.specs.Book.{in_force, is_of}
 use Rattle.gi_desk.specs.History.{documents_of, frozen_table, is_closed, peer_of, state_of}
 use Rattle.gi_desk.specs.Kept.{changes_cycle}
 use Rattle.gi_desk.specs.LetOut.{let_out, packets_of}
@@ -47,6 +47,12 @@ MeetsOnce =
     (side : Side) (point : List ℕ) (before after : List Fact) (id : CycleId) (peer : TableContents)
     → bad_fact side point (before ++ Met id peer ∷ after) ≡ None
     → (is_closed id before ≡ true) × (peer_of id before ≡ None) × (peer_of id after ≡ None)
+
+-- Of facts that a desk would record in turn, the versions of the nominations of a portfolio and gas day rise.
+abbrev pub VersionsRise : Type 0
+VersionsRise =
+    (side : Side) (point : List ℕ) (before between after : List Fact) (document later : Nomint) → bad_fact side point (before ++ Nominated document ∷ (between ++ Nominated later ∷ after)) ≡ None
+    → is_of document.portfolio document.day later ≡ true → document.version < later.version
 
 -- Of facts that a desk would record in turn, the nomination in force has the highest version of all that were taken of its
 -- portfolio and gas day.

@@ -1,6 +1,6 @@
 //! What holds of all histories of a desk. These functions do nothing; their clauses are the laws.
 
-ghost use Rattle.gi_desk.specs.Laws.{ClosesOnce, ConfirmsForGood, ConfirmsThroughRestarts, FreezesForGood, FrontsAreLegal, KeepsTheHighestVersion, LetsOutForGood, MatchesForGood, MeetsOnce, OnlyAppends, OrdersOnlyOfCycles, RecordsWhatCallsRecord, RefusalsChangeNothing, SaysOnlyWhatIsSaved, StaysLegal, WritesMessages};
+ghost use Rattle.gi_desk.specs.Laws.{ClosesOnce, ConfirmsForGood, ConfirmsThroughRestarts, FreezesForGood, FrontsAreLegal, KeepsTheHighestVersion, LetsOutForGood, MatchesForGood, MeetsOnce, OnlyAppends, OrdersOnlyOfCycles, RecordsWhatCallsRecord, RefusalsChangeNothing, SaysOnlyWhatIsSaved, StaysLegal, VersionsRise, WritesMessages};
 
 /// No later fact changes what a fact lets out.
 pub fn lets_out_for_good()
@@ -25,6 +25,12 @@ pub fn closes_once()
 /// One at most meets it, and that one stands after the closing.
 pub fn meets_once()
     ensures { MeetsOnce }
+{}
+
+/// Of facts that a desk would record in turn, the versions of the nominations of a portfolio and gas
+/// day rise.
+pub fn versions_rise()
+    ensures { VersionsRise }
 {}
 
 /// Of facts that a desk would record in turn, the nomination in force has the highest version of all

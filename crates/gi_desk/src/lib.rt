@@ -49,11 +49,11 @@
 #![tactic(auto)]
 
 mod call;
+mod capacity;
 mod deciding;
 mod decision;
 mod desk;
 mod fact_packets;
-mod history;
 mod judging;
 mod laws;
 mod outcome;
@@ -79,7 +79,7 @@ pub use laws::{
     closes_once, confirms_for_good, confirms_through_restarts, freezes_for_good, fronts_are_legal,
     keeps_the_highest_version, lets_out_for_good, matches_for_good, meets_once, only_appends,
     orders_only_of_cycles, records_what_calls_record, refusals_change_nothing,
-    says_only_what_is_saved, stays_legal, writes_messages,
+    says_only_what_is_saved, stays_legal, versions_rise, writes_messages,
 };
 pub use outcome::Outcome;
 pub use packet::{Body, Packet, Packets, Recipient};

@@ -1,9 +1,9 @@
 //! Several facts in one text.
 
 ghost use Rattle.std.specs.Prelude.{◌≡◌, IfOk};
-ghost use Rattle.serde_json.specs.View.{view, items_view};
 ghost use Rattle.gi_messages.specs.Adding.{Adds};
 ghost use Rattle.gi_messages.specs.Reading as reading;
+ghost use Rattle.gi_messages.specs.Tokens.{value_at, elements_at};
 ghost use Rattle.gi_facts.specs.Batch.{GivesFacts, batch_of, batch_of_value, batch_text, facts_data, of_elements, one_fact};
 ghost use Rattle.gi_facts.specs.Decoding as decoding;
 
@@ -12,9 +12,8 @@ use crate::encoding::{encode_fact, put_fact, room_for_fact};
 use crate::fact::Fact;
 use crate::fact_fault::FactFault;
 use gi_messages::MOST_BYTES;
-use gi_messages::parts::{FieldFault, json};
-use json::Writer;
-use serde_json::Value;
+use gi_messages::parts::{FieldFault, JsonElements, JsonValue, json};
+use json::{Scratch, Writer};
 use std::alloc::{AllocError, Global};
 
 /// The most facts that are written as one text.
@@ -51,18 +50,18 @@ pub fn encode_batch(alloc: Global, facts: &[Fact]) -> Result<Vec<u8>, AllocError
     Ok(out.into_inner())
 }
 
-fn each_fact(alloc: Global, elements: &[Value]) -> Result<Vec<Fact>, FieldFault>
-    ensures { reading.Gives (λ found. found.items) result (reading.each decoding.fact (items_view elements.now)) }
+fn each_fact(alloc: Global, mut elements: JsonElements<'_, '_>) -> Result<Vec<Fact>, FieldFault>
+    ensures { reading.Gives (λ found. found.items) result (reading.each decoding.fact (elements_at elements.entry)) }
 {
-    let mut facts = Vec::with_capacity(alloc, elements.len())?;
-    for element in elements {
-        facts.push(fact(alloc, element)?)?;
+    let mut facts = Vec::new(alloc);
+    while let Some(element) = elements.next() {
+        facts.push(fact(alloc, &element)?)?;
     }
     Ok(facts)
 }
 
-fn facts_of(alloc: Global, elements: &[Value]) -> Result<Vec<Fact>, FactFault>
-    ensures { GivesFacts (λ found. found.items) result (of_elements (items_view elements.now)) }
+fn facts_of(alloc: Global, elements: JsonElements<'_, '_>) -> Result<Vec<Fact>, FactFault>
+    ensures { GivesFacts (λ found. found.items) result (of_elements (elements_at elements.entry)) }
 {
     let facts = each_fact(alloc, elements)?;
     if facts.len() < 2 || MOST_FACTS < facts.len() {
@@ -71,20 +70,20 @@ fn facts_of(alloc: Global, elements: &[Value]) -> Result<Vec<Fact>, FactFault>
     Ok(facts)
 }
 
-fn one_fact(alloc: Global, value: &Value) -> Result<Vec<Fact>, FieldFault>
-    ensures { reading.Gives (λ found. found.items) result (one_fact (view value.now)) }
+fn one_fact(alloc: Global, value: &JsonValue<'_, '_>) -> Result<Vec<Fact>, FieldFault>
+    ensures { reading.Gives (λ found. found.items) result (one_fact (value_at value.now)) }
 {
     let mut facts = Vec::with_capacity(alloc, 1)?;
     facts.push(fact(alloc, value)?)?;
     Ok(facts)
 }
 
-fn batch_of_value(alloc: Global, value: &Value) -> Result<Vec<Fact>, FactFault>
-    ensures { GivesFacts (λ found. found.items) result (batch_of_value (view value.now)) }
+fn batch_of_value(alloc: Global, value: &JsonValue<'_, '_>) -> Result<Vec<Fact>, FactFault>
+    ensures { GivesFacts (λ found. found.items) result (batch_of_value (value_at value.now)) }
 {
-    match value {
-        Value::Array(elements) => facts_of(alloc, elements.as_slice()),
-        _ => Ok(one_fact(alloc, value)?),
+    match value.elements() {
+        Some(elements) => facts_of(alloc, elements),
+        None => Ok(one_fact(alloc, value)?),
     }
 }
 
@@ -94,8 +93,9 @@ fn batch_of_value(alloc: Global, value: &Value) -> Result<Vec<Fact>, FactFault>
 pub fn decode_batch(alloc: Global, bytes: &[u8]) -> Result<Vec<Fact>, FactFault>
     ensures exact { GivesFacts (λ found. found.items) result (batch_of bytes.now) }
 {
-    let Some(value) = json(alloc, bytes)? else {
+    let mut scratch = Scratch::new(alloc);
+    let Some(text) = json(alloc, bytes, &mut scratch)? else {
         return Err(FactFault::NotAFact);
     };
-    batch_of_value(alloc, &value)
+    batch_of_value(alloc, &text.root())
 }

@@ -1,7 +1,7 @@
 //! Reading facts.
 
 ghost use Rattle.std.specs.Prelude.{◌≡◌, ◌≤◌, IfOk, Some};
-ghost use Rattle.serde_json.specs.View.{view};
+ghost use Rattle.gi_messages.specs.Tokens.{value_at};
 ghost use Rattle.gi_pairs.specs.Quantity.{most_quantity};
 ghost use Rattle.gi_messages.specs.Reading as reading;
 ghost use Rattle.gi_facts.specs.declared.fact.Fact.{Fact};
@@ -12,25 +12,25 @@ use crate::fact::Fact;
 use crate::fact_fault::FactFault;
 use crate::kind::{Kind, kind_named};
 use gi_messages::parts::{
-    FieldFault, Kind as MessageKind, Span, code, day, direction, json, kind_of, needed, nomint,
-    number, span_of, table, text,
+    FieldFault, JsonValue, Kind as MessageKind, Span, code, day, direction, json, kind_of, needed,
+    nomint, number, span_of, table, text,
 };
 use gi_messages::{Key, LAST_CYCLE, Nomint};
 use gi_pairs::{CycleId, MOST_PROCESSED_ROWS, Quantity, Table};
 use gi_processing::{Contract, MOST_PERMILLE, Notice};
-use serde_json::Value;
+use json::Scratch;
 use std::alloc::Global;
 
-fn quantity(object: &Value, key: Key) -> Result<Quantity, Key>
-    ensures { result ≡ reading.number 0 most_quantity key (view object.now) }
+fn quantity(object: &JsonValue<'_, '_>, key: Key) -> Result<Quantity, Key>
+    ensures { result ≡ reading.number 0 most_quantity key (value_at object.now) }
 {
     let value = number(object, key, 0, Quantity::MAX)?;
     Ok(Quantity::new(value).unwrap())
 }
 
 #[tactic(auto, unfolding(crate::specs::Decoding::contract))]
-fn contract(object: &Value) -> Result<Contract, Key>
-    ensures { result ≡ contract (view object.now) }
+fn contract(object: &JsonValue<'_, '_>) -> Result<Contract, Key>
+    ensures { result ≡ contract (value_at object.now) }
 {
     let portfolio = code(object, Key::Portfolio)?;
     let day = day(object, Key::Day)?;
@@ -47,8 +47,8 @@ fn contract(object: &Value) -> Result<Contract, Key>
 }
 
 #[tactic(auto, unfolding(crate::specs::Decoding::notice))]
-fn notice(object: &Value) -> Result<Notice, Key>
-    ensures { result ≡ notice (view object.now) }
+fn notice(object: &JsonValue<'_, '_>) -> Result<Notice, Key>
+    ensures { result ≡ notice (value_at object.now) }
 {
     let day = day(object, Key::Day)?;
     let direction = direction(object, Key::Direction)?;
@@ -65,8 +65,8 @@ fn notice(object: &Value) -> Result<Notice, Key>
     })
 }
 
-fn document_of(alloc: Global, object: &Value) -> Result<Nomint, FieldFault>
-    ensures { reading.Gives (λ found. found) result (document_of (view object.now)) }
+fn document_of(alloc: Global, object: &JsonValue<'_, '_>) -> Result<Nomint, FieldFault>
+    ensures { reading.Gives (λ found. found) result (document_of (value_at object.now)) }
 {
     match kind_of(object) {
         Some(MessageKind::Nomint) => nomint(alloc, object),
@@ -75,15 +75,15 @@ fn document_of(alloc: Global, object: &Value) -> Result<Nomint, FieldFault>
 }
 
 #[tactic(auto, unfolding(crate::specs::Decoding::document))]
-fn document(alloc: Global, object: &Value) -> Result<Nomint, FieldFault>
-    ensures { reading.Gives (λ found. found) result (document (view object.now)) }
+fn document(alloc: Global, object: &JsonValue<'_, '_>) -> Result<Nomint, FieldFault>
+    ensures { reading.Gives (λ found. found) result (document (value_at object.now)) }
 {
-    document_of(alloc, needed(object, Key::Nomint)?)
+    document_of(alloc, &needed(object, Key::Nomint)?)
 }
 
 #[tactic(auto, unfolding(crate::specs::Decoding::cycle_id))]
-fn cycle_id(object: &Value) -> Result<CycleId, Key>
-    ensures { result ≡ cycle_id (view object.now) }
+fn cycle_id(object: &JsonValue<'_, '_>) -> Result<CycleId, Key>
+    ensures { result ≡ cycle_id (value_at object.now) }
 {
     let day = day(object, Key::Day)?;
     let cycle = number(object, Key::Cycle, 0, u64::from(LAST_CYCLE))? as u8;
@@ -91,16 +91,16 @@ fn cycle_id(object: &Value) -> Result<CycleId, Key>
 }
 
 #[tactic(auto, unfolding(crate::specs::Decoding::peer_table))]
-fn peer_table(alloc: Global, object: &Value) -> Result<Table, FieldFault>
-    ensures { reading.Gives (λ found. found) result (peer_table (view object.now)) }
+fn peer_table(alloc: Global, object: &JsonValue<'_, '_>) -> Result<Table, FieldFault>
+    ensures { reading.Gives (λ found. found) result (peer_table (value_at object.now)) }
 {
     let Span { first, last } = span_of(object)?;
     table(alloc, object, Key::Peer, MOST_PROCESSED_ROWS, first, last)
 }
 
 #[tactic(auto, unfolding(crate::specs::Decoding::meeting))]
-fn meeting(alloc: Global, object: &Value) -> Result<Fact, FieldFault>
-    ensures { reading.Gives (λ found. found) result (meeting (view object.now)) }
+fn meeting(alloc: Global, object: &JsonValue<'_, '_>) -> Result<Fact, FieldFault>
+    ensures { reading.Gives (λ found. found) result (meeting (value_at object.now)) }
 {
     let id = cycle_id(object)?;
     let peer = peer_table(alloc, object)?;
@@ -108,14 +108,14 @@ fn meeting(alloc: Global, object: &Value) -> Result<Fact, FieldFault>
 }
 
 #[tactic(auto, unfolding(crate::specs::Decoding::kind))]
-fn kind(object: &Value) -> Result<Kind, Key>
-    ensures { result ≡ kind (view object.now) }
+fn kind(object: &JsonValue<'_, '_>) -> Result<Kind, Key>
+    ensures { result ≡ kind (value_at object.now) }
 {
     kind_named(text(object, Key::Fact)?).ok_or(Key::Fact)
 }
 
-fn of_kind(alloc: Global, kind: Kind, object: &Value) -> Result<Fact, FieldFault>
-    ensures { reading.Gives (λ found. found) result (of_kind kind (view object.now)) }
+fn of_kind(alloc: Global, kind: Kind, object: &JsonValue<'_, '_>) -> Result<Fact, FieldFault>
+    ensures { reading.Gives (λ found. found) result (of_kind kind (value_at object.now)) }
 {
     match kind {
         Kind::Contract => Ok(Fact::Contracted(contract(object)?)),
@@ -127,8 +127,8 @@ fn of_kind(alloc: Global, kind: Kind, object: &Value) -> Result<Fact, FieldFault
 }
 
 #[tactic(auto, unfolding(crate::specs::Decoding::fact))]
-pub fn fact(alloc: Global, object: &Value) -> Result<Fact, FieldFault>
-    ensures { reading.Gives (λ found. found) result (fact (view object.now)) }
+pub fn fact(alloc: Global, object: &JsonValue<'_, '_>) -> Result<Fact, FieldFault>
+    ensures { reading.Gives (λ found. found) result (fact (value_at object.now)) }
 {
     let kind = kind(object)?;
     of_kind(alloc, kind, object)
@@ -138,10 +138,11 @@ pub fn fact(alloc: Global, object: &Value) -> Result<Fact, FieldFault>
 fn read(alloc: Global, bytes: &[u8]) -> Result<Fact, FactFault>
     ensures { Gives result (fact_of bytes.now) }
 {
-    let Some(value) = json(alloc, bytes)? else {
+    let mut scratch = Scratch::new(alloc);
+    let Some(text) = json(alloc, bytes, &mut scratch)? else {
         return Err(FactFault::NotAFact);
     };
-    Ok(fact(alloc, &value)?)
+    Ok(fact(alloc, &text.root())?)
 }
 
 /// The fact that the bytes are. `NotAFact` where they are none, and `OutOfMemory` where memory runs

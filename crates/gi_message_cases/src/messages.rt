@@ -7,6 +7,7 @@ use crate::json_bytes::{add_written, json_bytes};
 use gi_calls::{Fault, Subject, Words};
 use gi_messages::parts::{Span, json, span_of};
 use gi_messages::{Lines, Message, decode, encode};
+use json::Scratch;
 use lines::{line_of, lines_of};
 use shown::{add_line, add_lines, add_message};
 use std::alloc::Global;
@@ -104,10 +105,11 @@ fn copy_line(alloc: Global, words: Words, text: &mut String) -> Result<bool, Fau
 
 /// The hours that an object names, or the first key of the two that is missing or wrong.
 fn span(alloc: Global, words: Words, text: &mut String) -> Result<bool, Fault> {
-    let Some(object) = json(alloc, words.rest().as_bytes())? else {
+    let mut scratch = Scratch::new(alloc);
+    let Some(object) = json(alloc, words.rest().as_bytes(), &mut scratch)? else {
         return Ok(false);
     };
-    match span_of(&object) {
+    match span_of(&object.root()) {
         Ok(Span { first, last }) => text.push_str(format!(in alloc; "{first} {last}")?.as_str())?,
         Err(key) => text.push_str(key.text())?,
     }

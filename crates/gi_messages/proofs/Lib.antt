@@ -1,4 +1,7 @@
 pub mod JsonLemmas
+pub mod NumberLemmas
+pub mod TokenLemmas
+pub mod TextLemmas
 pub mod Plain
 pub mod FieldLemmas
 pub mod DateLemmas

@@ -2,6 +2,7 @@ pub mod Key
 pub mod Kind
 pub mod Limits
 pub mod Json
+pub mod Tokens
 pub mod Dates
 pub mod Names
 pub mod Lines

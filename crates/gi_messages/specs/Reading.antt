@@ -133,6 +133,10 @@ row array_key count d =
 unfoldable pub rows_of : Key → ℕ → ℕ → Items → Read (List Row)
 rows_of key limit count ds = if nat_lt limit (items_len ds) then Err key else each (row key count) ds
 
+-- the rows at a key
+abbrev pub rows_at : Key → ℕ → ℕ → Data → Read (List Row)
+rows_at key limit count d = items key d >>= rows_of key limit count
+
 -- the table of the rows at a key, whose keys differ
 unfoldable pub table : Key → ℕ → ℕ → ℕ → Data → Read TableContents
 table key limit first last d = do

@@ -1,7 +1,7 @@
 //! Reading messages.
 
 ghost use Rattle.std.specs.Prelude.{◌≡◌, ◌<◌, ◌≤◌, length, IfOk, Ok, Err};
-ghost use Rattle.serde_json.specs.View.{view};
+ghost use Rattle.gi_messages.specs.Tokens.{value_at};
 ghost use Rattle.gi_messages.specs.Reading as reading;
 ghost use Rattle.gi_messages.specs.declared.message.Message.{Message};
 ghost use Rattle.gi_messages.specs.Grammar.{Spells};
@@ -13,6 +13,7 @@ use crate::fault::FieldFault;
 use crate::fields::{code, day, number};
 use crate::head::{Span, head_of, span_of};
 use crate::json_text::json;
+use crate::json_value::JsonValue;
 use crate::key::Key;
 use crate::kind::{Kind, kind_named};
 use crate::line_reading::lines;
@@ -22,11 +23,11 @@ use crate::message::{
 use crate::message_fault::MessageFault;
 use crate::rows::table;
 use gi_pairs::{MOST_PROCESSED_ROWS, MOST_ROWS, Table};
-use serde_json::Value;
+use json::Scratch;
 use std::alloc::Global;
 
-fn version(object: &Value) -> Result<u32, Key>
-    ensures { result ≡ reading.number 1 last_version Version (view object.now) }
+fn version(object: &JsonValue<'_, '_>) -> Result<u32, Key>
+    ensures { result ≡ reading.number 1 last_version Version (value_at object.now) }
 {
     let version = number(object, Key::Version, 1, u64::from(LAST_VERSION))?;
     Ok(version as u32)
@@ -34,8 +35,8 @@ fn version(object: &Value) -> Result<u32, Key>
 
 /// The NOMINT that an object is.
 #[tactic(auto, unfolding(crate::specs::Decoding::nomint))]
-pub fn nomint(alloc: Global, object: &Value) -> Result<Nomint, FieldFault>
-    ensures { reading.Gives (λ found. found) result (nomint (view object.now)) }
+pub fn nomint(alloc: Global, object: &JsonValue<'_, '_>) -> Result<Nomint, FieldFault>
+    ensures { reading.Gives (λ found. found) result (nomint (value_at object.now)) }
 {
     let point = code(object, Key::Point)?;
     let portfolio = code(object, Key::Portfolio)?;
@@ -52,8 +53,8 @@ pub fn nomint(alloc: Global, object: &Value) -> Result<Nomint, FieldFault>
 }
 
 #[tactic(auto, unfolding(crate::specs::Decoding::acknow))]
-fn acknow(object: &Value) -> Result<Acknow, FieldFault>
-    ensures { reading.Gives (λ found. found) result (acknow (view object.now)) }
+fn acknow(object: &JsonValue<'_, '_>) -> Result<Acknow, FieldFault>
+    ensures { reading.Gives (λ found. found) result (acknow (value_at object.now)) }
 {
     let point = code(object, Key::Point)?;
     let portfolio = code(object, Key::Portfolio)?;
@@ -68,8 +69,8 @@ fn acknow(object: &Value) -> Result<Acknow, FieldFault>
 }
 
 #[tactic(auto, unfolding(crate::specs::Decoding::nomres))]
-fn nomres(alloc: Global, object: &Value) -> Result<Nomres, FieldFault>
-    ensures { reading.Gives (λ found. found) result (nomres (view object.now)) }
+fn nomres(alloc: Global, object: &JsonValue<'_, '_>) -> Result<Nomres, FieldFault>
+    ensures { reading.Gives (λ found. found) result (nomres (value_at object.now)) }
 {
     let point = code(object, Key::Point)?;
     let portfolio = code(object, Key::Portfolio)?;
@@ -89,9 +90,9 @@ fn nomres(alloc: Global, object: &Value) -> Result<Nomres, FieldFault>
     })
 }
 
-fn processed(alloc: Global, object: &Value, span: Span) -> Result<Table, FieldFault>
+fn processed(alloc: Global, object: &JsonValue<'_, '_>, span: Span) -> Result<Table, FieldFault>
     requires { span.first ≤ span.last }
-    ensures { reading.Gives (λ found. found) result (processed span (view object.now)) }
+    ensures { reading.Gives (λ found. found) result (processed span (value_at object.now)) }
 {
     let Span { first, last } = span;
     table(
@@ -105,8 +106,8 @@ fn processed(alloc: Global, object: &Value, span: Span) -> Result<Table, FieldFa
 }
 
 #[tactic(auto, unfolding(crate::specs::Decoding::delord))]
-fn delord(alloc: Global, object: &Value) -> Result<Delord, FieldFault>
-    ensures { reading.Gives (λ found. found) result (delord (view object.now)) }
+fn delord(alloc: Global, object: &JsonValue<'_, '_>) -> Result<Delord, FieldFault>
+    ensures { reading.Gives (λ found. found) result (delord (value_at object.now)) }
 {
     let head = head_of(object)?;
     let processed = processed(alloc, object, head.span)?;
@@ -119,8 +120,8 @@ fn delord(alloc: Global, object: &Value) -> Result<Delord, FieldFault>
 }
 
 #[tactic(auto, unfolding(crate::specs::Decoding::delres))]
-fn delres(alloc: Global, object: &Value) -> Result<Delres, FieldFault>
-    ensures { reading.Gives (λ found. found) result (delres (view object.now)) }
+fn delres(alloc: Global, object: &JsonValue<'_, '_>) -> Result<Delres, FieldFault>
+    ensures { reading.Gives (λ found. found) result (delres (value_at object.now)) }
 {
     let head = head_of(object)?;
     let Span { first, last } = head.span;
@@ -135,8 +136,8 @@ fn delres(alloc: Global, object: &Value) -> Result<Delres, FieldFault>
     })
 }
 
-fn of_kind(alloc: Global, kind: Kind, object: &Value) -> Result<Message, FieldFault>
-    ensures { reading.Gives (λ found. found) result (of_kind kind (view object.now)) }
+fn of_kind(alloc: Global, kind: Kind, object: &JsonValue<'_, '_>) -> Result<Message, FieldFault>
+    ensures { reading.Gives (λ found. found) result (of_kind kind (value_at object.now)) }
 {
     match kind {
         Kind::Nomint => Ok(Message::Nomint(nomint(alloc, object)?)),
@@ -149,8 +150,8 @@ fn of_kind(alloc: Global, kind: Kind, object: &Value) -> Result<Message, FieldFa
 
 /// The kind that an object names.
 #[tactic(auto, unfolding(crate::specs::Decoding::kind_of))]
-pub fn kind_of(object: &Value) -> Option<Kind>
-    ensures { result ≡ kind_of (view object.now) }
+pub fn kind_of(object: &JsonValue<'_, '_>) -> Option<Kind>
+    ensures { result ≡ kind_of (value_at object.now) }
 {
     kind_named(object.get(Key::Kind.text())?.as_str()?)
 }
@@ -163,13 +164,15 @@ fn read(alloc: Global, bytes: &[u8]) -> Result<Message, MessageFault>
     if bytes.len() > MOST_BYTES {
         return Err(MessageFault::TooLarge);
     }
-    let Some(value) = json(alloc, bytes)? else {
+    let mut scratch = Scratch::new(alloc);
+    let Some(text) = json(alloc, bytes, &mut scratch)? else {
         return Err(MessageFault::NotJson);
     };
-    let Some(kind) = kind_of(&value) else {
+    let object = text.root();
+    let Some(kind) = kind_of(&object) else {
         return Err(MessageFault::UnknownKind);
     };
-    Ok(of_kind(alloc, kind, &value)?)
+    Ok(of_kind(alloc, kind, &object)?)
 }
 
 /// The message that the bytes are, or the first fault: `TooLarge` (over 16,777,216 bytes),

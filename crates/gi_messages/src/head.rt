@@ -1,16 +1,16 @@
 //! Reading the hours that a message is for, and what an order and a response begin with.
 
 ghost use Rattle.std.specs.Prelude.{◌≡◌, ◌≤◌, IfOk};
-ghost use Rattle.serde_json.specs.View.{view};
+ghost use Rattle.gi_messages.specs.Tokens.{value_at};
 ghost use Rattle.gi_messages.specs.Reading.{span};
 ghost use Rattle.gi_messages.specs.Decoding.{head};
 
 use crate::fields::{code, day, number};
+use crate::json_value::JsonValue;
 use crate::key::Key;
 use crate::message::LAST_CYCLE;
 use gi_day::GasDay;
 use gi_pairs::{Code, LAST_HOUR};
-use serde_json::Value;
 
 /// The hours from `first` to `last`, numbered from 1 to 25 at most.
 #[derive(Clone, Copy)]
@@ -30,8 +30,8 @@ pub(crate) struct Head {
 
 /// The hours that an object names.
 #[tactic(auto, unfolding(crate::specs::Reading::span))]
-pub fn span_of(object: &Value) -> Result<Span, Key>
-    ensures value { result ≡ span (view object.now) }
+pub fn span_of(object: &JsonValue<'_, '_>) -> Result<Span, Key>
+    ensures value { result ≡ span (value_at object.now) }
     ensures ordered { IfOk result (λ span. span.first ≤ span.last) }
 {
     let first = number(object, Key::First, 1, u64::from(LAST_HOUR))?;
@@ -43,8 +43,8 @@ pub fn span_of(object: &Value) -> Result<Span, Key>
 }
 
 #[tactic(auto, unfolding(crate::specs::Decoding::head))]
-pub(crate) fn head_of(object: &Value) -> Result<Head, Key>
-    ensures value { result ≡ head (view object.now) }
+pub(crate) fn head_of(object: &JsonValue<'_, '_>) -> Result<Head, Key>
+    ensures value { result ≡ head (value_at object.now) }
     ensures ordered { IfOk result (λ head. head.span.first ≤ head.span.last) }
 {
     let point = code(object, Key::Point)?;

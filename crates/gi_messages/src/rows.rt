@@ -1,21 +1,26 @@
 //! Reading the rows of a table.
 
 ghost use Rattle.std.specs.Prelude.{◌≡◌, ◌≤◌};
-ghost use Rattle.serde_json.specs.View.{view, items_view};
-ghost use Rattle.gi_messages.specs.Reading.{Gives, each, row, rows_of, table};
+ghost use Rattle.gi_messages.specs.Tokens.{value_at, elements_at};
+ghost use Rattle.gi_messages.specs.Reading.{Gives, each, row, rows_at, table};
 
 use crate::fault::FieldFault;
 use crate::fields::{code, direction, items};
+use crate::json_value::{JsonElements, JsonValue};
 use crate::key::Key;
 use crate::quantities::hours;
 use gi_pairs::{Pair, Row, Table};
-use serde_json::Value;
 use std::alloc::Global;
 
 /// A row for so many hours, from an element of the array at the key `array`.
 #[tactic(auto, unfolding(crate::specs::Reading::row))]
-pub fn row(alloc: Global, element: &Value, array: Key, count: usize) -> Result<Row, FieldFault>
-    ensures { Gives (λ found. found) result (row array count (view element.now)) }
+pub fn row(
+    alloc: Global,
+    element: &JsonValue<'_, '_>,
+    array: Key,
+    count: usize,
+) -> Result<Row, FieldFault>
+    ensures { Gives (λ found. found) result (row array count (value_at element.now)) }
 {
     if !element.is_object() {
         return Err(FieldFault::Wrong(array));
@@ -35,51 +40,51 @@ pub fn row(alloc: Global, element: &Value, array: Key, count: usize) -> Result<R
 
 fn each_row(
     alloc: Global,
-    elements: &[Value],
+    mut elements: JsonElements<'_, '_>,
+    room: usize,
     array: Key,
     count: usize,
 ) -> Result<Vec<Row>, FieldFault>
-    ensures { Gives (λ found. found.items) result (each (row array count) (items_view elements.now)) }
+    ensures { Gives (λ found. found.items) result (each (row array count) (elements_at elements.entry)) }
 {
-    let mut rows = Vec::with_capacity(alloc, elements.len())?;
-    for element in elements {
-        rows.push(row(alloc, element, array, count)?)?;
+    let mut rows = Vec::with_capacity(alloc, room)?;
+    while let Some(element) = elements.next() {
+        rows.push(row(alloc, &element, array, count)?)?;
     }
     Ok(rows)
 }
 
-#[tactic(auto, using(crate::proofs::Elements::lengths), unfolding(crate::specs::Reading::rows_of))]
-fn rows_of(
+#[tactic(auto, unfolding(crate::specs::Reading::rows_of))]
+fn rows_at(
     alloc: Global,
-    elements: &[Value],
+    object: &JsonValue<'_, '_>,
     array: Key,
     limit: usize,
     count: usize,
 ) -> Result<Vec<Row>, FieldFault>
-    ensures { Gives (λ found. found.items) result (rows_of array limit count (items_view elements.now)) }
+    ensures { Gives (λ found. found.items) result (rows_at array limit count (value_at object.now)) }
 {
-    if elements.len() > limit {
+    let Some(size) = items(object, array)?.count_within(limit) else {
         return Err(FieldFault::Wrong(array));
-    }
-    each_row(alloc, elements, array, count)
+    };
+    each_row(alloc, items(object, array)?, size, array, count)
 }
 
 /// The table for the hours from `first` to `last` whose rows stand at a key, at most `limit` of
 /// them. The key is wrong where there are more, and where two rows have one pair and direction.
-#[tactic(auto, unfolding(crate::specs::Reading::table))]
+#[tactic(auto, using(crate::proofs::Elements::table_from_rows), unfolding(crate::specs::Reading::table))]
 pub fn table(
     alloc: Global,
-    object: &Value,
+    object: &JsonValue<'_, '_>,
     key: Key,
     limit: usize,
     first: u8,
     last: u8,
 ) -> Result<Table, FieldFault>
     requires { first ≤ last }
-    ensures { Gives (λ found. found) result (table key limit first last (view object.now)) }
+    ensures { Gives (λ found. found) result (table key limit first last (value_at object.now)) }
 {
     let count = usize::from(last) + 1 - usize::from(first);
-    let elements = items(object, key)?;
-    let rows = rows_of(alloc, elements, key, limit, count)?;
+    let rows = rows_at(alloc, object, key, limit, count)?;
     Table::build(first, last, rows).map_err(|_| FieldFault::Wrong(key))
 }

@@ -45,10 +45,10 @@ tied a b =
 pub is_of-own : (key : PortfolioDay) (document : Nomint) → is_eq (portfolio_day_cmp (portfolio_day_of document) key) ≡ is_of key.portfolio key.day document
 is_of-own key document = tied (portfolio_day_of document) key
 
-pub is_of-sought : (key : PortfolioDay) (document : Nomint) → is_eq (portfolio_day_cmp key (portfolio_day_of document)) ≡ is_of key.portfolio key.day document
+is_of-sought : (key : PortfolioDay) (document : Nomint) → is_eq (portfolio_day_cmp key (portfolio_day_of document)) ≡ is_of key.portfolio key.day document
 is_of-sought key document = equals.symm key (portfolio_day_of document) ∙ is_of-own key document
 
-pub one_key : (a b : PortfolioDay) → portfolio_day_cmp a b ≡ Equal → a ≡ b
+one_key : (a b : PortfolioDay) → portfolio_day_cmp a b ≡ Equal → a ≡ b
 one_key a b e =
     let both = and_parts (bytes_eq a.portfolio b.portfolio) (same_day a.day b.day) (sym (tied a b) ∙ ap is_eq e) in
     let portfolio = (bytes_eq-Decides a.portfolio b.portfolio).0 both.0 in

@@ -39,7 +39,7 @@ holds true e = refl
 holds false e = absurd cc
 
 -- what all nominations have that are not refused
-pub record IsAccepted (book : Documents) (setting : Setting) (document : Nomint) (v : Verdict) : Type 0 where
+record IsAccepted (book : Documents) (setting : Setting) (document : Nomint) (v : Verdict) : Type 0 where
   pub point : document.point ≡ book.point
   pub known : setting.known ≡ true
   pub lines : lines_fault (hour_count setting.frame) document.lines ≡ None

@@ -69,7 +69,7 @@ impl Book {
     /// look-up in the map.
     pub fn in_force(&self, portfolio: Code, day: GasDay) -> Option<&Nomint>
         ensures value { option_copied result ≡ in_force_of portfolio day self.now.documents }
-        // It is the only document of both that is kept, and none has a higher version.
+        // It is the only document of both that is kept, so none that is kept has a higher version.
         ensures sole { (held : Nomint) → option_copied result ≡ Some held → All (λ document. is_of portfolio day document ≡ true → document ≡ held) self.now.documents }
         ensures highest { (held : Nomint) → option_copied result ≡ Some held → All (IsUpTo portfolio day held) self.now.documents }
     {

@@ -29,7 +29,7 @@ use Rattle.gi_processing.specs.declared.hours_left.HoursLeft.{HoursLeft}
 use Rattle.gi_processing.specs.declared.hours_left.Thousandths.{Thousandths}
 use Rattle.gi_processing.specs.declared.notice.Notice.{Notice}
 use Rattle.gi_processing.specs.declared.notice_key.NoticeKey.{NoticeKey}
-use Rattle.gi_processing.proofs.KeyLaws.{contract_same, found-is_for, found-is_key, is_for-found, is_key, is_key-found, key_from_days, key_from_test, key_of, notice_total}
+use Rattle.gi_processing.proofs.KeyLaws.{found-is_for, found-is_key, is_for-found, is_key, is_key-found, key_from_days, key_from_test, key_of, notice_total}
 use Rattle.gi_processing.proofs.LastRecorded.{has_contract-is, has_notice-is}
 
 -- ---- contracts
@@ -40,20 +40,20 @@ find_entries : (portfolio : List ℕ) (day : Date) (direction : Direction) (entr
 find_entries portfolio day direction [] = refl
 find_entries portfolio day direction (e ∷ es) =
     let key = contract_key portfolio day direction in
-    by_test (is_eq (contract_cmp key e.0)) (is_for portfolio day direction (contract_at e.0 e.1)) refl (found-is_for portfolio day direction (contract_at e.0 e.1)) (find_entries portfolio day direction es)
+    by_test (is_eq (contract_cmp key e.0)) (is_for portfolio day direction (contract_at e.0 e.1)) (found-is_for portfolio day direction (contract_at e.0 e.1)) refl (find_entries portfolio day direction es)
   where
-    by_test : (at for : Bool) → is_eq (contract_cmp (contract_key portfolio day direction) e.0) ≡ at → at ≡ for
+    by_test : (at for : Bool) → at ≡ for → is_for portfolio day direction (contract_at e.0 e.1) ≡ for
         → find (is_for portfolio day direction) (map (λ e. contract_at e.0 e.1) es)
         ≡ option_map (contract_at (contract_key portfolio day direction)) (lookup (is_at (contract_cmp (contract_key portfolio day direction))) es)
         → cond for (Some (contract_at e.0 e.1)) (find (is_for portfolio day direction) (map (λ e. contract_at e.0 e.1) es))
         ≡ option_map (contract_at (contract_key portfolio day direction)) (cond at (Some e.1) (lookup (is_at (contract_cmp (contract_key portfolio day direction))) es))
-    by_test true true is same rest = ap (λ (k : ContractKey). Some (contract_at k e.1)) (sym (contract_same (contract_key portfolio day direction) e.0 is))
-    by_test true false is same rest = cc
-    by_test false true is same rest = cc
-    by_test false false is same rest = rest
+    by_test true true same is rest = ap (λ (k : ContractKey). Some (contract_at k e.1)) (key_from_test portfolio day direction (contract_at e.0 e.1) is)
+    by_test true false same is rest = cc
+    by_test false true same is rest = cc
+    by_test false false same is rest = rest
 
 -- the contract that stands is that of the key's entry
-pub contract-read : (portfolio : List ℕ) (day : Date) (direction : Direction) (contracts : BTreeMap ContractKey Contracted)
+contract-read : (portfolio : List ℕ) (day : Date) (direction : Direction) (contracts : BTreeMap ContractKey Contracted)
     → contract_of portfolio day direction (contracts_in contracts.entries) ≡ option_map (contract_at (contract_key portfolio day direction)) (get contract_cmp contracts (contract_key portfolio day direction))
 unfolding contract_of
 contract-read portfolio day direction contracts =
@@ -190,7 +190,7 @@ module _ (day : Date) (direction : Direction) (hour : ℕ) where
           ∙ find_hourly day direction hour e.0 1 e.1.hours (sym (found-is_key day direction e.0) ∙ is)
 
 -- what the standing notice leaves is what the row of its day and direction has
-pub notice-read : (day : Date) (direction : Direction) (hour : ℕ) (notices : BTreeMap NoticeKey HoursLeft) → IsOrdered notice_cmp notices
+notice-read : (day : Date) (direction : Direction) (hour : ℕ) (notices : BTreeMap NoticeKey HoursLeft) → IsOrdered notice_cmp notices
     → left_under (notice_of day direction hour (notices_in notices.entries)) ≡ left_of_rows notices day direction hour
 unfolding notice_of
 notice-read day direction hour notices ordered =

@@ -1,13 +1,10 @@
 -- A key is found exactly where a contract or a notice is for it.
-use Rattle.std.proofs.Common.{◌≡◌, ℕ, List, Bool, true, false, ◌&&◌, refl, sym, subst}
-use Rattle.std.specs.declared.cmp.Ordering.{Ordering}
-use Rattle.std.specs.declared.cmp.Ordering.TheVariants.{Less, Equal, Greater}
-use Rattle.std.specs.Cmp.{IsTotalOrder, int_cmp_total, nat_cmp_total, on_total, then_total}
-use Rattle.std.specs.Ordering.{int_cmp, is_eq, nat_cmp, on, ordering_then, ordering_reverse}
+use Rattle.std.proofs.Common.{◌≡◌, ℕ, List, Bool, true, false, ◌&&◌, refl, sym, ◌∙◌}
+use Rattle.std.specs.Cmp.{IsTotalOrder, both_tied, eq_by_cmp_equiv, int_cmp_total, nat_cmp_total, on_total, then_total, unsigned_ties}
+use Rattle.std.specs.Ordering.{int_cmp, is_eq, nat_cmp, on, ordering_then}
 use Rattle.std.specs.Str.{bytes_eq}
 use Rattle.std.proofs.lemmas.Bool.{and_from, and_parts}
-use Rattle.std.proofs.lemmas.Bool.Decides.{Decides-int_eq}
-use Rattle.std.proofs.lemmas.Map.Lookups.{exact_bytes, exact_signed}
+use Rattle.std.proofs.lemmas.Map.Text.{is_eq-slice_cmp}
 use Rattle.std.proofs.lemmas.Slice.Eq.{bytes_eq-Decides}
 use Rattle.jiff_core.specs.Date.{epoch_day}
 use Rattle.jiff_core.specs.declared.civil.date.Date.{Date}
@@ -30,7 +27,7 @@ by_direction = on_total place_of nat_cmp_total
 by_day : IsTotalOrder (on epoch_day int_cmp)
 by_day = on_total epoch_day int_cmp_total
 
-pub contract_total : IsTotalOrder contract_cmp
+contract_total : IsTotalOrder contract_cmp
 contract_total =
     then_total (on_total (λ (k : ContractKey). k.portfolio) code_total)
     (then_total (on_total (λ (k : ContractKey). k.day) by_day) (on_total (λ (k : ContractKey). k.direction) by_direction))
@@ -38,71 +35,14 @@ contract_total =
 pub notice_total : IsTotalOrder notice_cmp
 notice_total = then_total (on_total (λ (k : NoticeKey). k.day) by_day) (on_total (λ (k : NoticeKey). k.direction) by_direction)
 
--- ---- equal keys are one key
+-- ---- the parts of keys
 
-equal_from_test : (o : Ordering) → is_eq o ≡ true → o ≡ Equal
-equal_from_test Less e = cc
-equal_from_test Equal e = refl
-equal_from_test Greater e = cc
+places_tied : (a b : Direction) → same_direction a b ≡ is_eq (nat_cmp (place_of a) (place_of b))
+places_tied a b = unsigned_ties (place_of a) (place_of b)
 
-then_equal : (o p : Ordering) → is_eq (ordering_then o p) ≡ true → (is_eq o ≡ true) × (is_eq p ≡ true)
-then_equal Less p e = cc
-then_equal Equal p e = (refl, e)
-then_equal Greater p e = cc
-
-code_is : (a b : List ℕ) → is_eq (code_cmp a b) ≡ true → a ≡ b
-code_is a b e = exact_bytes a b (equal_from_test (code_cmp a b) e)
-
-day_is : (a b : Date) → is_eq (int_cmp (epoch_day a) (epoch_day b)) ≡ true → a ≡ b
-day_is a b e =
-    let numbers : epoch_day a ≡ epoch_day b = exact_signed (epoch_day a) (epoch_day b) (equal_from_test (int_cmp (epoch_day a) (epoch_day b)) e) in
-    (same_day-Decides a b).0 ((Decides-int_eq (epoch_day a) (epoch_day b)).1 numbers)
-
-direction_is : (a b : Direction) → is_eq (nat_cmp (place_of a) (place_of b)) ≡ true → a ≡ b
-direction_is IM IM e = refl
-direction_is IM MI e = cc
-direction_is MI IM e = cc
-direction_is MI MI e = refl
-
-pub contract_same : (a b : ContractKey) → is_eq (contract_cmp a b) ≡ true → a ≡ b
-contract_same a b e =
-    let o = code_cmp a.portfolio b.portfolio in
-    let p = int_cmp (epoch_day a.day) (epoch_day b.day) in
-    let q = nat_cmp (place_of a.direction) (place_of b.direction) in
-    let first = then_equal o (ordering_then p q) e in
-    let second = then_equal p q first.1 in
-    let portfolio = code_is a.portfolio b.portfolio first.0 in
-    let day = day_is a.day b.day second.0 in
-    let direction = direction_is a.direction b.direction second.1 in
-    λ i. record { portfolio = portfolio i; day = day i; direction = direction i }
-
-pub notice_same : (a b : NoticeKey) → is_eq (notice_cmp a b) ≡ true → a ≡ b
-notice_same a b e =
-    let both = then_equal (int_cmp (epoch_day a.day) (epoch_day b.day)) (nat_cmp (place_of a.direction) (place_of b.direction)) e in
-    let day = day_is a.day b.day both.0 in
-    let direction = direction_is a.direction b.direction both.1 in
-    λ i. record { day = day i; direction = direction i }
-
--- ---- a key is equal to itself
-
-self_from_flip : (o : Ordering) → o ≡ ordering_reverse o → is_eq o ≡ true
-self_from_flip Less e = cc
-self_from_flip Equal e = refl
-self_from_flip Greater e = cc
-
-contract_self : (a : ContractKey) → is_eq (contract_cmp a a) ≡ true
-contract_self a = self_from_flip (contract_cmp a a) (contract_total.antisymm a a)
-
-notice_self : (a : NoticeKey) → is_eq (notice_cmp a a) ≡ true
-notice_self a = self_from_flip (notice_cmp a a) (notice_total.antisymm a a)
-
--- ---- the tests of keys are those of contracts and notices
-
-one_test : (a b : Bool) → (a ≡ true → b ≡ true) → (b ≡ true → a ≡ true) → a ≡ b
-one_test true true f g = refl
-one_test true false f g = sym (f refl)
-one_test false true f g = g refl
-one_test false false f g = refl
+grouped : (a b c : Bool) → (a && (b && c)) ≡ ((a && b) && c)
+grouped true b c = refl
+grouped false b c = refl
 
 same_direction-is : (a b : Direction) → same_direction a b ≡ true → a ≡ b
 same_direction-is IM IM e = refl
@@ -113,6 +53,8 @@ same_direction-is MI MI e = refl
 same_direction-self : (a : Direction) → same_direction a a ≡ true
 same_direction-self IM = refl
 same_direction-self MI = refl
+
+-- ---- a contract is for what its key says
 
 -- the key of a contract
 abbrev pub key_of : Contract → ContractKey
@@ -134,26 +76,25 @@ is_for-own contract =
     ((bytes_eq-Decides contract.portfolio contract.portfolio).1 refl) ((same_day-Decides contract.day contract.day).1 refl))
     (same_direction-self contract.direction)
 
-is_for-key : (portfolio : List ℕ) (day : Date) (direction : Direction) (contract : Contract) → key_of contract ≡ contract_key portfolio day direction → is_for portfolio day direction contract ≡ true
-is_for-key portfolio day direction contract e =
-    subst (λ (k : ContractKey). is_for k.portfolio k.day k.direction contract ≡ true) e (is_for-own contract)
-
 -- the contract's key is found by a query exactly where the contract is for what the query names
-pub found-is_for : (portfolio : List ℕ) (day : Date) (direction : Direction) (contract : Contract)
-    → is_eq (contract_cmp (contract_key portfolio day direction) (key_of contract)) ≡ is_for portfolio day direction contract
-found-is_for portfolio day direction contract =
-    let key = contract_key portfolio day direction in
-    one_test (is_eq (contract_cmp key (key_of contract))) (is_for portfolio day direction contract)
-    (λ e. is_for-key portfolio day direction contract (sym (contract_same key (key_of contract) e)))
-    (λ e. subst (λ (k : ContractKey). is_eq (contract_cmp key k) ≡ true) (sym (key_from_test portfolio day direction contract e)) (contract_self key))
-
 pub is_for-found : (portfolio : List ℕ) (day : Date) (direction : Direction) (contract : Contract)
     → is_eq (contract_cmp (key_of contract) (contract_key portfolio day direction)) ≡ is_for portfolio day direction contract
 is_for-found portfolio day direction contract =
-    let key = contract_key portfolio day direction in
-    one_test (is_eq (contract_cmp (key_of contract) key)) (is_for portfolio day direction contract)
-    (λ e. is_for-key portfolio day direction contract (contract_same (key_of contract) key e))
-    (λ e. subst (λ (k : ContractKey). is_eq (contract_cmp k key) ≡ true) (sym (key_from_test portfolio day direction contract e)) (contract_self key))
+    let code = bytes_eq contract.portfolio portfolio in
+    let of_day = same_day contract.day day in
+    let way = same_direction contract.direction direction in
+    let p = int_cmp (epoch_day contract.day) (epoch_day day) in
+    let q = nat_cmp (place_of contract.direction) (place_of direction) in
+    sym (both_tied code (of_day && way) (code_cmp contract.portfolio portfolio) (ordering_then p q) (sym (is_eq-slice_cmp contract.portfolio portfolio))
+    (both_tied of_day way p q refl (places_tied contract.direction direction)))
+    ∙ grouped code of_day way
+
+pub found-is_for : (portfolio : List ℕ) (day : Date) (direction : Direction) (contract : Contract)
+    → is_eq (contract_cmp (contract_key portfolio day direction) (key_of contract)) ≡ is_for portfolio day direction contract
+found-is_for portfolio day direction contract =
+    (eq_by_cmp_equiv contract_total).symm (contract_key portfolio day direction) (key_of contract) ∙ is_for-found portfolio day direction contract
+
+-- ---- a key is for its gas day and direction
 
 -- whether a key is for the day and the direction
 abbrev pub is_key : Date → Direction → NoticeKey → Bool
@@ -166,22 +107,11 @@ key_from_days day direction key e =
     let way = same_direction-is key.direction direction both.1 in
     λ i. record { day = d i; direction = way i }
 
-is_key-own : (key : NoticeKey) → is_key key.day key.direction key ≡ true
-is_key-own key = and_from (same_day key.day key.day) (same_direction key.direction key.direction) ((same_day-Decides key.day key.day).1 refl) (same_direction-self key.direction)
-
-is_key-same : (day : Date) (direction : Direction) (key : NoticeKey) → key ≡ notice_key day direction → is_key day direction key ≡ true
-is_key-same day direction key e = subst (λ (k : NoticeKey). is_key k.day k.direction key ≡ true) e (is_key-own key)
-
-pub found-is_key : (day : Date) (direction : Direction) (key : NoticeKey) → is_eq (notice_cmp (notice_key day direction) key) ≡ is_key day direction key
-found-is_key day direction key =
-    let query = notice_key day direction in
-    one_test (is_eq (notice_cmp query key)) (is_key day direction key)
-    (λ e. is_key-same day direction key (sym (notice_same query key e)))
-    (λ e. subst (λ (k : NoticeKey). is_eq (notice_cmp query k) ≡ true) (sym (key_from_days day direction key e)) (notice_self query))
-
 pub is_key-found : (day : Date) (direction : Direction) (key : NoticeKey) → is_eq (notice_cmp key (notice_key day direction)) ≡ is_key day direction key
 is_key-found day direction key =
-    let query = notice_key day direction in
-    one_test (is_eq (notice_cmp key query)) (is_key day direction key)
-    (λ e. is_key-same day direction key (notice_same key query e))
-    (λ e. subst (λ (k : NoticeKey). is_eq (notice_cmp k query) ≡ true) (sym (key_from_days day direction key e)) (notice_self query))
+    let p = int_cmp (epoch_day key.day) (epoch_day day) in
+    let q = nat_cmp (place_of key.direction) (place_of direction) in
+    sym (both_tied (same_day key.day day) (same_direction key.direction direction) p q refl (places_tied key.direction direction))
+
+pub found-is_key : (day : Date) (direction : Direction) (key : NoticeKey) → is_eq (notice_cmp (notice_key day direction) key) ≡ is_key day direction key
+found-is_key day direction key = (eq_by_cmp_equiv notice_total).symm (notice_key day direction) key ∙ is_key-found day direction key

@@ -19,7 +19,7 @@ found_any p [] = refl
 found_any p (x ∷ xs) = some_chosen (p x) x (find p xs) (list_any p xs) (found_any p xs)
 
 -- a last one that passes the test is found where there is one at all
-pub last-any : {X : Type 0} (p : X → Bool) (xs : List X) → is_some (find p (reverse xs)) ≡ list_any p xs
+last-any : {X : Type 0} (p : X → Bool) (xs : List X) → is_some (find p (reverse xs)) ≡ list_any p xs
 last-any p xs = found_any p (reverse xs) ∙ sym (list_any-IsPermutation p xs (reverse xs) (IsPermutation-reverse xs))
 
 last-more : {X : Type 0} (p : X → Bool) (xs : List X) (x : X) → find p (reverse (xs ++ x ∷ [])) ≡ (if p x then Some x else find p (reverse xs))

@@ -1,8 +1,8 @@
 -- What is processed of kept contracts, notices and nominations that read as the recorded ones is what is processed of those.
-use Rattle.std.proofs.Common.{◌≡◌, ℕ, ◌-◌, ◌≤◌, List, map, sym, ◌∙◌, subst}
+use Rattle.std.proofs.Common.{◌≡◌, ℕ, ◌-◌, List, map, sym, ◌∙◌}
 use Rattle.std.specs.List.{flat_map, range_with_len}
 use Rattle.std.specs.Str.{bytes_eq}
-use Rattle.std.proofs.lemmas.List.Sorted.{length_permutation, list_any-IsPermutation}
+use Rattle.std.proofs.lemmas.List.Sorted.{list_any-IsPermutation}
 use Rattle.jiff_core.specs.declared.civil.date.Date.{Date}
 use Rattle.gi_pairs.specs.Pair.{pair_of}
 use Rattle.gi_pairs.specs.Table.{covered, in_order}
@@ -11,8 +11,7 @@ use Rattle.gi_messages.specs.declared.line.Line.{Line}
 use Rattle.gi_messages.specs.declared.message.Nomint.{Nomint}
 use Rattle.gi_nominations.specs.Book.{in_force}
 use Rattle.gi_processing.specs.Capacity.{Capacity}
-use Rattle.gi_processing.specs.CapacityLimits.{most_portfolios}
-use Rattle.gi_processing.specs.Processing.{AreSound, CanProcess, lines_in_force, lines_of, portfolio_rows, processed, processed_in, processed_row, processed_rows, span_of}
+use Rattle.gi_processing.specs.Processing.{AreSound, lines_in_force, lines_of, portfolio_rows, processed, processed_in, processed_row, processed_rows, span_of}
 use Rattle.gi_processing.specs.Readings.{ReadsAs}
 use Rattle.gi_processing.specs.Recording.{portfolios_of}
 use Rattle.gi_processing.specs.Reduction.{in_direction, part}
@@ -33,16 +32,6 @@ reads-sound kept recorded documents taken day reads same sound portfolio documen
       known = reads-knows kept recorded reads portfolio day ∙ here.known;
       lines = here.lines;
     }
-
--- and then their rows make a table too
-pub reads-can_process : (kept recorded : Capacity) (documents taken : List Nomint) (span : Span) → ReadsAs kept recorded → SameInForce documents taken span.day
-    → CanProcess recorded taken span → CanProcess kept documents span
-reads-can_process kept recorded documents taken span reads same can = record {
-  hours = can.hours;
-  sound = reads-sound kept recorded documents taken span.day reads same can.sound;
-  few = subst (λ n. n ≤ most_portfolios) (length_permutation (portfolios_of kept.contracts) (portfolios_of recorded.contracts) (reads-portfolios kept recorded reads)) can.few;
-  distinct = portfolios_of-distinct kept.contracts;
-}
 
 row_same : (kept recorded : Capacity) (span : Span) (portfolio : List ℕ) (lines : List Line) (line : Line) → ReadsAs kept recorded
     → processed_row kept span portfolio lines line ≡ processed_row recorded span portfolio lines line

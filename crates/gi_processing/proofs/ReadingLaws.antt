@@ -102,7 +102,7 @@ reads-knows kept recorded reads portfolio day =
 -- ---- which portfolios have contracts
 
 -- the same contract stands for each portfolio, day and direction
-abbrev pub SameStand : List Contract → List Contract → Type 0
+abbrev SameStand : List Contract → List Contract → Type 0
 SameStand a b = (portfolio : List ℕ) (day : Date) (direction : Direction) → contract_of portfolio day direction a ≡ contract_of portfolio day direction b
 
 module _ {X : Type 0} (p : X → Bool) where
@@ -143,7 +143,7 @@ any_same a b same portfolio any =
     member (λ (d : Contract). bytes_eq portfolio d.portfolio) there.0 b there.1 ((bytes_eq-Decides portfolio there.0.portfolio).1 (own ∙ sym codes))
 
 -- who has a contract for a day and a direction has one
-pub any-for : (portfolio : List ℕ) (day : Date) (direction : Direction) (contracts : List Contract) → has_contract portfolio day direction contracts ≡ true → has_any_contract portfolio contracts ≡ true
+any-for : (portfolio : List ℕ) (day : Date) (direction : Direction) (contracts : List Contract) → has_contract portfolio day direction contracts ≡ true → has_any_contract portfolio contracts ≡ true
 unfolding has_any_contract has_contract
 any-for portfolio day direction contracts has =
     let found = witness (is_for portfolio day direction) contracts has in
@@ -161,7 +161,7 @@ one_answer true b f g = sym (f refl)
 one_answer false true f g = g refl
 one_answer false false f g = refl
 
-pub same_any : (a b : List Contract) → SameStand a b → (portfolio : List ℕ) → has_any_contract portfolio a ≡ has_any_contract portfolio b
+same_any : (a b : List Contract) → SameStand a b → (portfolio : List ℕ) → has_any_contract portfolio a ≡ has_any_contract portfolio b
 same_any a b same portfolio =
     one_answer (has_any_contract portfolio a) (has_any_contract portfolio b) (any_same a b same portfolio)
     (any_same b a (λ p day direction. sym (same p day direction)) portfolio)

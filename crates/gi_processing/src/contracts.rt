@@ -4,7 +4,7 @@ ghost use Rattle.std.specs.List.{IsDistinct};
 ghost use Rattle.std.specs.List.Sorted.{IsPermutation};
 ghost use Rattle.std.specs.Str.{bytes_eq};
 ghost use Rattle.gi_pairs.specs.Quantity.{most_quantity};
-ghost use Rattle.gi_processing.specs.Capacity.{available as available_of, contract_of, has_contract, has_notice, left_of, knows as knows_of, notice_of, part as part_of, parts as parts_of};
+ghost use Rattle.gi_processing.specs.Capacity.{available as available_of, contract_of, has_contract, has_notice, knows as knows_of, notice_of, part as part_of, parts as parts_of};
 ghost use Rattle.gi_processing.specs.CapacityLimits.{most_permille, most_portfolios};
 ghost use Rattle.gi_processing.specs.HoursLeft.{IsLeft, left_at, left_under};
 ghost use Rattle.gi_processing.specs.Kept.{CutsRows, left_in, notice_cmp, notice_key};
@@ -64,7 +64,7 @@ fn parts(contract: Contract, left: Thousandths) -> u64
     part(contract.firm, left.firm) + part(contract.interruptible, left.interruptible)
 }
 
-fn row_of(rows: &BTreeMap<NoticeKey, HoursLeft>, key: &NoticeKey) -> HoursLeft
+fn hours_of(rows: &BTreeMap<NoticeKey, HoursLeft>, key: &NoticeKey) -> HoursLeft
     ensures { (hour : ℕ) → left_at result.hours hour ≡ left_in (get notice_cmp rows.now key.now) hour }
 {
     match rows.get(key) {
@@ -81,7 +81,7 @@ fn cut_hours(rows: &mut BTreeMap<NoticeKey, HoursLeft>, notice: &Notice) -> Resu
     ensures kept { OnErr result (rows.new.entries ≡ rows.old.entries) }
 {
     let key = notice.key();
-    let row = row_of(rows, &key).cut(notice);
+    let row = hours_of(rows, &key).cut(notice);
     rows.insert(key, row)?;
     Ok(())
 }
@@ -99,9 +99,9 @@ impl Contracts {
         }
     }
 
-    /// Records a contract, in place of the one that stood for its portfolio, gas day and direction,
-    /// which takes no memory. `TooManyPortfolios` where its portfolio has no contract yet, on any
-    /// day, and 64 portfolios have one, then `OutOfMemory`; after either nothing is changed.
+    /// Records a contract, in place of the one that stood for its portfolio, gas day and direction;
+    /// where one did, no memory is taken. `TooManyPortfolios` where its portfolio has no contract yet,
+    /// on any day, and 64 portfolios have one, then `OutOfMemory`; after either nothing is changed.
     pub fn set(&mut self, contract: Contract) -> Result<(), ContractFault>
         ensures refused { (result ≡ Err ContractFault.TooManyPortfolios) ↔ IsTrue (is_refused contract self.old.contracts) }
         ensures stands { OnOk result (ContractStands self.old.contracts self.new.contracts contract) }
@@ -137,6 +137,7 @@ impl Contracts {
         ensures taken { notice_refusal notice ≡ None → IsOkUnless result NoticeFault.OutOfMemory }
         ensures stands { OnOk result (NoticeStands self.old.notices self.new.notices notice) }
         ensures reads { OnOk result (RecordsNotice self.old self.new notice) }
+        // A row has all 25 hours, so the first hour is there exactly where the gas day and direction are.
         ensures covered { notice_refusal notice ≡ None → has_notice notice.day notice.direction notice.first self.old.notices ≡ true → IsOk result }
         ensures contracts { self.new.contracts ≡ self.old.contracts }
         ensures kept { OnErr result (self.new ≡ self.old) }

@@ -1,6 +1,6 @@
 //! What a desk's facts say, read from what it keeps beside them.
 
-ghost use Rattle.std.specs.Prelude.{◌≡◌};
+ghost use Rattle.std.specs.Prelude.{◌≡◌, ◌+◌, length};
 ghost use Rattle.std.specs.Option.{option_copied};
 ghost use Rattle.gi_processing.specs.Readings.{ReadsAs};
 ghost use Rattle.gi_desk.specs.History.{capacity_of, documents_of, is_closed as is_closed_in, is_closing, is_meeting, is_taking, last_closed as last_closed_of, number_of};
@@ -61,12 +61,18 @@ impl<R: Role> Desk<R> {
         }
     }
 
-    pub(super) fn number_of_closing(&self, id: &CycleId) -> u32
-        ensures { result ≡ number_of (is_closing id.now) self.now.facts }
+    pub(super) fn next_number(&self) -> u32
+        ensures { result ≡ length self.now.facts + 1 }
     {
         // There are so few facts that one more has a number.
         self.known();
-        let beyond = self.len() + 1;
+        self.len() + 1
+    }
+
+    pub(super) fn number_of_closing(&self, id: &CycleId) -> u32
+        ensures { result ≡ number_of (is_closing id.now) self.now.facts }
+    {
+        let beyond = self.next_number();
         match self.stages.get(id) {
             Some(stage) => stage.closing,
             None => beyond,
@@ -76,9 +82,7 @@ impl<R: Role> Desk<R> {
     pub(super) fn number_of_meeting(&self, id: &CycleId) -> u32
         ensures { result ≡ number_of (is_meeting id.now) self.now.facts }
     {
-        // There are so few facts that one more has a number.
-        self.known();
-        let beyond = self.len() + 1;
+        let beyond = self.next_number();
         match self.stages.get(id) {
             Some(stage) => stage.meeting.unwrap_or(beyond),
             None => beyond,

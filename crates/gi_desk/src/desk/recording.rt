@@ -11,8 +11,8 @@ ghost use Rattle.gi_desk.specs.Machine.{most_facts, would_record};
 ghost use Rattle.gi_facts.specs.Writable.{FitsFact};
 ghost use Rattle.gi_facts.specs.declared.fact.Fact.TheVariants.{Closed, Contracted, Met, Nominated, Noticed};
 
+use crate::capacity::{record_contract, record_notice};
 use crate::desk::Desk;
-use crate::history::{record_contract, record_notice};
 use crate::ranges::fact_known;
 use crate::role::Role;
 use crate::stages::{close, meet};
@@ -49,7 +49,7 @@ impl<R: Role> Desk<R> {
         ensures kept { OnErr result (self.new ≡ self.old) }
     {
         let own = self.processed(id)?;
-        let number = self.len() + 1;
+        let number = self.next_number();
         self.facts.reserve(1)?;
         close(&mut self.stages, id, own, number)?;
         self.facts.push_reserved(Fact::Closed(*id));
@@ -67,7 +67,7 @@ impl<R: Role> Desk<R> {
             id: *id,
             peer: peer.copy()?,
         };
-        let number = self.len() + 1;
+        let number = self.next_number();
         self.facts.reserve(1)?;
         meet(self.alloc, &mut self.stages, id, peer, number)?;
         self.facts.push_reserved(fact);
@@ -108,7 +108,7 @@ impl<R: Role> Desk<R> {
         ensures kept { OnErr result (self.new ≡ self.old) }
     {
         let taken = document.copy()?;
-        let number = self.len() + 1;
+        let number = self.next_number();
         self.facts.reserve(1)?;
         // Where the book has no room then, no nomination is in force that this number could be of.
         self.takings.insert(PortfolioDay::of(&document), number)?;

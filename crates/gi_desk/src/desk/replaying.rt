@@ -43,7 +43,7 @@ impl<R: Role> Desk<R> {
         ensures refused { (n : ℕ) → result ≡ Err (BadFact n) → (n ≡ length self.old.facts + 1) × (may_follow R.SIDE self.old.point self.old.facts fact ≡ false) }
     {
         if self.facts.len() >= MOST_FACTS || !self.would_record(&fact) {
-            return Err(ReplayFault::BadFact(self.len() + 1));
+            return Err(ReplayFault::BadFact(self.next_number()));
         }
         Ok(self.record(fact)?)
     }

@@ -30,7 +30,7 @@ impl<R: Role> Desk<R> {
     {
         match outcome {
             Outcome::Records(_) => Answer::Recorded {
-                n: self.facts.len() as u32 + 1,
+                n: self.next_number(),
             },
             Outcome::RepeatsNomination { n } => Answer::Repeat { n: *n },
             Outcome::RepeatsMeeting { n } => Answer::Repeat { n: *n },

@@ -9,6 +9,6 @@ pub returns-clause-cut : goal.returns-clause-cut
 returns-clause-cut c =
     let old = c.args.rows.now in
     let updates : Updates notice_cmp old c.insert.new.self c.key-key.result (Some c.cut-row.result) = c.in_ok-insert.ensures.updates in
-    rows-cut old c.insert.new.self c.args.notice.now c.row_of.result c.cut-row.result
-    (λ hour. c.row_of.ensures hour ∙ ap (λ (k : NoticeKey). left_in (get notice_cmp old k) hour) c.key-key.ensures) c.cut-row.ensures
+    rows-cut old c.insert.new.self c.args.notice.now c.hours_of.result c.cut-row.result
+    (λ hour. c.hours_of.ensures hour ∙ ap (λ (k : NoticeKey). left_in (get notice_cmp old k) hour) c.key-key.ensures) c.cut-row.ensures
     (subst (λ (k : NoticeKey). Updates notice_cmp old c.insert.new.self k (Some c.cut-row.result)) c.key-key.ensures updates)

@@ -24,7 +24,7 @@ invariant_of-self-2 g c =
     let facts : c.push_reserved.new.self.items ≡ inside.facts.items ++ Closed id ∷ [] =
     c.push_reserved.ensures.items ∙ ap (λ (fs : List Fact). fs ++ Closed id ∷ []) c.in_ok-reserve.ensures.items in
     let own = c.in_ok-own.ensures.value ∙ ap (λ (fs : List Fact). processed_of (capacity_of fs) (documents_of fs) side id.day id.cycle) facts_is in
-    let number : c.len-number.result + 1 ≡ length inside.facts.items + 1 = (λ t. c.len-number.ensures t + 1) ∙ ap (λ (fs : List Fact). length fs + 1) facts_is in
+    let number : c.next_number-number.result ≡ length inside.facts.items + 1 = c.next_number-number.ensures ∙ ap (λ (fs : List Fact). length fs + 1) facts_is in
     kept-closed side inside.point inside.facts.items inside.stages.entries inside.book inside.contracts inside.takings.entries inside.saved id c.push_reserved.new.self.items c.close.new.stages.entries
     c.self.invariant c.requires.fits (subst (λ (t : TableContents). FitsProcessed t) own (record { table = c.in_ok-own.ensures.table; few = c.in_ok-own.ensures.few })) facts
     (c.in_ok-close.ensures.closed side inside.point inside.facts.items c.self.invariant.stages legal own number)

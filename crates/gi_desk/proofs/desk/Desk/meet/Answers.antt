@@ -25,6 +25,6 @@ invariant_of-self-2 g c =
     (ap (λ (s : DeskState). s.point) view) facts_is c.requires.recorded c.requires.room in
     let facts : c.push_reserved.new.self.items ≡ inside.facts.items ++ fact ∷ [] =
     c.push_reserved.ensures.items ∙ (λ t. c.in_ok-reserve.ensures.items t ++ Met c.args.id.now (c.in_ok-copy.ensures t) ∷ []) in
-    let number : c.len-number.result + 1 ≡ length inside.facts.items + 1 = (λ t. c.len-number.ensures t + 1) ∙ ap (λ (s : DeskState). length s.facts + 1) view in
+    let number : c.next_number-number.result ≡ length inside.facts.items + 1 = c.next_number-number.ensures ∙ ap (λ (s : DeskState). length s.facts + 1) view in
     kept-met side inside.point inside.facts.items inside.stages.entries inside.book inside.contracts inside.takings.entries inside.saved c.args.id.now c.args.peer c.push_reserved.new.self.items c.meet.new.stages.entries
     c.self.invariant c.requires.fits facts (c.in_ok-meet.ensures.met side inside.point inside.facts.items c.self.invariant.stages legal number)

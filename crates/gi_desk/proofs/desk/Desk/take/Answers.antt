@@ -28,14 +28,14 @@ invariant_of-self-2 g c =
     let facts_is = ap (λ (s : DeskState). s.facts) view in
     let added : c.push_reserved.new.self.items ≡ inside.facts.items ++ fact ∷ [] =
     c.push_reserved.ensures.items ∙ ap (λ (facts : List Fact). facts ++ fact ∷ []) c.in_ok-reserve.ensures.items in
-    let number : c.len-number.result + 1 ≡ length inside.facts.items + 1 = (λ t. c.len-number.ensures t + 1) ∙ ap (λ (fs : List Fact). length fs + 1) facts_is in
+    let number : c.next_number-number.result ≡ length inside.facts.items + 1 = c.next_number-number.ensures ∙ ap (λ (fs : List Fact). length fs + 1) facts_is in
     let newer = subst (λ (fs : List Fact). IsNewer (documents_of fs) c.args.document) facts_is (recorded-newer side c.args.self.now.point c.args.self.now.facts c.args.document c.requires.recorded) in
-    let puts = subst (λ (key : PortfolioDay). PutsNumber inside.takings.entries c.insert.new.self.entries key (c.len-number.result + 1)) c.of.ensures c.in_ok-insert.ensures.updates.0 in
+    let puts = subst (λ (key : PortfolioDay). PutsNumber inside.takings.entries c.insert.new.self.entries key c.next_number-number.result) c.of.ensures c.in_ok-insert.ensures.updates.0 in
     kept-other side inside.point inside.facts.items inside.stages.entries inside.book c.take.new.self inside.contracts inside.contracts inside.takings.entries c.insert.new.self.entries inside.saved c.args.self.now fact c.push_reserved.new.self.items
     c.self.invariant refl (ap (λ (s : DeskState). s.point) view) facts_is c.requires.recorded c.requires.room c.requires.fits added
     (running-taken inside.point inside.facts.items inside.book c.take.new.self inside.contracts c.args.document c.self.invariant.running c.take.ensures.point
     (subst (λ (d : Nomint). DocumentStands inside.book.documents c.take.new.self.documents d) c.in_ok-taken.ensures c.in_ok-take.ensures.stands))
-    (takings-taken inside.facts.items c.args.document (c.len-number.result + 1) inside.takings.entries c.insert.new.self.entries (legal-rising side inside.point inside.facts.items c.self.invariant.stages.legal) newer
+    (takings-taken inside.facts.items c.args.document c.next_number-number.result inside.takings.entries c.insert.new.self.entries (legal-rising side inside.point inside.facts.items c.self.invariant.stages.legal) newer
     c.self.invariant.numbers puts number)
 
 pub invariant_of-self-in_err-take : goal.invariant_of-self-in_err-take
@@ -45,7 +45,7 @@ invariant_of-self-in_err-take g c =
     let document = c.args.document in
     let absent = sym (c.self.invariant.running.nominations document.portfolio document.day)
     ∙ subst (λ (d : Nomint). in_force d.portfolio d.day inside.book.documents ≡ None) c.in_ok-taken.ensures c.in_err-take.ensures.absent in
-    let puts = subst (λ (key : PortfolioDay). PutsNumber inside.takings.entries c.insert.new.self.entries key (c.len-number.result + 1)) c.of.ensures c.in_ok-insert.ensures.updates.0 in
+    let puts = subst (λ (key : PortfolioDay). PutsNumber inside.takings.entries c.insert.new.self.entries key c.next_number-number.result) c.of.ensures c.in_ok-insert.ensures.updates.0 in
     kept-numbered side inside.point inside.facts.items inside.stages.entries inside.book inside.contracts inside.takings.entries inside.saved c.reserve.new.self.items c.take.new.self c.insert.new.self.entries
     c.self.invariant c.in_ok-reserve.ensures.items c.in_err-take.ensures.kept
-    (takings-stray inside.facts.items document (c.len-number.result + 1) inside.takings.entries c.insert.new.self.entries absent c.self.invariant.numbers puts)
+    (takings-stray inside.facts.items document c.next_number-number.result inside.takings.entries c.insert.new.self.entries absent c.self.invariant.numbers puts)
