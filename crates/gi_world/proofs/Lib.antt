@@ -1,6 +1,7 @@
 mod Agreeing
 pub mod ConfirmedLaws
 pub mod DeliveredPackets
+mod DeskPackets
 mod FirstFacts
 pub mod Fronts
 mod FrozenTables
@@ -12,7 +13,6 @@ mod MemoryWanted
 pub mod Numbers
 pub mod OneQuantity
 mod Opening
-mod PeerPackets
 mod Recorded
 mod RunLaws
 mod SameTables

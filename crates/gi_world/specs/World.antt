@@ -6,7 +6,8 @@ use Rattle.gi_pairs.specs.declared.side.Side.{Side}
 use Rattle.gi_pairs.specs.declared.side.Side.TheVariants.{I, M}
 use Rattle.gi_messages.specs.Decoding.{decoded}
 use Rattle.gi_messages.specs.declared.message.Message.{Message}
-use Rattle.gi_messages.specs.declared.message.Message.TheVariants.{Nomres}
+use Rattle.gi_messages.specs.Writing.{text_of}
+use Rattle.gi_messages.specs.declared.message.Message.TheVariants.{Nomint, Acknow, Nomres, Delord, Delres}
 use Rattle.gi_messages.specs.declared.message_fault.MessageFault.{MessageFault}
 use Rattle.gi_desk.specs.Machine.{DeskState, after as desk_after, is_for_peer, may_want as desk_may_want, reply, started_again}
 use Rattle.gi_desk.specs.declared.call.Call.{Call}
@@ -60,6 +61,25 @@ tells packet = is_telling (decoded packet.body)
 -- a packet for the peer tells nothing
 abbrev pub TellsNoPeer : Packet → Type 0
 TellsNoPeer packet = is_for_peer packet ≡ true → tells packet ≡ false
+
+-- an acknowledgement or a confirmation: what a portfolio is sent
+abbrev pub IsForPortfolio : Message → Type 0
+IsForPortfolio (Nomint message) = ⊥
+IsForPortfolio (Acknow message) = Unit {0}
+IsForPortfolio (Nomres message) = Unit {0}
+IsForPortfolio (Delord message) = ⊥
+IsForPortfolio (Delres message) = ⊥
+
+-- the packet is the one text of such a message, and reads as it
+pub record IsTextForPortfolio (packet : Packet) : Type 0 where
+  pub message : Message
+  pub for_portfolio : IsForPortfolio message
+  pub written : packet.body ≡ text_of message
+  pub reads : decoded packet.body ≡ Ok message
+
+-- what a desk lets out: to its peer what tells nothing, and to a portfolio an acknowledgement or a confirmation
+abbrev pub IsFromDesk : Packet → Type 0
+IsFromDesk packet = TellsNoPeer packet × (is_for_peer packet ≡ false → IsTextForPortfolio packet)
 
 -- whether its bytes are these
 abbrev pub has_bytes : List ℕ → Packet → Bool

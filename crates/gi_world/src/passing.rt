@@ -2,10 +2,9 @@
 
 ghost use Rattle.std.specs.Prelude.{◌≡◌, ◌<◌, All, IfOk, OnErr, filter, length, position};
 ghost use Rattle.gi_desk.specs.Machine.{is_for_peer as is_for_peer_of};
-ghost use Rattle.gi_world.specs.World.{TellsNoPeer, has_bytes, tells as tells_of};
+ghost use Rattle.gi_world.specs.World.{IsFromDesk, has_bytes, tells as tells_of};
 
 use gi_desk::{Packet, Recipient};
-use gi_messages::{Message, MessageFault, decode};
 use std::alloc::{AllocError, Global};
 
 fn is_for_peer(packet: &Packet) -> bool
@@ -14,19 +13,12 @@ fn is_for_peer(packet: &Packet) -> bool
     packet.to == Recipient::Peer
 }
 
-/// A packet for the peer is not read: orders and responses are large, and tell nothing.
-fn tells(alloc: Global, packet: &Packet) -> Result<bool, AllocError>
-    requires { TellsNoPeer packet.now }
-    ensures { IfOk result (λ tells. tells ≡ tells_of packet.now) }
+/// No packet is read again. Of what a portfolio is sent only a confirmation begins with its cycle.
+fn tells(packet: &Packet) -> bool
+    requires { IsFromDesk packet.now }
+    ensures { result ≡ tells_of packet.now }
 {
-    if is_for_peer(packet) {
-        return Ok(false);
-    }
-    match decode(alloc, packet.body.as_slice()) {
-        Ok(message) => Ok(matches!(message, Message::Nomres(_))),
-        Err(MessageFault::OutOfMemory) => Err(AllocError),
-        Err(_) => Ok(false),
-    }
+    !is_for_peer(packet) && matches!(packet.body.as_slice().get(2), Some(b'c'))
 }
 
 pub(crate) fn place_of(packets: &[Packet], bytes: &[u8]) -> Option<usize>
@@ -51,13 +43,13 @@ pub(crate) fn for_peer(alloc: Global, packets: &[Packet]) -> Result<Vec<Packet>,
 }
 
 pub(crate) fn telling(alloc: Global, packets: &[Packet]) -> Result<Vec<Packet>, AllocError>
-    requires { All TellsNoPeer packets.now }
+    requires { All IsFromDesk packets.now }
     ensures value { IfOk result (λ kept. kept.items ≡ filter tells_of packets.now) }
     ensures short { OnErr result (0 < length packets.now) }
 {
     let mut kept = Vec::new(alloc);
     for packet in packets {
-        if tells(alloc, packet)? {
+        if tells(packet) {
             kept.push(packet.copy()?)?;
         }
     }

@@ -4,9 +4,9 @@ use Rattle.gi_desk.specs.Machine.{is_for_peer, may_want, reply}
 use Rattle.gi_desk.specs.declared.packet.Packet.{Packet}
 use Rattle.gi_desk.specs.declared.prepared.Prepared.{Prepared}
 use Rattle.gi_desk.specs.declared.reply.Reply.{Reply}
-use Rattle.gi_world.specs.World.{StationState, TellsNoPeer, tells}
+use Rattle.gi_world.specs.World.{IsFromDesk, StationState, tells}
 use Rattle.gi_world.proofs.MemoryWanted.{lets_out_short, on_err, some_before}
-use Rattle.gi_world.proofs.PeerPackets.{all_silent}
+use Rattle.gi_world.proofs.DeskPackets.{all_from_desk}
 use Rattle.gi_world.proofs.station.Station.take.Goals as goal
 
 pub returns-in_err-sent-clause-short : goal.returns-in_err-sent-clause-short
@@ -57,4 +57,4 @@ telling-requires g c =
     let call = c.args.call.now in
     let is : c.in_ok-prepared.prepared.reply ≡ reply side c.self.inside.desk call = ap (λ (p : Prepared). p.reply) c.in_ok-prepared.ensures.value in
     let out = c.as_slice-out.ensures ∙ ap (λ (r : Reply). r.out) (c.reply.ensures ∙ is) in
-    subst (λ (packets : List Packet). All TellsNoPeer packets) (sym out) (all_silent side c.self.inside.desk call c.known.ensures.legal c.known.ensures.fits)
+    subst (λ (packets : List Packet). All IsFromDesk packets) (sym out) (all_from_desk side c.self.inside.desk call c.known.ensures.legal c.known.ensures.fits)

@@ -1,5 +1,5 @@
--- What a desk writes to its peer tells nothing: it reads as an order or as a response.
-use Rattle.std.proofs.Common.{◌≡◌, List, [], All, Contains, true, false, ap}
+-- What a desk writes to its peer tells nothing, for it reads as an order or as a response; what it writes to a portfolio acknowledges or confirms.
+use Rattle.std.proofs.Common.{◌≡◌, List, [], All, Contains, true, false, refl, ap}
 use Rattle.std.proofs.lemmas.List.Elements.{All-contains_itself, All-weaker}
 use Rattle.gi_pairs.specs.declared.side.Side.{Side}
 use Rattle.gi_pairs.specs.declared.side.Side.TheVariants.{I, M}
@@ -12,9 +12,10 @@ use Rattle.gi_desk.specs.declared.outcome.Outcome.TheVariants.{Records, RepeatsN
 use Rattle.gi_desk.specs.declared.packet.Packet.{Packet}
 use Rattle.gi_desk.proofs.StepFacts.{stays-legal}
 use Rattle.gi_world.specs.Agreement.{IsLegal}
-use Rattle.gi_world.specs.World.{StationState, TellsNoPeer, WorldState, is_telling}
+use Rattle.gi_world.specs.World.{IsFromDesk, IsTextForPortfolio, StationState, TellsNoPeer, WorldState, is_telling}
 use Rattle.gi_world.proofs.DeliveredPackets.{sent-order, sent-response}
 use Rattle.gi_world.proofs.SentPackets.{now}
+use Rattle.gi_world.proofs.ToldPackets.{text-for_portfolio}
 
 -- a call that records a fact lets out nothing, and any other leaves the facts as they are
 fits_by : (side : Side) (s : DeskState) (o : Outcome) (packet : Packet) → Contains (out_of side s o) packet → FitsDesk side s.point s.facts
@@ -46,6 +47,12 @@ silent I s call packet legal fits there =
 silent M s call packet legal fits there =
     λ passes. ap is_telling (sent-response (both (desk_after M s call)) packet (legal_after M s call legal) (fits_after M s call packet there fits) (now is_for_peer M s call packet there passes)).reads
 
-pub all_silent : (side : Side) (s : DeskState) (call : Call) → IsLegal side s → FitsDesk side s.point s.facts → All TellsNoPeer (reply side s call).out
-all_silent side s call legal fits =
-    let out = (reply side s call).out in All-weaker (Contains out) TellsNoPeer (λ packet there. silent side s call packet legal fits there) out (All-contains_itself out)
+sent_text : (side : Side) (s : DeskState) (call : Call) (packet : Packet) → IsLegal side s → FitsDesk side s.point s.facts → Contains (reply side s call).out packet
+    → is_for_peer packet ≡ false → IsTextForPortfolio packet
+sent_text side s call packet legal fits there =
+    text-for_portfolio (λ p. true) side (desk_after side s call) packet (legal_after side s call legal) (fits_after side s call packet there fits) (now (λ p. true) side s call packet there refl)
+
+pub all_from_desk : (side : Side) (s : DeskState) (call : Call) → IsLegal side s → FitsDesk side s.point s.facts → All IsFromDesk (reply side s call).out
+all_from_desk side s call legal fits =
+    let out = (reply side s call).out in
+    All-weaker (Contains out) IsFromDesk (λ packet there. (silent side s call packet legal fits there, sent_text side s call packet legal fits there)) out (All-contains_itself out)
