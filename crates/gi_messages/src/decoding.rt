@@ -22,6 +22,7 @@ use crate::message::{
 };
 use crate::message_fault::MessageFault;
 use crate::rows::table;
+use crate::written::written;
 use gi_pairs::{MOST_PROCESSED_ROWS, MOST_ROWS, Table};
 use json::Scratch;
 use std::alloc::Global;
@@ -163,6 +164,9 @@ fn read(alloc: Global, bytes: &[u8]) -> Result<Message, MessageFault>
 {
     if bytes.len() > MOST_BYTES {
         return Err(MessageFault::TooLarge);
+    }
+    if let Some(message) = written(alloc, bytes) {
+        return Ok(message);
     }
     let mut scratch = Scratch::new(alloc);
     let Some(text) = json(alloc, bytes, &mut scratch)? else {

@@ -5,6 +5,7 @@ mod decoding;
 mod encoding;
 mod fault;
 mod fields;
+mod front;
 mod head;
 mod json_number;
 mod json_text;
@@ -25,6 +26,7 @@ mod quantities;
 mod room;
 mod row_writing;
 mod rows;
+mod written;
 
 pub use decoding::decode;
 pub use encoding::encode;

@@ -1,0 +1,126 @@
+//! Reading orders and responses in the one text that an office writes of them.
+//!
+//! They are large, and come from the other operator's office. So they are first read as if they
+//! had that text, in one pass and with no regard for JSON. The message that comes of it is written
+//! again, and it is what the bytes say where it has their very text; else they are read as JSON.
+
+ghost use Rattle.std.specs.Prelude.{◌≡◌, ◌≤◌, length, IfSome, IsTrue, Ok};
+ghost use Rattle.gi_messages.specs.Decoding.{decoded};
+ghost use Rattle.gi_messages.specs.Grammar.{Fits, FitsDelord, FitsDelres};
+ghost use Rattle.gi_messages.specs.Limits.{most_bytes};
+ghost use Rattle.gi_messages.specs.Writing.{text_of};
+
+use crate::encoding::encode;
+use crate::front::Front;
+use crate::message::{Delord, Delres, LAST_CYCLE, Message};
+use gi_pairs::{MOST_PROCESSED_ROWS, MOST_ROWS, Table};
+use std::alloc::Global;
+
+fn delord(alloc: Global, front: &mut Front<'_>) -> Option<Delord> {
+    front.skip(b"{\"cycle\":")?;
+    let cycle = front.small()?;
+    front.skip(b",\"day\":\"")?;
+    let day = front.day()?;
+    front.skip(b",\"first\":")?;
+    let first = front.small()?;
+    front.skip(b",\"kind\":\"DELORD\",\"last\":")?;
+    let last = front.small()?;
+    front.skip(b",\"point\":\"")?;
+    let point = front.code()?;
+    front.skip(b",\"processed\":")?;
+    let rows = front.rows(alloc, MOST_PROCESSED_ROWS)?;
+    let processed = Table::build(first, last, rows).ok()?;
+    Some(Delord {
+        point,
+        day,
+        cycle,
+        processed,
+    })
+}
+
+fn delres(alloc: Global, front: &mut Front<'_>) -> Option<Delres> {
+    front.skip(b"{\"confirmed\":")?;
+    let confirmed = front.rows(alloc, MOST_ROWS)?;
+    front.skip(b",\"cycle\":")?;
+    let cycle = front.small()?;
+    front.skip(b",\"day\":\"")?;
+    let day = front.day()?;
+    front.skip(b",\"first\":")?;
+    let first = front.small()?;
+    front.skip(b",\"kind\":\"DELRES\",\"last\":")?;
+    let last = front.small()?;
+    front.skip(b",\"point\":\"")?;
+    let point = front.code()?;
+    front.skip(b",\"processed\":")?;
+    let processed = front.rows(alloc, MOST_PROCESSED_ROWS)?;
+    Some(Delres {
+        point,
+        day,
+        cycle,
+        processed: Table::build(first, last, processed).ok()?,
+        confirmed: Table::build(first, last, confirmed).ok()?,
+    })
+}
+
+fn fits_delord(order: &Delord) -> bool
+    ensures { IsTrue result → FitsDelord order.now }
+{
+    order.point.known();
+    order.day.known();
+    order.processed.known();
+    order.cycle <= LAST_CYCLE && order.processed.rows().len() <= MOST_PROCESSED_ROWS
+}
+
+fn fits_delres(response: &Delres) -> bool
+    ensures { IsTrue result → FitsDelres response.now }
+{
+    response.point.known();
+    response.day.known();
+    response.processed.known();
+    response.confirmed.known();
+    response.cycle <= LAST_CYCLE
+        && response.processed.rows().len() <= MOST_PROCESSED_ROWS
+        && response.confirmed.first() == response.processed.first()
+        && response.confirmed.last() == response.processed.last()
+}
+
+/// What the bytes may be, by their first key.
+fn guessed(alloc: Global, bytes: &[u8]) -> Option<Message>
+    ensures { IfSome result Fits }
+{
+    let mut front = Front::new(bytes);
+    if bytes.starts_with(b"{\"cycle\"") {
+        let order = delord(alloc, &mut front)?;
+        if !fits_delord(&order) {
+            return None;
+        }
+        return Some(Message::Delord(order));
+    }
+    let response = delres(alloc, &mut front)?;
+    if !fits_delres(&response) {
+        return None;
+    }
+    Some(Message::Delres(response))
+}
+
+fn is_text_of(alloc: Global, message: &Message, bytes: &[u8]) -> bool
+    ensures { IsTrue result → bytes.now ≡ text_of message.now }
+{
+    match encode(alloc, message) {
+        Ok(text) => text.as_slice() == bytes,
+        Err(_) => false,
+    }
+}
+
+/// The order or the response whose one text the bytes are. `None` where they are no such text, and
+/// where memory runs out.
+pub(crate) fn written(alloc: Global, bytes: &[u8]) -> Option<Message>
+    requires { length bytes.now ≤ most_bytes }
+    ensures { IfSome result (λ m. decoded bytes.now ≡ Ok m) }
+{
+    let message = guessed(alloc, bytes)?;
+    if !is_text_of(alloc, &message, bytes) {
+        return None;
+    }
+    Some(message)
+}
