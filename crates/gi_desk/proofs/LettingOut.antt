@@ -3,7 +3,7 @@ use Rattle.std.proofs.Common.{arith, nat_lt, ltb-false, ◌≡◌, ◌<◌, ◌�
 use Rattle.std.specs.Prelude.{is_some, slice_get}
 use Rattle.std.specs.List.{insert, list_any, position_or_len}
 use Rattle.std.specs.Option.{unwrap_or}
-use Rattle.std.specs.Ordering.{is_le}
+use Rattle.std.specs.Ordering.{is_le, is_lt}
 use Rattle.std.specs.Str.{bytes_eq}
 use Rattle.std.specs.declared.cmp.Ordering.{Ordering}
 use Rattle.std.specs.declared.cmp.Ordering.TheVariants.{Less, Equal, Greater}
@@ -14,6 +14,7 @@ use Rattle.std.proofs.lemmas.List.Folds.{list_any-append}
 use Rattle.std.proofs.lemmas.List.Sums.{passes_at_first, prefix_len-le-length}
 use Rattle.std.proofs.lemmas.Map.Text.{is_eq-slice_cmp}
 use Rattle.std.proofs.lemmas.Option.{slice_get_read}
+use Rattle.std.proofs.lemmas.Slice.Eq.{bytes_eq-Decides}
 use Rattle.gi_pairs.specs.Key.{code_cmp}
 use Rattle.gi_pairs.specs.Table.{TableContents}
 use Rattle.gi_pairs.specs.declared.cycle_id.CycleId.{CycleId}
@@ -114,6 +115,29 @@ with_code-last code codes place is above =
     subst (λ (n : ℕ). with_code code codes ≡ take n codes ++ with_code code (drop n codes)) (sym is) (parted code codes)
     ∙ ap (λ rest. take place codes ++ with_code code rest) (drop_of_length-le codes above)
     ∙ ap (λ rest. take place codes ++ code ∷ rest) (sym (drop_of_length-le codes above))
+
+-- ---- a code that stands among others already
+
+there : (code other : List ℕ) (others : List (List ℕ)) → bytes_eq code other ≡ true → with_code code (other ∷ others) ≡ other ∷ others
+there code other others same = rw same refl
+
+before : (code other : List ℕ) (others : List (List ℕ)) → bytes_eq code other ≡ false → is_lt (code_cmp code other) ≡ true → with_code code (other ∷ others) ≡ code ∷ other ∷ others
+before code other others differs less = rw (differs, less) refl
+
+after : (code other : List ℕ) (others : List (List ℕ)) → bytes_eq code other ≡ false → is_lt (code_cmp code other) ≡ false → with_code code (other ∷ others) ≡ other ∷ with_code code others
+after code other others differs above = rw (differs, above) refl
+
+twice_by : (code other : List ℕ) (others : List (List ℕ)) (same less : Bool) → bytes_eq code other ≡ same → is_lt (code_cmp code other) ≡ less
+    → with_code code (with_code code others) ≡ with_code code others → with_code code (with_code code (other ∷ others)) ≡ with_code code (other ∷ others)
+twice_by code other others true less e f rest = ap (with_code code) (there code other others e)
+twice_by code other others false true e f rest =
+    ap (with_code code) (before code other others e f) ∙ there code code (other ∷ others) ((bytes_eq-Decides code code).1 refl) ∙ sym (before code other others e f)
+twice_by code other others false false e f rest =
+    ap (with_code code) (after code other others e f) ∙ after code other (with_code code others) e f ∙ ap (λ codes. other ∷ codes) rest ∙ sym (after code other others e f)
+
+pub with_code_twice : (code : List ℕ) (codes : List (List ℕ)) → with_code code (with_code code codes) ≡ with_code code codes
+with_code_twice code [] = there code code [] ((bytes_eq-Decides code code).1 refl)
+with_code_twice code (other ∷ others) = twice_by code other others (bytes_eq code other) (is_lt (code_cmp code other)) refl refl (with_code_twice code others)
 
 pub found_place : (code : List ℕ) (codes : List (List ℕ)) (found : Option ℕ) (len place : ℕ)
     → found ≡ cond (nat_lt (position_or_len (is_not_above code) codes) (length codes)) (Some (position_or_len (is_not_above code) codes)) None

@@ -1,6 +1,6 @@
 //! What the portfolios of a side are told.
 
-ghost use Rattle.std.specs.Prelude.{◌≡◌, IfOk, OnOk, Some, map};
+ghost use Rattle.std.specs.Prelude.{◌≡◌, IfOk, IsTrue, OnOk, Some, map};
 ghost use Rattle.gi_messages.specs.declared.message.Message.TheVariants as messages;
 ghost use Rattle.gi_desk.specs.Messages.{line_of as line_of_row, lines_of as lines_of_rows, portfolios_in as portfolios_in_rows, to_user, told_of, told_packets as told_packets_of, with_code};
 ghost use Rattle.gi_desk.specs.Queries.{stands_in as stands_in_rows, told_if as told_if_met};
@@ -116,12 +116,27 @@ fn insert(codes: &mut Vec<Code>, code: Code) -> Result<(), AllocError>
     Ok(())
 }
 
+fn is_that(last: &Option<Code>, code: Code) -> bool
+    ensures { IsTrue result → last.now ≡ Some code }
+{
+    match last {
+        Some(last) => *last == code,
+        None => false,
+    }
+}
+
+/// Rows of one portfolio often follow each other, and then it is looked for once.
 fn portfolios_in(alloc: Global, side: Side, rows: &[Row]) -> Result<Vec<Code>, AllocError>
     ensures { IfOk result (λ codes. codes.items ≡ portfolios_in_rows side rows.now) }
 {
     let mut codes = Vec::new(alloc);
+    let mut last = None;
     for row in rows.iter().rev() {
-        insert(&mut codes, row.pair.at(side))?;
+        let code = row.pair.at(side);
+        if !is_that(&last, code) {
+            insert(&mut codes, code)?;
+            last = Some(code);
+        }
     }
     Ok(codes)
 }
