@@ -1,9 +1,13 @@
 -- What a desk writes to its peer tells nothing, for it reads as an order or as a response; what it writes to a portfolio acknowledges or confirms.
-use Rattle.std.proofs.Common.{◌≡◌, List, [], All, Contains, true, false, refl, ap}
+use Rattle.std.proofs.Common.{◌≡◌, List, [], All, Contains, true, false, Ok, refl, sym, ap, ◌∙◌}
 use Rattle.std.proofs.lemmas.List.Elements.{All-contains_itself, All-weaker}
+use Rattle.json.specs.Print.{escape_byte}
 use Rattle.gi_pairs.specs.declared.side.Side.{Side}
 use Rattle.gi_pairs.specs.declared.side.Side.TheVariants.{I, M}
 use Rattle.gi_pairs.proofs.Building.{in_from_contains}
+use Rattle.gi_messages.specs.Writing.{acknow_data, nomres_data, text_of}
+use Rattle.gi_messages.specs.declared.message.Message.{Message}
+use Rattle.gi_messages.specs.declared.message.Message.TheVariants as messages
 use Rattle.gi_desk.specs.Machine.{DeskState, after as desk_after, is_for_peer, next_of, out_of, outcome as desk_outcome, reply}
 use Rattle.gi_desk.specs.Writable.{FitsDesk}
 use Rattle.gi_desk.specs.declared.call.Call.{Call}
@@ -12,7 +16,7 @@ use Rattle.gi_desk.specs.declared.outcome.Outcome.TheVariants.{Records, RepeatsN
 use Rattle.gi_desk.specs.declared.packet.Packet.{Packet}
 use Rattle.gi_desk.proofs.StepFacts.{stays-legal}
 use Rattle.gi_world.specs.Agreement.{IsLegal}
-use Rattle.gi_world.specs.World.{IsFromDesk, IsTextForPortfolio, StationState, TellsNoPeer, WorldState, is_telling}
+use Rattle.gi_world.specs.World.{IsForPortfolio, IsFromDesk, IsTextForPortfolio, StationState, TellsNoPeer, WorldState, begins_with_cycle, is_telling, tells}
 use Rattle.gi_world.proofs.DeliveredPackets.{sent-order, sent-response}
 use Rattle.gi_world.proofs.SentPackets.{now}
 use Rattle.gi_world.proofs.ToldPackets.{text-for_portfolio}
@@ -55,4 +59,20 @@ sent_text side s call packet legal fits there =
 pub all_from_desk : (side : Side) (s : DeskState) (call : Call) → IsLegal side s → FitsDesk side s.point s.facts → All IsFromDesk (reply side s call).out
 all_from_desk side s call legal fits =
     let out = (reply side s call).out in
-    All-weaker (Contains out) IsFromDesk (λ packet there. (silent side s call packet legal fits there, sent_text side s call packet legal fits there)) out (All-contains_itself out)
+    All-weaker (Contains out) IsFromDesk (λ packet there. record {
+      tells_no_peer = silent side s call packet legal fits there;
+      for_portfolio = sent_text side s call packet legal fits there;
+    }) out (All-contains_itself out)
+
+-- an acknowledgement begins with its day, and a confirmation with its cycle
+begins : (message : Message) → IsForPortfolio message → begins_with_cycle (text_of message) ≡ is_telling (Ok message)
+unfolding text_of acknow_data nomres_data escape_byte
+begins (messages.Nomint m) is = absurd is
+begins (messages.Acknow m) is = refl
+begins (messages.Nomres m) is = refl
+begins (messages.Delord m) is = absurd is
+begins (messages.Delres m) is = absurd is
+
+pub tells_by_text : (packet : Packet) → is_for_peer packet ≡ false → IsFromDesk packet → begins_with_cycle packet.body ≡ tells packet
+tells_by_text packet outwards from =
+    let text = from.for_portfolio outwards in ap begins_with_cycle text.written ∙ begins text.message text.for_portfolio ∙ sym (ap is_telling text.reads)

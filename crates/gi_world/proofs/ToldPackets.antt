@@ -179,12 +179,12 @@ told-tells side s packet legal fits is =
 
 -- what goes to the peer is sent to no portfolio
 not_for_peer : (packet other : Packet) → other ≡ packet → is_for_peer other ≡ true → is_for_peer packet ≡ false → ⊥
-not_for_peer packet other same to_peer to_user = let never : true ≡ false = sym to_peer ∙ ap is_for_peer same ∙ to_user in absurd cc
+not_for_peer packet other same inwards outwards = let never : true ≡ false = sym inwards ∙ ap is_for_peer same ∙ outwards in absurd cc
 
 -- a closing writes to the peer alone
 text_on_closing : (side : Side) (s : DeskState) (n : ℕ) (id : CycleId) (packet : Packet) → IsFact s.facts n (Closed id)
     → Contains (let_out side s.point s.facts n) packet → is_for_peer packet ≡ false → ⊥
-text_on_closing side s n id packet is there to_user = by_side side there
+text_on_closing side s n id packet is there outwards = by_side side there
   where
     closed : is_closed id s.facts ≡ true
     closed = fact_closes s.facts n id is
@@ -196,50 +196,50 @@ text_on_closing side s n id packet is there to_user = by_side side there
     by_side I there =
         let cycle = frozen_cycle I s.facts id in
         let order = to_peer (messages.Delord (order_of s.point cycle)) in
-        not_for_peer packet order (one_there (let_out I s.point s.facts n) order packet (out I ∙ ordered_by s.point cycle (peer_of id s.facts)) there) refl to_user
+        not_for_peer packet order (one_there (let_out I s.point s.facts n) order packet (out I ∙ ordered_by s.point cycle (peer_of id s.facts)) there) refl outwards
     by_side M there =
         none_there (let_out M s.point s.facts n) packet (out M ∙ unanswered_by s.point (frozen_cycle M s.facts id) (peer_of id s.facts)) there
 
 -- nor is a response sent to one
 text_of_response : (side : Side) (point : List ℕ) (cycle : MatchedCycle) (packet : Packet) → In packet (sent (on_met side point cycle)) → is_for_peer packet ≡ false → ⊥
-text_of_response I point cycle packet there to_user = there
-text_of_response M point cycle packet (inr none) to_user = none
-text_of_response M point cycle packet (inl same) to_user = not_for_peer packet (to_peer (messages.Delres (response_of point cycle))) same refl to_user
+text_of_response I point cycle packet there outwards = there
+text_of_response M point cycle packet (inr none) outwards = none
+text_of_response M point cycle packet (inl same) outwards = not_for_peer packet (to_peer (messages.Delres (response_of point cycle))) same refl outwards
 
 text_on_meeting : (side : Side) (point : List ℕ) (cycle : MatchedCycle) (packet : Packet) → IsCode point → FitsMatched cycle
     → In packet (sent (on_met side point cycle)) ⊎ In packet (told_packets side point cycle) → is_for_peer packet ≡ false → IsTextForPortfolio packet
-text_on_meeting side point cycle packet code fits (inl there) to_user = absurd (text_of_response side point cycle packet there to_user)
-text_on_meeting side point cycle packet code fits (inr there) to_user =
+text_on_meeting side point cycle packet code fits (inl there) outwards = absurd (text_of_response side point cycle packet there outwards)
+text_on_meeting side point cycle packet code fits (inr there) outwards =
     let (portfolio, among, same) = told_from side point cycle packet there in
     let reads = told_reads side point cycle portfolio code fits (coded_among (portfolios_in side cycle.confirmed.rows) portfolio (portfolios-coded side cycle.confirmed.rows fits.confirmed.all) among) in
     subst IsTextForPortfolio same (record { message = messages.Nomres (told_of side point cycle portfolio); for_portfolio = tt; written = refl; reads = reads })
 
 text_of_fact : (side : Side) (s : DeskState) (n : ℕ) (fact : Fact) (packet : Packet) → IsLegal side s → FitsDesk side s.point s.facts → IsFact s.facts n fact
     → Contains (let_out side s.point s.facts n) packet → is_for_peer packet ≡ false → IsTextForPortfolio packet
-text_of_fact side s n (Contracted contract) packet legal fits is there to_user =
+text_of_fact side s n (Contracted contract) packet legal fits is there outwards =
     absurd (none_there (let_out side s.point s.facts n) packet (let_out-is side s.point s.facts n (Contracted contract) is) there)
-text_of_fact side s n (Noticed notice) packet legal fits is there to_user =
+text_of_fact side s n (Noticed notice) packet legal fits is there outwards =
     absurd (none_there (let_out side s.point s.facts n) packet (let_out-is side s.point s.facts n (Noticed notice) is) there)
-text_of_fact side s n (Nominated document) packet legal fits is there to_user =
+text_of_fact side s n (Nominated document) packet legal fits is there outwards =
     let message = messages.Acknow (acknow_of document) in
     let packet_is = to_user document.portfolio message in
     let same = one_there (let_out side s.point s.facts n) packet_is packet (let_out-is side s.point s.facts n (Nominated document) is) there in
     let reads = read_back message (acknow-fits document (fact-fits side s.point s.facts n (Nominated document) fits is)) tt in
     subst IsTextForPortfolio same (record { message = message; for_portfolio = tt; written = refl; reads = reads })
-text_of_fact side s n (Closed id) packet legal fits is there to_user = absurd (text_on_closing side s n id packet is there to_user)
-text_of_fact side s n (Met id peer) packet legal fits is there to_user =
+text_of_fact side s n (Closed id) packet legal fits is there outwards = absurd (text_on_closing side s n id packet is there outwards)
+text_of_fact side s n (Met id peer) packet legal fits is there outwards =
     let cycle = matched_of (frozen_cycle side s.facts id) peer in
     let all = fact_meets side s.point s.facts n id peer legal.legal is in
     let state : state_of side s.facts id ≡ Matched cycle = state-closed side s.facts id all.0 ∙ ap (met_by (frozen_cycle side s.facts id)) all.1 in
     let matched = subst (λ (met : Option TableContents). FitsState (met_by (frozen_cycle side s.facts id) met)) all.1 (closed_fits side s.point s.facts id fits all.0) in
     let out = meeting_lets_out side s.point s.facts n id peer cycle legal.legal is (sym state) in
     let found = in_from_contains packet (sent (on_met side s.point cycle) ++ told_packets side s.point cycle) (subst (λ (packets : List Packet). Contains packets packet) (sym out) there) in
-    text_on_meeting side s.point cycle packet fits.point matched (from_append packet (sent (on_met side s.point cycle)) (told_packets side s.point cycle) found) to_user
+    text_on_meeting side s.point cycle packet fits.point matched (from_append packet (sent (on_met side s.point cycle)) (told_packets side s.point cycle) found) outwards
 
 pub text-for_portfolio : (is_so : Packet → Bool) (side : Side) (s : DeskState) (packet : Packet) → IsLegal side s → FitsDesk side s.point s.facts → IsLetOut is_so side s packet
     → is_for_peer packet ≡ false → IsTextForPortfolio packet
-text-for_portfolio is_so side s packet legal fits is to_user =
+text-for_portfolio is_so side s packet legal fits is outwards =
     let to = is.to in
     let within = legal.within in
     let fact = some_fact s.facts is.n is.from (omega (arith, to, within)) in
-    text_of_fact side s is.n fact.0 packet legal fits fact.1 is.let_out_by to_user
+    text_of_fact side s is.n fact.0 packet legal fits fact.1 is.let_out_by outwards

@@ -1,5 +1,5 @@
 -- Both operators' desks with what each let out, and what a step makes of them.
-use Rattle.std.specs.Prelude.{◌≡◌, ◌<◌, ℕ, zero, suc, List, [], ◌++◌, filter, slice_get, length, Bool, true, false, not, ◌&&◌, nat_lt, IsTrue, ◌⊎◌, is_ok, is_some, if◌then◌else◌, Option, Some, None, option_map, Result, Ok, Err}
+use Rattle.std.specs.Prelude.{◌≡◌, ◌<◌, ℕ, zero, suc, List, [], ◌++◌, filter, slice_get, slice_index, length, Bool, true, false, not, ◌&&◌, ◌==◌, nat_lt, IsTrue, ◌⊎◌, is_ok, is_some, if◌then◌else◌, Option, Some, None, option_map, Result, Ok, Err}
 use Rattle.std.specs.Str.{bytes_eq}
 pub use Rattle.gi_pairs.specs.Side.{other}
 use Rattle.gi_pairs.specs.declared.side.Side.{Side}
@@ -78,8 +78,13 @@ pub record IsTextForPortfolio (packet : Packet) : Type 0 where
   pub reads : decoded packet.body ≡ Ok message
 
 -- what a desk lets out: to its peer what tells nothing, and to a portfolio an acknowledgement or a confirmation
-abbrev pub IsFromDesk : Packet → Type 0
-IsFromDesk packet = TellsNoPeer packet × (is_for_peer packet ≡ false → IsTextForPortfolio packet)
+pub record IsFromDesk (packet : Packet) : Type 0 where
+  pub tells_no_peer : TellsNoPeer packet
+  pub for_portfolio : is_for_peer packet ≡ false → IsTextForPortfolio packet
+
+-- whether the third byte is the first letter of `cycle`: what a text begins with that has its keys in byte order and a cycle
+abbrev pub begins_with_cycle : List ℕ → Bool
+begins_with_cycle bytes = slice_index bytes 2 == 99
 
 -- whether its bytes are these
 abbrev pub has_bytes : List ℕ → Packet → Bool

@@ -2,7 +2,7 @@
 
 ghost use Rattle.std.specs.Prelude.{◌≡◌, ◌<◌, All, IfOk, OnErr, filter, length, position};
 ghost use Rattle.gi_desk.specs.Machine.{is_for_peer as is_for_peer_of};
-ghost use Rattle.gi_world.specs.World.{IsFromDesk, has_bytes, tells as tells_of};
+ghost use Rattle.gi_world.specs.World.{IsFromDesk, begins_with_cycle, has_bytes, tells as tells_of};
 
 use gi_desk::{Packet, Recipient};
 use std::alloc::{AllocError, Global};
@@ -13,12 +13,18 @@ fn is_for_peer(packet: &Packet) -> bool
     packet.to == Recipient::Peer
 }
 
-/// No packet is read again. Of what a portfolio is sent only a confirmation begins with its cycle.
+fn begins_with_cycle(text: &[u8]) -> bool
+    ensures { result ≡ begins_with_cycle text.now }
+{
+    text.len() > 2 && text[2] == b'c'
+}
+
+/// No packet is read again: of what a portfolio is sent only a confirmation begins with its cycle.
 fn tells(packet: &Packet) -> bool
     requires { IsFromDesk packet.now }
     ensures { result ≡ tells_of packet.now }
 {
-    !is_for_peer(packet) && matches!(packet.body.as_slice().get(2), Some(b'c'))
+    !is_for_peer(packet) && begins_with_cycle(packet.body.as_slice())
 }
 
 pub(crate) fn place_of(packets: &[Packet], bytes: &[u8]) -> Option<usize>
