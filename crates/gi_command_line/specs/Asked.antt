@@ -1,20 +1,34 @@
 -- What can be asked of the program.
 use Rattle.std.specs.Prelude.{ℕ, List, Option, None, Some, option_map}
+use Rattle.gi_pairs.specs.declared.direction.Direction.{Direction}
 use Rattle.gi_pairs.specs.declared.side.Side.{Side}
 use Rattle.gi_command_line.specs.declared.request.BookFile.{BookFile}
+use Rattle.gi_command_line.specs.declared.request.NamedQuantity.{NamedQuantity}
 use Rattle.gi_command_line.specs.declared.request.ReportKind.{ReportKind}
 use Rattle.gi_command_line.specs.declared.request.Request.{Request}
 use Rattle.gi_command_line.specs.declared.request.Request.TheVariants as request
 use Rattle.gi_command_line.specs.declared.request.Task.{Task}
 use Rattle.gi_command_line.specs.declared.request.Task.TheVariants as task
 
--- one of the commands but `serve`; a report of this kind and side, over a script or over the book in a file, for this
--- point; or a command in wrong words
+-- the words of a quantity: its portfolios, direction and gas day, and the numbers of its cycle and hour
+pub record QuantityWords : Type 0 where
+  pub initiating : List ℕ
+  pub matching : List ℕ
+  pub direction : Direction
+  pub day : List ℕ
+  pub cycle : ℕ
+  pub hour : ℕ
+
+-- one of the commands but `serve`; a report of this kind and side, or what a quantity comes from at a side, over a script
+-- or over the book in a file, for this point; the audit of the initiating and the matching operator's books in files, for
+-- this point; or a command in wrong words
 pub data Asked : Type 0 where
   match_tables : Asked
   hours : List ℕ → Asked
   simulate : Asked
   report : ReportKind → Side → Option (List ℕ × List ℕ) → Asked
+  explain : Side → QuantityWords → Option (List ℕ × List ℕ) → Asked
+  audit : List ℕ → List ℕ → List ℕ → Asked
   mistaken : Asked
 
 -- what a request asks for
@@ -22,11 +36,23 @@ abbrev pub book_of : Option BookFile → Option (List ℕ × List ℕ)
 book_of None = None
 book_of (Some book) = Some (book.file.now, book.point.now)
 
+abbrev pub quantity_words : NamedQuantity → QuantityWords
+quantity_words named = record {
+  initiating = named.initiating.now;
+  matching = named.matching.now;
+  direction = named.direction;
+  day = named.day.now;
+  cycle = named.cycle;
+  hour = named.hour;
+}
+
 abbrev pub meaning : Request → Asked
 meaning request.Match = match_tables
 meaning (request.Hours day) = hours day.now
 meaning request.Simulate = simulate
 meaning (request.Report wanted) = report wanted.kind wanted.side (book_of wanted.book)
+meaning (request.Explain wanted) = explain wanted.side (quantity_words wanted.quantity) (book_of wanted.book)
+meaning (request.Audit books) = audit books.initiating.now books.matching.now books.point.now
 meaning (request.Mistaken why) = mistaken
 
 -- any of the commands: one of these, or both offices run by a script, each with so many sessions, and their books in the

@@ -4,21 +4,27 @@ use Rattle.std.specs.Str.{bytes_eq}
 use Rattle.clap.specs.Words.{App, IsAmong, Kinds, Row, Rule, fault_of, first_of, new_app, new_rule, subcommand_of, with_rule, with_subcommand}
 use Rattle.clap.specs.declared.error.kind.ErrorKind.{ErrorKind}
 use Rattle.clap.specs.declared.error.kind.ErrorKind.TheVariants.{DisplayHelp, DisplayVersion}
+use Rattle.gi_pairs.specs.Direction.{direction_named}
 use Rattle.gi_pairs.specs.Side.{side_named}
+use Rattle.gi_pairs.specs.declared.direction.Direction.{Direction}
 use Rattle.gi_pairs.specs.declared.side.Side.{Side}
-use Rattle.gi_command_line.specs.Asked.{Asked, Wanted, at_once, hours, match_tables, mistaken, report, serve, simulate}
+use Rattle.gi_command_line.specs.Asked.{Asked, QuantityWords, Wanted, at_once, audit, explain, hours, match_tables, mistaken, report, serve, simulate}
+use Rattle.gi_command_line.specs.Numbers.{cycle_named, hour_named}
 use Rattle.gi_command_line.specs.ReportWords.{kind_named}
 use Rattle.gi_command_line.specs.Sessions.{default_sessions, sessions_named}
 use Rattle.gi_command_line.specs.declared.request.ReportKind.{ReportKind}
 
 -- ---- the commands and options that the program knows
 
--- a word that has to be there, and an option with a value
+-- a word that has to be there, an option with a value, and one that has to be there
 abbrev pub word : List ℕ → Rule
 word name = record (new_rule name) { required = true }
 
 abbrev pub option : List ℕ → Rule
 option name = record (new_rule name) { long = Some name; value_names = 1 }
+
+abbrev pub needed : List ℕ → Rule
+needed name = record (option name) { required = true }
 
 abbrev pub the_match : App
 the_match = new_app (codes "match")
@@ -29,8 +35,24 @@ the_hours = with_rule (new_app (codes "hours")) (word (codes "DAY"))
 abbrev pub the_simulate : App
 the_simulate = new_app (codes "simulate")
 
+-- the pair's portfolios and the direction; the gas day, the cycle and the hour
+abbrev pub with_pair : App → App
+with_pair app = with_rule (with_rule (with_rule app (word (codes "INITIATING"))) (word (codes "MATCHING"))) (word (codes "DIRECTION"))
+
+abbrev pub with_hour : App → App
+with_hour app = with_rule (with_rule (with_rule app (word (codes "DAY"))) (word (codes "CYCLE"))) (word (codes "HOUR"))
+
+abbrev pub with_book : App → App
+with_book app = with_rule (with_rule app (option (codes "book"))) (option (codes "point"))
+
 abbrev pub the_report : App
-the_report = with_rule (with_rule (with_rule (with_rule (new_app (codes "report")) (word (codes "KIND"))) (word (codes "SIDE"))) (option (codes "book"))) (option (codes "point"))
+the_report = with_book (with_rule (with_rule (new_app (codes "report")) (word (codes "KIND"))) (word (codes "SIDE")))
+
+abbrev pub the_explain : App
+the_explain = with_book (with_hour (with_pair (with_rule (new_app (codes "explain")) (word (codes "SIDE")))))
+
+abbrev pub the_audit : App
+the_audit = with_rule (with_rule (with_rule (new_app (codes "audit")) (needed (codes "initiating"))) (needed (codes "matching"))) (needed (codes "point"))
 
 abbrev pub the_serve : App
 the_serve = with_rule (with_rule (new_app (codes "serve")) (option (codes "sessions"))) (option (codes "books"))
@@ -42,7 +64,7 @@ named = let new = new_app (codes "gi_dispatch") in record new { top = record new
 abbrev pub the_program : App
 the_program =
     let with_simulate = with_subcommand (with_subcommand (with_subcommand named the_match.top) the_hours.top) the_simulate.top in
-    with_subcommand (with_subcommand with_simulate the_report.top) the_serve.top
+    with_subcommand (with_subcommand (with_subcommand (with_subcommand with_simulate the_report.top) the_explain.top) the_audit.top) the_serve.top
 
 -- why the words ask for no command, as `clap` tells it: none of these where they ask for one
 abbrev pub objections : List (List ℕ) → Kinds
@@ -59,16 +81,16 @@ hours_asked None = match_tables
 hours_asked (Some day) = hours day
 
 -- a book is named by its file and its point, both or neither
-abbrev pub report_over : ReportKind → Side → Option (List ℕ) → Option (List ℕ) → Asked
-report_over kind side None None = report kind side None
-report_over kind side None (Some point) = mistaken
-report_over kind side (Some file) None = mistaken
-report_over kind side (Some file) (Some point) = report kind side (Some (file, point))
+abbrev pub over_book : (Option (List ℕ × List ℕ) → Asked) → Option (List ℕ) → Option (List ℕ) → Asked
+over_book ask None None = ask None
+over_book ask None (Some point) = mistaken
+over_book ask (Some file) None = mistaken
+over_book ask (Some file) (Some point) = ask (Some (file, point))
 
 abbrev pub report_of : Option ReportKind → Option Side → Option (List ℕ) → Option (List ℕ) → Asked
 report_of None side file point = mistaken
 report_of (Some kind) None file point = mistaken
-report_of (Some kind) (Some side) file point = report_over kind side file point
+report_of (Some kind) (Some side) file point = over_book (report kind side) file point
 
 -- the value of a word, the empty one where there is none
 abbrev pub value_of : List ℕ → List Row → List ℕ
@@ -77,6 +99,39 @@ value_of name rows = unwrap_or (first_of name rows) []
 abbrev pub report_asked : List Row → Asked
 report_asked rows =
     report_of (kind_named (value_of (codes "KIND") rows)) (side_named (value_of (codes "SIDE") rows)) (first_of (codes "book") rows) (first_of (codes "point") rows)
+
+-- the words of a quantity are those of its portfolios and gas day, of whatever text, its direction, and numbers
+abbrev pub quantity_of : List Row → Direction → ℕ → ℕ → QuantityWords
+quantity_of rows direction cycle hour = record {
+  initiating = value_of (codes "INITIATING") rows;
+  matching = value_of (codes "MATCHING") rows;
+  direction = direction;
+  day = value_of (codes "DAY") rows;
+  cycle = cycle;
+  hour = hour;
+}
+
+abbrev pub quantity_named : List Row → Option Direction → Option ℕ → Option ℕ → Option QuantityWords
+quantity_named rows None cycle hour = None
+quantity_named rows (Some direction) None hour = None
+quantity_named rows (Some direction) (Some cycle) None = None
+quantity_named rows (Some direction) (Some cycle) (Some hour) = Some (quantity_of rows direction cycle hour)
+
+abbrev pub quantity_asked : List Row → Option QuantityWords
+quantity_asked rows =
+    quantity_named rows (direction_named (value_of (codes "DIRECTION") rows)) (cycle_named (value_of (codes "CYCLE") rows)) (hour_named (value_of (codes "HOUR") rows))
+
+abbrev pub explain_of : Option Side → Option QuantityWords → Option (List ℕ) → Option (List ℕ) → Asked
+explain_of None quantity file point = mistaken
+explain_of (Some side) None file point = mistaken
+explain_of (Some side) (Some quantity) file point = over_book (explain side quantity) file point
+
+abbrev pub explain_asked : List Row → Asked
+explain_asked rows =
+    explain_of (side_named (value_of (codes "SIDE") rows)) (quantity_asked rows) (first_of (codes "book") rows) (first_of (codes "point") rows)
+
+abbrev pub audit_asked : List Row → Asked
+audit_asked rows = audit (value_of (codes "initiating") rows) (value_of (codes "matching") rows) (value_of (codes "point") rows)
 
 -- two sessions where no number is named
 abbrev pub sessions_asked : Option (List ℕ) → Option ℕ
@@ -94,7 +149,10 @@ serve_asked rows = service_of (sessions_asked (first_of (codes "sessions") rows)
 abbrev pub asked_at_once : List ℕ → List Row → Asked
 asked_at_once name rows =
     if bytes_eq name (codes "hours") then hours_asked (first_of (codes "DAY") rows)
-    else (if bytes_eq name (codes "simulate") then simulate else (if bytes_eq name (codes "report") then report_asked rows else match_tables))
+    else (if bytes_eq name (codes "simulate") then simulate
+    else (if bytes_eq name (codes "report") then report_asked rows
+    else (if bytes_eq name (codes "explain") then explain_asked rows
+    else (if bytes_eq name (codes "audit") then audit_asked rows else match_tables))))
 
 abbrev pub asked_by : List ℕ → List Row → Wanted
 asked_by name rows = if bytes_eq name (codes "serve") then serve_asked rows else at_once (asked_at_once name rows)

@@ -1,5 +1,6 @@
 pub mod Asked
 pub mod ReportWords
 pub mod Sessions
+pub mod Numbers
 pub mod CommandLine
 pub mod Laws

@@ -20,3 +20,9 @@ mistake_text (mistake.Side word) = codes "error: invalid value '" ++ (word.now +
 mistake_text mistake.Unpaired = codes "error: '--book <FILE>' and '--point <CODE>' need each other\n"
 mistake_text (mistake.Sessions word) =
     codes "error: invalid value '" ++ (word.now ++ codes "' for '--sessions <N>'\n  [possible values: 1 to 8]\n")
+mistake_text (mistake.Direction word) =
+    codes "error: invalid value '" ++ (word.now ++ codes "' for '<DIRECTION>'\n  [possible values: IM, MI]\n")
+mistake_text (mistake.Cycle word) =
+    codes "error: invalid value '" ++ (word.now ++ codes "' for '<CYCLE>'\n  [possible values: 0 to 36]\n")
+mistake_text (mistake.Hour word) =
+    codes "error: invalid value '" ++ (word.now ++ codes "' for '<HOUR>'\n  [possible values: 1 to 25]\n")

@@ -2,11 +2,15 @@
 #![tactic(auto)]
 
 mod laws;
+mod numbers;
 mod request;
 mod sessions;
 mod words;
 
 pub use laws::{hours_is_taken, match_is_taken, serve_is_taken};
-pub use request::{BookFile, Mistake, Report, ReportKind, Request, Service, Task, kind_named};
+pub use request::{
+    BookFile, BookFiles, Explanation, Mistake, NamedQuantity, Report, ReportKind, Request, Service,
+    Task, kind_named,
+};
 pub use sessions::Sessions;
 pub use words::requested;

@@ -4,7 +4,7 @@ ghost use Rattle.std.specs.Prelude.{◌≡◌, Some};
 ghost use Rattle.gi_command_line.specs.ReportWords.{kind_named as kind_named_by, mistake_text};
 
 use crate::sessions::Sessions;
-use gi_pairs::Side;
+use gi_pairs::{Direction, Side};
 use std::fmt;
 
 /// Which report is asked for.
@@ -33,6 +33,35 @@ pub struct Report<'a> {
     pub book: Option<BookFile<'a>>,
 }
 
+/// A quantity, named by words: its portfolio pair, direction, gas day, nomination cycle and hour.
+#[derive(Clone, Copy, Debug, PartialEq, Eq)]
+pub struct NamedQuantity<'a> {
+    pub initiating: &'a str,
+    pub matching: &'a str,
+    pub direction: Direction,
+    pub day: &'a str,
+    /// From 0 to 36, the last that any gas day has.
+    pub cycle: u8,
+    /// From 1 to 25.
+    pub hour: u8,
+}
+
+/// What a quantity comes from at a side: over its book, or else over a script.
+#[derive(Clone, Copy, Debug, PartialEq, Eq)]
+pub struct Explanation<'a> {
+    pub side: Side,
+    pub quantity: NamedQuantity<'a>,
+    pub book: Option<BookFile<'a>>,
+}
+
+/// Both operators' books in files, to be compared, and the interconnection point that they are of.
+#[derive(Clone, Copy, Debug, PartialEq, Eq)]
+pub struct BookFiles<'a> {
+    pub initiating: &'a str,
+    pub matching: &'a str,
+    pub point: &'a str,
+}
+
 /// Both offices, run by a script.
 #[derive(Clone, Copy, Debug, PartialEq, Eq)]
 pub struct Service<'a> {
@@ -53,6 +82,12 @@ pub enum Mistake<'a> {
     Unpaired,
     /// The word is no number of sessions.
     Sessions(&'a str),
+    /// The word is no direction.
+    Direction(&'a str),
+    /// The word is no number of a cycle.
+    Cycle(&'a str),
+    /// The word is no number of an hour.
+    Hour(&'a str),
 }
 
 /// What a command line asks for, but `serve`.
@@ -66,6 +101,10 @@ pub enum Request<'a> {
     Simulate,
     /// A report.
     Report(Report<'a>),
+    /// What a quantity comes from.
+    Explain(Explanation<'a>),
+    /// Whether both operators' books agree.
+    Audit(BookFiles<'a>),
     /// A command, in wrong words.
     Mistaken(Mistake<'a>),
 }
@@ -98,6 +137,18 @@ impl fmt::Display for Mistake<'_> {
             Mistake::Sessions(word) => write!(
                 f,
                 "error: invalid value '{word}' for '--sessions <N>'\n  [possible values: 1 to 8]\n"
+            ),
+            Mistake::Direction(word) => write!(
+                f,
+                "error: invalid value '{word}' for '<DIRECTION>'\n  [possible values: IM, MI]\n"
+            ),
+            Mistake::Cycle(word) => write!(
+                f,
+                "error: invalid value '{word}' for '<CYCLE>'\n  [possible values: 0 to 36]\n"
+            ),
+            Mistake::Hour(word) => write!(
+                f,
+                "error: invalid value '{word}' for '<HOUR>'\n  [possible values: 1 to 25]\n"
             ),
         }
     }

@@ -1,13 +1,18 @@
 //! The words of a command line.
 ghost use Rattle.std.specs.Prelude.{◌≡◌, IfOk, codes, false, map, option_map};
+ghost use Rattle.std.specs.Result.{result_ok};
 ghost use Rattle.clap.specs.Words.{FailsBy, app_of, first_of, found_of, rows_of, rule_of, subcommand_rows_of, with_subcommand};
-ghost use Rattle.gi_command_line.specs.Asked.{meaning, task_meaning};
-ghost use Rattle.gi_command_line.specs.CommandLine.{asked, asked_at_once, asked_of, hours_asked, objections, option as option_rule, report_asked, report_over as report_over_of, serve_asked, sessions_asked, the_hours, the_match, the_program, the_report, the_serve, the_simulate, value_of as value_at, word as word_rule};
+ghost use Rattle.gi_command_line.specs.Asked.{explain as asks_explanation, meaning, quantity_words, report as asks_report, task_meaning};
+ghost use Rattle.gi_command_line.specs.CommandLine.{asked, asked_at_once, asked_of, audit_asked, explain_asked, hours_asked, needed as needed_rule, objections, option as option_rule, over_book, quantity_asked, report_asked, serve_asked, sessions_asked, the_audit, the_explain, the_hours, the_match, the_program, the_report, the_serve, the_simulate, value_of as value_at, word as word_rule};
 
-use crate::request::{BookFile, Mistake, Report, ReportKind, Request, Service, Task, kind_named};
+use crate::numbers::{cycle_named, hour_named};
+use crate::request::{
+    BookFile, BookFiles, Explanation, Mistake, NamedQuantity, Report, ReportKind, Request, Service,
+    Task, kind_named,
+};
 use crate::sessions::Sessions;
 use clap::{Arg, ArgMatches, Command, Error};
-use gi_pairs::Side;
+use gi_pairs::{Direction, Side};
 use std::alloc::{AllocError, Global};
 use std::convert::AsStr;
 
@@ -16,13 +21,15 @@ With no command `match` is meant. A fault is one line on standard error, `gi_dis
 name (a wrong command line is told in more words), and nothing on standard output, unless memory or
 a writer fails, or an office that runs gives up.
 
-Exit status: 0 done, 1 refused input, a reader or writer that failed, or offices that do not agree,
-2 wrong command line, 3 a book that failed or is none, 4 want of memory.
+Exit status: 0 done, 1 refused input, a reader or writer that failed, or offices or books that do
+not agree, 2 wrong command line, 3 a book that failed or is none, 4 want of memory.
 
 Examples: gi_dispatch match < examples/match.txt
           gi_dispatch hours 2026-01-15
           gi_dispatch simulate < scenarios/plain_exchange.script
           gi_dispatch report confirmed I < scenarios/plain_exchange.script
+          gi_dispatch explain I A B IM 2026-01-15 35 24 < scenarios/plain_exchange.script
+          gi_dispatch audit --initiating day-I.db --matching day-M.db --point BORDER-1
           gi_dispatch serve < scenarios/serve/plain_exchange.script";
 
 const HOURS_HELP: &str = "\
@@ -77,6 +84,30 @@ Faults: those of `simulate`. With a book, the first of: CodeText (CODE is no cod
 Damaged N or Store (the file is not there, is no database, or fails), BadFact N (no desk records
 fact N after those before it), Write.";
 
+const EXPLAIN_HELP: &str = "\
+What one quantity comes from at SIDE, `I` or `M`: that of the initiating operator's portfolio
+INITIATING and the matching one's MATCHING, in DIRECTION (`IM` or `MI`), on the gas day DAY
+(YYYY-MM-DD), in nomination cycle CYCLE (0 to 36) and in hour HOUR (1 to 25). Standard output gets
+twelve lines, always in the same order, with the numbers of the facts: what was asked, the
+nomination, the contract and the notice that count, what is available, the sums of what is
+nominated, the processed quantity by its formula, the closing that froze it, the other side's
+quantity, the lower of both, whether that is confirmed, and whom it was told. Standard input is a
+script as for `report`; with --book and --point the side's desk is read from its book instead.
+
+Faults, the first of: CodeText (INITIATING or MATCHING is no code), DayText or DayRange, as for
+`hours`; then those of `report`.";
+
+const AUDIT_HELP: &str = "\
+Compares the books of both operators, as an outsider would: it trusts neither, and makes each
+side's desk from its facts. Standard output gets a line for each cycle that either has closed:
+agreed, with the sum of its confirmed quantities by direction in kWh; open at one side or both; or
+what differs, with the numbers of the facts. The last line is `agreed` (exit status 0), or `differs
+at DAY CYCLE` for the first cycle that differs (exit status 1). Standard input is not read.
+
+Faults, the first of: CodeText (CODE is no code); for the initiating operator's book and then for
+the matching one's, Version, Gap N, Damaged N, Store or BadFact N, as for `report`; Write; Differs,
+once the lines are written.";
+
 const SERVE_HELP: &str = "\
 Standard input is a script as for `simulate`, without `save`, `deliver` and `restart` lines: two
 running offices save by themselves, and only what the carriers give is delivered. Each longest run
@@ -108,6 +139,13 @@ fn option<'a>(alloc: Global, name: &'a str, value: &'a str, help: &'a str) -> Ar
         .long(name)
         .value_name(value)
         .help(help)
+}
+
+fn needed<'a>(alloc: Global, name: &'a str, value: &'a str, help: &'a str) -> Arg<'a>
+    ensures rule { rule_of result ≡ needed_rule name.entry.now }
+    ensures local { result.global ≡ false }
+{
+    option(alloc, name, value, help).required(true)
 }
 
 fn with_match<'a>(alloc: Global, program: Command<'a>) -> Result<Command<'a>, AllocError>
@@ -156,6 +194,46 @@ fn with_report<'a>(alloc: Global, program: Command<'a>) -> Result<Command<'a>, A
     program.subcommand(command)
 }
 
+fn with_explain<'a>(alloc: Global, program: Command<'a>) -> Result<Command<'a>, AllocError>
+    ensures { IfOk result (λ with. app_of with ≡ with_subcommand (app_of program.entry) the_explain.top) }
+{
+    let command = Command::new(alloc, "explain")
+        .about("Tells what one quantity comes from, after a script or in a book")
+        .after_help(EXPLAIN_HELP)
+        .arg(word(alloc, "SIDE", "I or M"))?
+        .arg(word(alloc, "INITIATING", "The initiating operator's portfolio"))?
+        .arg(word(alloc, "MATCHING", "The matching operator's portfolio"))?
+        .arg(word(alloc, "DIRECTION", "IM or MI"))?
+        .arg(word(alloc, "DAY", "The gas day"))?
+        .arg(word(alloc, "CYCLE", "The nomination cycle, 0 to 36"))?
+        .arg(word(alloc, "HOUR", "The hour of the gas day, 1 to 25"))?
+        .arg(option(
+            alloc,
+            "book",
+            "FILE",
+            "The side's book, in place of a script",
+        ))?
+        .arg(option(alloc, "point", "CODE", "The point that the book is of"))?;
+    program.subcommand(command)
+}
+
+fn with_audit<'a>(alloc: Global, program: Command<'a>) -> Result<Command<'a>, AllocError>
+    ensures { IfOk result (λ with. app_of with ≡ with_subcommand (app_of program.entry) the_audit.top) }
+{
+    let command = Command::new(alloc, "audit")
+        .about("Compares both operators' books")
+        .after_help(AUDIT_HELP)
+        .arg(needed(
+            alloc,
+            "initiating",
+            "FILE",
+            "The initiating operator's book",
+        ))?
+        .arg(needed(alloc, "matching", "FILE", "The matching operator's book"))?
+        .arg(needed(alloc, "point", "CODE", "The point that the books are of"))?;
+    program.subcommand(command)
+}
+
 fn with_serve<'a>(alloc: Global, program: Command<'a>) -> Result<Command<'a>, AllocError>
     ensures { IfOk result (λ with. app_of with ≡ with_subcommand (app_of program.entry) the_serve.top) }
 {
@@ -183,6 +261,8 @@ fn commands<'a>(alloc: Global) -> Result<Command<'a>, AllocError>
     let program = with_hours(alloc, program)?;
     let program = with_simulate(alloc, program)?;
     let program = with_report(alloc, program)?;
+    let program = with_explain(alloc, program)?;
+    let program = with_audit(alloc, program)?;
     with_serve(alloc, program)
 }
 
@@ -207,7 +287,7 @@ fn report_over<'a>(
     file: Option<&'a str>,
     point: Option<&'a str>,
 ) -> Request<'a>
-    ensures { meaning result ≡ report_over_of kind side (option_map (λ s. s.now) file.entry) (option_map (λ s. s.now) point.entry) }
+    ensures { meaning result ≡ over_book (asks_report kind side) (option_map (λ s. s.now) file.entry) (option_map (λ s. s.now) point.entry) }
 {
     let book = match (file, point) {
         (None, None) => None,
@@ -215,6 +295,26 @@ fn report_over<'a>(
         _ => return Request::Mistaken(Mistake::Unpaired),
     };
     Request::Report(Report { kind, side, book })
+}
+
+fn explanation_over<'a>(
+    side: Side,
+    quantity: NamedQuantity<'a>,
+    file: Option<&'a str>,
+    point: Option<&'a str>,
+) -> Request<'a>
+    ensures { meaning result ≡ over_book (asks_explanation side (quantity_words quantity.entry)) (option_map (λ s. s.now) file.entry) (option_map (λ s. s.now) point.entry) }
+{
+    let book = match (file, point) {
+        (None, None) => None,
+        (Some(file), Some(point)) => Some(BookFile { file, point }),
+        _ => return Request::Mistaken(Mistake::Unpaired),
+    };
+    Request::Explain(Explanation {
+        side,
+        quantity,
+        book,
+    })
 }
 
 fn word_of<'a>(matches: &ArgMatches<'a>, name: &str) -> &'a str
@@ -243,6 +343,60 @@ fn report_of<'a>(matches: &ArgMatches<'a>) -> Request<'a>
         value_of(matches, "book"),
         value_of(matches, "point"),
     )
+}
+
+/// The quantity that the words name, or the first word that is no direction, cycle or hour.
+fn quantity_of<'a>(matches: &ArgMatches<'a>) -> Result<NamedQuantity<'a>, Mistake<'a>>
+    ensures { option_map quantity_words (result_ok result) ≡ quantity_asked (rows_of (found_of matches.now)) }
+{
+    let direction_word = word_of(matches, "DIRECTION");
+    let Ok(direction) = direction_word.parse::<Direction>() else {
+        return Err(Mistake::Direction(direction_word));
+    };
+    let cycle_word = word_of(matches, "CYCLE");
+    let Some(cycle) = cycle_named(cycle_word) else {
+        return Err(Mistake::Cycle(cycle_word));
+    };
+    let hour_word = word_of(matches, "HOUR");
+    let Some(hour) = hour_named(hour_word) else {
+        return Err(Mistake::Hour(hour_word));
+    };
+    Ok(NamedQuantity {
+        initiating: word_of(matches, "INITIATING"),
+        matching: word_of(matches, "MATCHING"),
+        direction,
+        day: word_of(matches, "DAY"),
+        cycle,
+        hour,
+    })
+}
+
+fn explanation_of<'a>(matches: &ArgMatches<'a>) -> Request<'a>
+    ensures { meaning result ≡ explain_asked (rows_of (found_of matches.now)) }
+{
+    let side_word = word_of(matches, "SIDE");
+    let Ok(side) = side_word.parse::<Side>() else {
+        return Request::Mistaken(Mistake::Side(side_word));
+    };
+    match quantity_of(matches) {
+        Ok(quantity) => explanation_over(
+            side,
+            quantity,
+            value_of(matches, "book"),
+            value_of(matches, "point"),
+        ),
+        Err(mistake) => Request::Mistaken(mistake),
+    }
+}
+
+fn audit_of<'a>(matches: &ArgMatches<'a>) -> Request<'a>
+    ensures { meaning result ≡ audit_asked (rows_of (found_of matches.now)) }
+{
+    Request::Audit(BookFiles {
+        initiating: word_of(matches, "initiating"),
+        matching: word_of(matches, "matching"),
+        point: word_of(matches, "point"),
+    })
 }
 
 fn sessions_of(word: Option<&str>) -> Option<Sessions>
@@ -274,6 +428,8 @@ fn request_of<'a>(name: &str, entered: &ArgMatches<'a>) -> Request<'a>
         "hours" => hours_of(entered),
         "simulate" => Request::Simulate,
         "report" => report_of(entered),
+        "explain" => explanation_of(entered),
+        "audit" => audit_of(entered),
         _ => Request::Match,
     }
 }

@@ -3,21 +3,51 @@ use Rattle.std.specs.Prelude.{◌≡◌, ◌⊎◌, ℕ, List, Option, None, Som
 use Rattle.std.specs.Option.{IfSome}
 use Rattle.std.specs.Io.KnownBytes.{Keeps}
 use Rattle.gi_pairs.specs.Code.{IsCode}
-use Rattle.gi_command_line.specs.Asked.{Asked, hours, match_tables, mistaken, report, simulate}
+use Rattle.gi_pairs.specs.declared.side.Side.{Side}
+use Rattle.gi_command_line.specs.Asked.{Asked, audit, explain, hours, match_tables, mistaken, report, simulate}
+use Rattle.gi_commands.specs.Auditing.{Audits, IsFirstAuditFault, LeavesAudit}
+use Rattle.gi_commands.specs.Explaining.{Asks, IsQuestionFault, NamesNoCodes}
 use Rattle.gi_commands.specs.Hours.{IsFirstHoursFault, TellsHours}
 use Rattle.gi_commands.specs.Match.{Answers, IsFirstFault}
 use Rattle.gi_commands.specs.Reporting.{IsFirstFileFault, ReportsBook}
 use Rattle.gi_commands.specs.Simulating.{CutsShort, HasReport, HasScript, IsFirstScriptFault, Reports, Simulates}
+use Rattle.gi_explanations.specs.declared.question.Question.{Question}
+use Rattle.gi_commands.specs.declared.desk_report.DeskReport.{DeskReport}
+use Rattle.gi_commands.specs.declared.desk_report.DeskReport.TheVariants.{Explanation, Listed}
 use Rattle.gi_commands.specs.declared.fault.Fault.{Fault}
 use Rattle.gi_commands.specs.declared.fault.Fault.TheVariants as fault
+
+-- ---- what is told of a side's desk: after a script, or in the book of that file and point
+
+abbrev pub TellsDesk : DeskReport → Side → Option (List ℕ × List ℕ) → Option (List ℕ) → Option (List ℕ) → Option (List ℕ) → Type 0
+TellsDesk kind side None remaining old new = IfSome remaining (λ input. Reports kind side input old new)
+TellsDesk kind side (Some book) remaining old new = ReportsBook kind side book.1 old new
+
+abbrev pub IsDeskFault : DeskReport → Side → Option (List ℕ × List ℕ) → Option (List ℕ) → Fault → Type 0
+IsDeskFault kind side None remaining why = IfSome remaining (λ input. IsFirstScriptFault (HasReport kind side) input why)
+IsDeskFault kind side (Some book) remaining why = IsFirstFileFault kind side book.1 why
+
+-- the input is not read where there is a book
+abbrev pub ReadsUnlessBook : Option (List ℕ × List ℕ) → Option (List ℕ) → Option (List ℕ) → Type 0
+ReadsUnlessBook None old new = Unit {0}
+ReadsUnlessBook (Some book) old new = Keeps old new
+
+-- the book's point is no code
+abbrev pub HasNoPoint : Option (List ℕ × List ℕ) → Type 0
+HasNoPoint None = ⊥
+HasNoPoint (Some book) = ¬ (IsCode book.1)
+
+-- ---- the commands
 
 -- what is asked for is what the output gains; of what the reader has left, where it tells that
 abbrev pub Does : Asked → Option (List ℕ) → Option (List ℕ) → Option (List ℕ) → Type 0
 Does match_tables remaining old new = IfSome remaining (λ input. Answers input old new)
 Does (hours day) remaining old new = TellsHours day old new
 Does simulate remaining old new = IfSome remaining (λ input. Simulates input old new)
-Does (report kind side None) remaining old new = IfSome remaining (λ input. Reports kind side input old new)
-Does (report kind side (Some book)) remaining old new = ReportsBook kind side book.1 old new
+Does (report kind side book) remaining old new = TellsDesk (Listed kind) side book remaining old new
+Does (explain side words book) remaining old new =
+    (question : Question) × Asks words question × TellsDesk (Explanation question) side book remaining old new
+Does (audit initiating matching point) remaining old new = Audits point old new
 Does mistaken remaining old new = ⊥
 
 -- the first fault
@@ -25,8 +55,11 @@ abbrev pub IsFaultOf : Asked → Option (List ℕ) → Fault → Type 0
 IsFaultOf match_tables remaining why = IfSome remaining (λ input. IsFirstFault input why)
 IsFaultOf (hours day) remaining why = IsFirstHoursFault day why
 IsFaultOf simulate remaining why = IfSome remaining (λ input. IsFirstScriptFault HasScript input why)
-IsFaultOf (report kind side None) remaining why = IfSome remaining (λ input. IsFirstScriptFault (HasReport kind side) input why)
-IsFaultOf (report kind side (Some book)) remaining why = IsFirstFileFault kind side book.1 why
+IsFaultOf (report kind side book) remaining why = IsDeskFault (Listed kind) side book remaining why
+IsFaultOf (explain side words book) remaining why =
+    (why ≡ fault.OutOfMemory) ⊎ IsQuestionFault words why
+    ⊎ ((question : Question) × Asks words question × IsDeskFault (Explanation question) side book remaining why)
+IsFaultOf (audit initiating matching point) remaining why = IsFirstAuditFault point why
 IsFaultOf mistaken remaining why = (why ≡ fault.CommandLine) ⊎ (why ≡ fault.OutOfMemory)
 
 -- After a fault nothing is written, but where a writer failed.
@@ -45,22 +78,26 @@ Leaves match_tables remaining old new why = LeavesNothing old new why
 Leaves (hours day) remaining old new why = LeavesNothing old new why
 Leaves simulate remaining old new why = LeavesFront remaining old new why
 Leaves (report kind side book) remaining old new why = LeavesNothing old new why
+Leaves (explain side words book) remaining old new why = LeavesNothing old new why
+Leaves (audit initiating matching point) remaining old new why = LeavesAudit point old new why
 Leaves mistaken remaining old new why = LeavesNothing old new why
 
--- `hours`, the report of a book and wrong words read nothing
+-- `hours`, what is told of books, and wrong words read nothing
 abbrev pub MayRead : Asked → Option (List ℕ) → Option (List ℕ) → Type 0
 MayRead match_tables old new = Unit {0}
 MayRead (hours day) old new = Keeps old new
 MayRead simulate old new = Unit {0}
-MayRead (report kind side None) old new = Unit {0}
-MayRead (report kind side (Some book)) old new = Keeps old new
+MayRead (report kind side book) old new = ReadsUnlessBook book old new
+MayRead (explain side words book) old new = ReadsUnlessBook book old new
+MayRead (audit initiating matching point) old new = Keeps old new
 MayRead mistaken old new = Keeps old new
 
--- a report of a book whose point is no code
+-- a report or an audit of books whose point is no code, and a quantity with a portfolio that is none
 abbrev pub HasNoCode : Asked → Type 0
 HasNoCode match_tables = ⊥
 HasNoCode (hours day) = ⊥
 HasNoCode simulate = ⊥
-HasNoCode (report kind side None) = ⊥
-HasNoCode (report kind side (Some book)) = ¬ (IsCode book.1)
+HasNoCode (report kind side book) = HasNoPoint book
+HasNoCode (explain side words book) = NamesNoCodes words
+HasNoCode (audit initiating matching point) = ¬ (IsCode point)
 HasNoCode mistaken = ⊥

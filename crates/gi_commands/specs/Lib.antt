@@ -7,4 +7,6 @@ pub mod Match
 pub mod Laws
 pub mod Reporting
 pub mod Simulating
+pub mod Explaining
+pub mod Auditing
 pub mod Commands

@@ -5,6 +5,7 @@ use Rattle.gi_pairs.specs.Code.{IsCode}
 use Rattle.gi_pairs.specs.declared.side.Side.{Side}
 use Rattle.gi_desk.specs.Machine.{DeskState, bad_fact}
 use Rattle.gi_facts.specs.declared.fact.Fact.{Fact}
+use Rattle.gi_explanations.specs.Explanation.{explanation}
 use Rattle.gi_reports.specs.Confirmed.{IsConfirmedReport}
 use Rattle.gi_reports.specs.Open.{IsOpenReport}
 use Rattle.gi_reports.specs.Refused.{refused_counts, refused_lines}
@@ -13,26 +14,28 @@ use Rattle.gi_store.specs.declared.store_fault.StoreFault.TheVariants as store
 use Rattle.sqlite.specs.State.{State}
 use Rattle.gi_commands.specs.declared.fault.Fault.{Fault}
 use Rattle.gi_commands.specs.declared.fault.Fault.TheVariants as fault
-use Rattle.gi_command_line.specs.declared.request.ReportKind.{ReportKind}
+use Rattle.gi_commands.specs.declared.desk_report.DeskReport.{DeskReport}
+use Rattle.gi_commands.specs.declared.desk_report.DeskReport.TheVariants.{Listed, Explanation}
 use Rattle.gi_command_line.specs.declared.request.ReportKind.TheVariants.{Open, Confirmed, Refused}
 
--- the report of a side's desk, and of its refused submissions
-abbrev pub IsReport : ReportKind → Side → DeskState → List (Option (List ℕ)) → List ℕ → Type 0
-IsReport Open side s submissions text = IsOpenReport side s text
-IsReport Confirmed side s submissions text = IsConfirmedReport side s text
-IsReport Refused side s submissions text = text ≡ refused_lines (refused_counts submissions)
+-- the report of a side's desk: a list, which may be of its refused submissions, or what a quantity comes from
+abbrev pub IsReport : DeskReport → Side → DeskState → List (Option (List ℕ)) → List ℕ → Type 0
+IsReport (Listed Open) side s submissions text = IsOpenReport side s text
+IsReport (Listed Confirmed) side s submissions text = IsConfirmedReport side s text
+IsReport (Listed Refused) side s submissions text = text ≡ refused_lines (refused_counts submissions)
+IsReport (Explanation question) side s submissions text = text ≡ explanation side s question
 
 -- the desk of these facts, all saved
 abbrev pub desk_of : List ℕ → List Fact → DeskState
 desk_of point facts = record { point = point; facts = facts; saved = length facts; halted = false }
 
 -- The report of a book's facts, which make a desk. Refusals are no facts.
-pub record IsBookReport (kind : ReportKind) (side : Side) (point : List ℕ) (facts : List Fact) (text : List ℕ) : Type 0 where
+pub record IsBookReport (kind : DeskReport) (side : Side) (point : List ℕ) (facts : List Fact) (text : List ℕ) : Type 0 where
   pub legal : bad_fact side point facts ≡ None
   pub reported : IsReport kind side (desk_of point facts) [] text
 
 -- the report of some facts, which make a desk of that side and point
-abbrev pub HasBookReport : ReportKind → Side → List ℕ → List ℕ → Type 0
+abbrev pub HasBookReport : DeskReport → Side → List ℕ → List ℕ → Type 0
 HasBookReport kind side point text = (facts : List Fact) × IsBookReport kind side point facts text
 
 -- why facts have no report: they make no desk, or memory ran out
@@ -63,10 +66,10 @@ IsFileFault side point (fault.Code why) = ¬ (IsCode point)
 IsFileFault side point why = IsBookFault side point why
 
 -- a writer fails only where there is a report
-abbrev pub IsFirstFileFault : ReportKind → Side → List ℕ → Fault → Type 0
+abbrev pub IsFirstFileFault : DeskReport → Side → List ℕ → Fault → Type 0
 IsFirstFileFault kind side point fault.Write = (text : List ℕ) × HasBookReport kind side point text
 IsFirstFileFault kind side point why = IsFileFault side point why
 
 -- the report is what the output has gained
-abbrev pub ReportsBook : ReportKind → Side → List ℕ → Option (List ℕ) → Option (List ℕ) → Type 0
+abbrev pub ReportsBook : DeskReport → Side → List ℕ → Option (List ℕ) → Option (List ℕ) → Type 0
 ReportsBook kind side point old new = (text : List ℕ) × HasBookReport kind side point text × Appends old new text

@@ -14,7 +14,7 @@ use Rattle.gi_commands.specs.Input.{most_input}
 use Rattle.gi_commands.specs.Reporting.{IsReport}
 use Rattle.gi_commands.specs.declared.fault.Fault.{Fault}
 use Rattle.gi_commands.specs.declared.fault.Fault.TheVariants as fault
-use Rattle.gi_command_line.specs.declared.request.ReportKind.{ReportKind}
+use Rattle.gi_commands.specs.declared.desk_report.DeskReport.{DeskReport}
 
 -- both offices after a script
 abbrev pub end_of : ScriptContents → SimulationState
@@ -40,7 +40,7 @@ pub record IsCutShort (input text : List ℕ) : Type 0 where
   pub written : text ≡ gathered text_of (new_simulation script.point) made
 
 -- a report of a side, over the script's end
-pub record IsScriptReport (kind : ReportKind) (side : Side) (input text : List ℕ) : Type 0 where
+pub record IsScriptReport (kind : DeskReport) (side : Side) (input text : List ℕ) : Type 0 where
   pub script : ScriptContents
   pub spelled : IsScript input script
   pub reported : IsReport kind side (station_of side (end_of script).world).desk (gathered (refused_by side) (new_simulation script.point) (turns script.lines)) text
@@ -63,14 +63,14 @@ IsFirstScriptFault has_text input why = (length input ≤ most_input) × IsNoScr
 abbrev pub Simulates : List ℕ → Option (List ℕ) → Option (List ℕ) → Type 0
 Simulates input old new = (length input ≤ most_input) × ((text : List ℕ) × IsSimulation input text × Appends old new text)
 
-abbrev pub Reports : ReportKind → Side → List ℕ → Option (List ℕ) → Option (List ℕ) → Type 0
+abbrev pub Reports : DeskReport → Side → List ℕ → Option (List ℕ) → Option (List ℕ) → Type 0
 Reports kind side input old new = (length input ≤ most_input) × ((text : List ℕ) × IsScriptReport kind side input text × Appends old new text)
 
 -- an input that spells a script, and one that has a report
 abbrev pub HasScript : List ℕ → Type 0
 HasScript input = (script : ScriptContents) × IsScript input script
 
-abbrev pub HasReport : ReportKind → Side → List ℕ → Type 0
+abbrev pub HasReport : DeskReport → Side → List ℕ → Type 0
 HasReport kind side input = (text : List ℕ) × IsScriptReport kind side input text
 
 -- where memory ran out, nothing is written, or the lines of the first steps

@@ -5,9 +5,10 @@ ghost use Rattle.gi_pairs.specs.Code.{IsCode};
 ghost use Rattle.gi_commands.specs.Fault.{no_code};
 ghost use Rattle.gi_commands.specs.Reporting.{HasBookReport, IsFileFault};
 
+use crate::desk_report::DeskReport;
 use crate::fault::Fault;
 use crate::reporting::facts_report;
-use gi_command_line::{BookFile, ReportKind};
+use gi_command_line::BookFile;
 use gi_files::facts_of_file;
 use gi_initiator::Initiating;
 use gi_matcher::Matching;
@@ -17,7 +18,7 @@ use gi_pairs::{Code, CodeText, Side};
 /// is; a file that is not there is `Store`, and is not made.
 pub fn file_report(
     rt: &HostRuntime,
-    kind: ReportKind,
+    kind: DeskReport,
     side: Side,
     book: BookFile<'_>,
 ) -> Result<String, Fault>

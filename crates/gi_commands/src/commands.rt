@@ -1,22 +1,27 @@
 ghost use Rattle.std.specs.Prelude.{◌≡◌, IfErr, IfSome, OnOk, Err};
 ghost use Rattle.std.specs.Io.KnownBytes.{Appends};
 ghost use Rattle.gi_pairs.specs.Code.{IsCode};
-ghost use Rattle.gi_command_line.specs.Asked.{book_of, meaning, report as asks_report};
-ghost use Rattle.gi_commands.specs.Commands.{Does, HasNoCode, IsFaultOf, Leaves, LeavesFront, LeavesNothing, MayRead};
+ghost use Rattle.gi_command_line.specs.Asked.{book_of, explain as asks_explanation, meaning, quantity_words};
+ghost use Rattle.gi_commands.specs.Auditing.{Audits, IsFirstAuditFault, LeavesAudit};
+ghost use Rattle.gi_commands.specs.Commands.{Does, HasNoCode, HasNoPoint, IsDeskFault, IsFaultOf, Leaves, LeavesFront, LeavesNothing, MayRead, ReadsUnlessBook, TellsDesk};
+ghost use Rattle.gi_commands.specs.Explaining.{NamesNoCodes};
 ghost use Rattle.gi_commands.specs.Fault.{no_code};
 ghost use Rattle.gi_commands.specs.Hours.{IsFirstHoursFault, TellsHours};
 ghost use Rattle.gi_commands.specs.Match.{Answers, IsFirstFault};
 ghost use Rattle.gi_commands.specs.Reporting.{IsFirstFileFault, ReportsBook};
 ghost use Rattle.gi_commands.specs.Simulating.{HasReport, HasScript, IsFirstScriptFault, Reports, Simulates};
 
+use crate::auditing::file_audit;
 use crate::books::file_report;
+use crate::desk_report::DeskReport;
+use crate::explaining::question;
 use crate::fault::Fault;
 use crate::hours::hours_text;
 use crate::input::{Calls, read_input};
 use crate::matching::answer;
 use crate::reporting::script_report;
 use crate::simulating::simulated;
-use gi_command_line::{BookFile, Report, ReportKind, Request};
+use gi_command_line::{BookFile, BookFiles, Explanation, Request};
 use gi_pairs::Side;
 use std::alloc::Global;
 use std::io::{Read, Write};
@@ -81,7 +86,7 @@ fn simulate_script<R: Read, W: Write>(
 
 fn report_script<R: Read, W: Write>(
     alloc: Global,
-    kind: ReportKind,
+    kind: DeskReport,
     side: Side,
     input: &mut R,
     output: &mut W,
@@ -99,7 +104,7 @@ fn report_script<R: Read, W: Write>(
 
 fn report_book<W: Write>(
     rt: &HostRuntime,
-    kind: ReportKind,
+    kind: DeskReport,
     side: Side,
     book: BookFile<'_>,
     output: &mut W,
@@ -113,22 +118,66 @@ fn report_book<W: Write>(
     write_text(text.as_bytes(), output)
 }
 
-fn report<R: Read, W: Write>(
+/// Tells of a side's desk: of its book, or else after a script.
+fn tell_desk<R: Read, W: Write>(
     rt: &HostRuntime,
-    wanted: Report<'_>,
+    kind: DeskReport,
+    side: Side,
+    book: Option<BookFile<'_>>,
     input: &mut R,
     output: &mut W,
 ) -> Result<(), Fault>
-    ensures done { OnOk result (Does (asks_report wanted.entry.kind wanted.entry.side (book_of wanted.entry.book))
-        (R.remaining input.old) (W.contents output.old) (W.contents output.new)) }
-    ensures first { IfErr result (IsFaultOf (asks_report wanted.entry.kind wanted.entry.side (book_of wanted.entry.book)) (R.remaining input.old)) }
+    ensures done { OnOk result (TellsDesk kind side (book_of book.entry) (R.remaining input.old) (W.contents output.old) (W.contents output.new)) }
+    ensures first { IfErr result (IsDeskFault kind side (book_of book.entry) (R.remaining input.old)) }
     ensures leaves { IfErr result (LeavesNothing (W.contents output.old) (W.contents output.new)) }
-    ensures unread { MayRead (asks_report wanted.entry.kind wanted.entry.side (book_of wanted.entry.book)) (R.remaining input.old) (R.remaining input.new) }
-    ensures code { HasNoCode (asks_report wanted.entry.kind wanted.entry.side (book_of wanted.entry.book)) → result ≡ Err no_code }
+    ensures unread { ReadsUnlessBook (book_of book.entry) (R.remaining input.old) (R.remaining input.new) }
+    ensures code { HasNoPoint (book_of book.entry) → result ≡ Err no_code }
 {
-    match wanted.book {
-        Some(book) => report_book(rt, wanted.kind, wanted.side, book, output),
-        None => report_script(rt.alloc(), wanted.kind, wanted.side, input, output),
+    match book {
+        Some(book) => report_book(rt, kind, side, book, output),
+        None => report_script(rt.alloc(), kind, side, input, output),
+    }
+}
+
+fn explain<R: Read, W: Write>(
+    rt: &HostRuntime,
+    wanted: Explanation<'_>,
+    input: &mut R,
+    output: &mut W,
+) -> Result<(), Fault>
+    ensures done { OnOk result (Does (asks_explanation wanted.entry.side (quantity_words wanted.entry.quantity) (book_of wanted.entry.book))
+        (R.remaining input.old) (W.contents output.old) (W.contents output.new)) }
+    ensures first { IfErr result (IsFaultOf (asks_explanation wanted.entry.side (quantity_words wanted.entry.quantity) (book_of wanted.entry.book)) (R.remaining input.old)) }
+    ensures leaves { IfErr result (LeavesNothing (W.contents output.old) (W.contents output.new)) }
+    ensures unread { ReadsUnlessBook (book_of wanted.entry.book) (R.remaining input.old) (R.remaining input.new) }
+    ensures code { NamesNoCodes (quantity_words wanted.entry.quantity) → result ≡ Err no_code }
+{
+    let question = question(wanted.quantity)?;
+    tell_desk(
+        rt,
+        DeskReport::Explanation(question),
+        wanted.side,
+        wanted.book,
+        input,
+        output,
+    )
+}
+
+fn audit_books<W: Write>(
+    rt: &HostRuntime,
+    books: BookFiles<'_>,
+    output: &mut W,
+) -> Result<(), Fault>
+    ensures done { OnOk result (Audits books.entry.point.now (W.contents output.old) (W.contents output.new)) }
+    ensures first { IfErr result (IsFirstAuditFault books.entry.point.now) }
+    ensures leaves { IfErr result (LeavesAudit books.entry.point.now (W.contents output.old) (W.contents output.new)) }
+    ensures code { ¬ (IsCode books.entry.point.now) → result ≡ Err no_code }
+{
+    let audit = file_audit(rt, books)?;
+    write_text(audit.text.as_bytes(), output)?;
+    match audit.first {
+        None => Ok(()),
+        Some(_) => Err(Fault::Differs),
     }
 }
 
@@ -153,7 +202,12 @@ pub fn perform<R: Read, W: Write>(
         Request::Match => match_tables(threads, alloc, input, output),
         Request::Hours(day) => tell_hours(alloc, day, output),
         Request::Simulate => simulate_script(alloc, input, output),
-        Request::Report(wanted) => report(rt, wanted, input, output),
+        Request::Report(wanted) => {
+            let kind = DeskReport::Listed(wanted.kind);
+            tell_desk(rt, kind, wanted.side, wanted.book, input, output)
+        }
+        Request::Audit(books) => audit_books(rt, books, output),
+        Request::Explain(wanted) => explain(rt, wanted, input, output),
         Request::Mistaken(_) => Err(Fault::CommandLine),
     }
 }

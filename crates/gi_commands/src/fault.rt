@@ -77,6 +77,9 @@ pub enum Fault {
     /// No desk records the book's fact of this number after those before it.
     #[error("BadFact {0}")]
     BadFact(u32),
+    /// Two books differ. What differs is written.
+    #[error("Differs")]
+    Differs,
     /// A writer failed. It comes after all other faults, but want of memory in a script's step.
     #[error("Write")]
     Write,

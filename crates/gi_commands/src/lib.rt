@@ -2,8 +2,11 @@
 //! and its faults in their order.
 #![tactic(auto)]
 
+mod auditing;
 mod books;
 mod commands;
+mod desk_report;
+mod explaining;
 mod fault;
 mod hours;
 mod input;
@@ -14,6 +17,7 @@ mod reporting;
 mod simulating;
 
 pub use commands::perform;
+pub use desk_report::DeskReport;
 pub use fault::{Fault, Line};
 pub use hours::hours_text;
 pub use input::{Calls, read_input};

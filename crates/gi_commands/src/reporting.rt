@@ -9,10 +9,12 @@ ghost use Rattle.gi_commands.specs.Reporting.{HasBookReport, IsBookFault, IsBook
 ghost use Rattle.gi_commands.specs.Simulating.{IsNoScript, IsScriptReport};
 ghost use Rattle.gi_world.specs.World.{station_of};
 
+use crate::desk_report::DeskReport;
 use crate::fault::Fault;
 use gi_command_line::ReportKind;
 use gi_day::Calendar;
 use gi_desk::{Desk, Fact, Role};
+use gi_explanations::explanation;
 use gi_initiator::Initiating;
 use gi_matcher::Matching;
 use gi_pairs::{Code, Side};
@@ -26,22 +28,23 @@ use std::alloc::{AllocError, Global};
 
 fn desk_report<R: Role>(
     alloc: Global,
-    kind: ReportKind,
+    kind: DeskReport,
     desk: &Desk<R>,
     submissions: &[Option<Code>],
 ) -> Result<String, AllocError>
     ensures { IfOk result (λ text. IsReport kind R.SIDE desk.now submissions.now (string_bytes text)) }
 {
     match kind {
-        ReportKind::Open => open_report(alloc, desk),
-        ReportKind::Confirmed => confirmed_report(alloc, desk),
-        ReportKind::Refused => refused_report(alloc, submissions),
+        DeskReport::Listed(ReportKind::Open) => open_report(alloc, desk),
+        DeskReport::Listed(ReportKind::Confirmed) => confirmed_report(alloc, desk),
+        DeskReport::Listed(ReportKind::Refused) => refused_report(alloc, submissions),
+        DeskReport::Explanation(question) => explanation(alloc, desk, &question),
     }
 }
 
 fn side_report(
     alloc: Global,
-    kind: ReportKind,
+    kind: DeskReport,
     side: Side,
     world: &World,
     submissions: &[Option<Code>],
@@ -58,7 +61,7 @@ fn side_report(
 /// the script's, or `OutOfMemory`.
 pub fn script_report(
     alloc: Global,
-    kind: ReportKind,
+    kind: DeskReport,
     side: Side,
     input: &[u8],
 ) -> Result<String, Fault>
@@ -75,7 +78,7 @@ pub fn script_report(
 
 pub(crate) fn facts_report<R: Role>(
     alloc: Global,
-    kind: ReportKind,
+    kind: DeskReport,
     point: Code,
     facts: Vec<Fact>,
 ) -> Result<String, Fault>
@@ -88,7 +91,7 @@ pub(crate) fn facts_report<R: Role>(
 
 fn replayed_report<R: Role, S: Alter>(
     alloc: Global,
-    kind: ReportKind,
+    kind: DeskReport,
     point: Code,
     book: &mut BookStore<S>,
 ) -> Result<String, Fault>
@@ -107,7 +110,7 @@ fn replayed_report<R: Role, S: Alter>(
 /// first fact that no desk of this side and point records after those before it, and `OutOfMemory`.
 pub fn book_report<S: Alter>(
     alloc: Global,
-    kind: ReportKind,
+    kind: DeskReport,
     side: Side,
     point: Code,
     book: &mut BookStore<S>,

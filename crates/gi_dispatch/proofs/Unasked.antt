@@ -5,10 +5,11 @@ use Rattle.std.specs.Io.KnownBytes.{Keeps}
 use Rattle.clap.specs.Words.{HasKind, IsAmong, Kinds, kind_of}
 use Rattle.clap.specs.declared.error.Error.{Error}
 use Rattle.clap.specs.declared.error.kind.ErrorKind.TheVariants as kind
-use Rattle.gi_command_line.specs.Asked.{Wanted, at_once, hours, match_tables, mistaken, report, serve, simulate}
+use Rattle.gi_command_line.specs.Asked.{Wanted, at_once, audit, explain, hours, match_tables, mistaken, report, serve, simulate}
 use Rattle.gi_command_line.specs.CommandLine.{IsMistaken, objections}
 use Rattle.gi_commands.specs.Match.{IsFirstFault}
 use Rattle.gi_commands.specs.Simulating.{CutsShort, HasReport, HasScript, IsFirstScriptFault}
+use Rattle.gi_commands.specs.declared.desk_report.DeskReport.TheVariants.{Listed}
 use Rattle.gi_commands.specs.declared.fault.Fault.TheVariants as fault
 use Rattle.gi_service.specs.Serving.{IsFirstServeFault}
 use Rattle.gi_service.specs.Tasks.{IsTaskFault, LeavesTask}
@@ -30,8 +31,10 @@ may_want (at_once match_tables) remaining = if_some remaining (λ input. IsFirst
 may_want (at_once (hours day)) remaining = tt
 may_want (at_once simulate) remaining = if_some remaining (λ input. IsFirstScriptFault HasScript input fault.OutOfMemory) (λ input. tt)
 may_want (at_once (report kind side None)) remaining =
-    if_some remaining (λ input. IsFirstScriptFault (HasReport kind side) input fault.OutOfMemory) (λ input. tt)
+    if_some remaining (λ input. IsFirstScriptFault (HasReport (Listed kind) side) input fault.OutOfMemory) (λ input. tt)
 may_want (at_once (report kind side (Some book))) remaining = tt
+may_want (at_once (explain side words book)) remaining = inl refl
+may_want (at_once (audit initiating matching point)) remaining = inl tt
 may_want (at_once mistaken) remaining = inr refl
 may_want (serve sessions books) remaining = if_some remaining (λ input. IsFirstServeFault sessions input (Command fault.OutOfMemory)) (λ input. inl tt)
 
@@ -41,6 +44,8 @@ may_keep (at_once match_tables) remaining old new kept = kept
 may_keep (at_once (hours day)) remaining old new kept = kept
 may_keep (at_once simulate) remaining old new kept = if_some remaining (λ input. CutsShort input old new) (λ input. inl kept)
 may_keep (at_once (report kind side book)) remaining old new kept = kept
+may_keep (at_once (explain side words book)) remaining old new kept = kept
+may_keep (at_once (audit initiating matching point)) remaining old new kept = kept
 may_keep (at_once mistaken) remaining old new kept = kept
 may_keep (serve sessions books) remaining old new kept = kept
 

@@ -1,7 +1,8 @@
-use Rattle.std.proofs.Common.{◌≡◌, ◌∙◌, ap, sym, refl, map, List, ℕ, true}
-use Rattle.clap.specs.Words.{App, app_of, fault_of, is_simple as is_simple_app, is_simple_and_free, subcommand_of}
+use Rattle.std.proofs.Common.{◌≡◌, ◌∙◌, Err, ap, rules, sym, refl, subst, map, List, ℕ, true}
+use Rattle.clap.specs.Words.{App, HasKind, app_of, fault_of, is_simple as is_simple_app, is_simple_and_free, subcommand_of}
+use Rattle.clap.specs.declared.error.Error.{Error}
 use Rattle.clap.proofs.OnLiterals.{clap_on_literals}
-use Rattle.gi_command_line.specs.CommandLine.{asked_of, the_program}
+use Rattle.gi_command_line.specs.CommandLine.{asked_of, objections, the_program}
 use Rattle.gi_command_line.proofs.words.requested.Goals as goal
 
 is_simple : is_simple_and_free the_program ≡ true
@@ -11,6 +12,17 @@ is_simple = refl
 is_plain : is_simple_app the_program ≡ true
 unfolding clap_on_literals
 is_plain = refl
+
+-- what is objected to is told of the program's own commands
+told : (a : App) → a ≡ the_program → (words : List (List ℕ)) (said : Error) → (is_simple_and_free a ≡ true → HasKind (fault_of a words) said)
+    → HasKind (objections words) said
+told a same words said kinds = subst (λ (b : App). HasKind (fault_of b words) said) same (kinds (ap is_simple_and_free same ∙ is_simple))
+
+pub returns-in_err-matches-clause-refused : goal.returns-in_err-matches-clause-refused
+returns-in_err-matches-clause-refused g c =
+    let kinds = told _ c.in_ok-program.ensures (map g.S.AsStr.text c.args.words.now) c.in_err-matches.field-0.0 c.in_err-matches.ensures.kinds in
+    let fails : c.from_residual-in_err-matches.result ≡ Err c.in_err-matches.field-0.0 = search rules in
+    rw fails kinds
 
 pub returns-clause-refused : goal.returns-clause-refused
 returns-clause-refused g c =

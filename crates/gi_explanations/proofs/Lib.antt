@@ -1,0 +1,6 @@
+mod ConfirmedLemmas
+mod FoundLemmas
+mod FrozenLemmas
+mod NumberLemmas
+mod ReductionLemmas
+mod SumLemmas

@@ -1,0 +1,18 @@
+use Rattle.std.proofs.Common.{◌≡◌, ◌++◌, ◌∙◌, ap, string_bytes}
+use Rattle.std.proofs.lemmas.Result.{IfOk-weaker}
+use Rattle.gi_explanations.specs.Basis.{basis_lines}
+use Rattle.gi_explanations.specs.Explanation.{explanation}
+use Rattle.gi_explanations.specs.Outcome.{outcome_lines}
+use Rattle.gi_explanations.proofs.explaining.explanation.Goals as goal
+
+pub returns : goal.returns
+unfolding explanation
+returns g c =
+    let side = g.R.Role.SIDE in
+    let s = c.args.desk.now in
+    let q = c.args.question.now in
+    let basis_is = c.in_ok-basis.ensures ∙ ap (basis_lines side s.facts q) c.of-numbers.ensures in
+    let outcome_is = c.in_ok-outcome.ensures ∙ ap (outcome_lines side s q) c.of-numbers.ensures in
+    IfOk-weaker c.format.result _ _ (λ text e.
+    let is : string_bytes text ≡ string_bytes c.in_ok-asked.asked ++ (string_bytes c.in_ok-basis.basis ++ (string_bytes c.in_ok-reduction.reduction ++ string_bytes c.in_ok-outcome.outcome)) = e in
+    is ∙ (λ t. c.in_ok-asked.ensures t ++ (basis_is t ++ (c.in_ok-reduction.ensures t ++ outcome_is t)))) c.format.ensures.ok

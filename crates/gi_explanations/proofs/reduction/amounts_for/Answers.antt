@@ -1,0 +1,19 @@
+use Rattle.std.proofs.Common.{ap, ◌∙◌}
+use Rattle.gi_processing.specs.Processing.{lines_of}
+use Rattle.gi_explanations.proofs.ReductionLemmas.{amounts-are, amounts-none, available-is}
+use Rattle.gi_explanations.proofs.reduction.amounts_for.Goals as goal
+
+pub returns-in-Some-clause-value : goal.returns-in-Some-clause-value
+returns-in-Some-clause-value g c =
+    amounts-are g.R.Role.SIDE c.args.desk.now.facts c.args.question.now c.amounts_of.result c.available-available.result c.as_slice.result.now
+    c.amounts_of.ensures.value
+    (available-is g.R.Role.SIDE c.args.desk.now.facts c.args.question.now c.contract.result c.notice.result c.available-available.result
+    c.available-available.ensures c.contract.ensures c.notice.ensures)
+    (c.as_slice.ensures ∙ ap lines_of c.in-Some.ensures.value)
+
+pub returns-in-None-clause-value : goal.returns-in-None-clause-value
+returns-in-None-clause-value g c =
+    amounts-none g.R.Role.SIDE c.args.desk.now.facts c.args.question.now c.available-available.result
+    (available-is g.R.Role.SIDE c.args.desk.now.facts c.args.question.now c.contract.result c.notice.result c.available-available.result
+    c.available-available.ensures c.contract.ensures c.notice.ensures)
+    c.in-None.ensures.value

@@ -1,0 +1,11 @@
+use gi_pairs::{CycleId, Direction, Pair};
+
+/// Which quantity is asked about.
+#[derive(Clone, Copy, Debug)]
+pub struct Question {
+    pub pair: Pair,
+    pub direction: Direction,
+    pub id: CycleId,
+    /// From 1.
+    pub hour: u8,
+}

@@ -1,0 +1,238 @@
+//! How the processed quantity is made.
+
+ghost use Rattle.std.specs.Prelude.{◌≡◌, ◌*◌, ◌/◌, ◌-◌, ◌<◌, ◌≤◌, ◌^◌, IfOk, length, string_bytes};
+ghost use Rattle.std.specs.Option.{option_copied};
+ghost use Rattle.gi_nominations.specs.Lines.{most_lines};
+ghost use Rattle.gi_processing.specs.Capacity.{left_of, part as part_of};
+ghost use Rattle.gi_processing.specs.HoursLeft.{left_under};
+ghost use Rattle.gi_processing.specs.Reduction.{in_direction};
+ghost use Rattle.gi_explanations.specs.Numbers.{counterparty, numbers as numbers_of};
+ghost use Rattle.gi_explanations.specs.Reduction.{amounts as amounts_in, amounts_of as amounts_at, available_line as available_line_of, formula as formula_of, is_covered as is_covered_of, processed_line as processed_line_of, processed_quantity as processed_quantity_of, reason as reason_of, reduced as reduced_of, reduction_lines as reduction_lines_of, sums_line as sums_line_of};
+
+use crate::basis::{contract, line, nomination, notice};
+use crate::covering::is_covered;
+use crate::lines::{Span, quantity, sum};
+use crate::numbers::Numbers;
+use crate::question::Question;
+use gi_desk::{Desk, Role};
+use gi_messages::Line;
+use gi_pairs::{Quantity, Side};
+use gi_processing::{Contract, MOST_PERMILLE, Notice};
+use std::alloc::{AllocError, Global};
+
+/// What is available, and the sums of what is nominated, in kWh/h.
+#[derive(Clone, Copy, Debug)]
+pub(crate) struct Amounts {
+    pub available: u64,
+    /// Of the counterparties before the one that is asked about.
+    pub before: u64,
+    /// Of those and of that one.
+    pub up_to: u64,
+    pub all: u64,
+}
+
+fn firm_left(notice: &Option<Notice>) -> u16
+    ensures { result ≡ (left_under notice.now).firm }
+{
+    match notice {
+        None => MOST_PERMILLE,
+        Some(notice) => notice.firm,
+    }
+}
+
+fn interruptible_left(notice: &Option<Notice>) -> u16
+    ensures { result ≡ (left_under notice.now).interruptible }
+{
+    match notice {
+        None => MOST_PERMILLE,
+        Some(notice) => notice.interruptible,
+    }
+}
+
+fn part(quantity: Quantity, permille: u16) -> u64
+    ensures value { result ≡ part_of quantity permille }
+    ensures bound { result < 2 ^ 60 }
+{
+    quantity.value() * u64::from(permille) / u64::from(MOST_PERMILLE)
+}
+
+fn available(contract: Option<Contract>, notice: Option<Notice>) -> u64
+    ensures { result ≡ left_of contract notice }
+{
+    let Some(contract) = contract else {
+        return 0;
+    };
+    part(contract.firm, firm_left(&notice))
+        + part(contract.interruptible, interruptible_left(&notice))
+}
+
+fn amounts_of(side: Side, question: &Question, lines: &[Line], available: u64) -> Amounts
+    requires hour { 1 ≤ question.now.hour }
+    requires few { length lines.now ≤ most_lines }
+    ensures value { result ≡ amounts_at available (counterparty side question.now) (question.now.hour - 1) (in_direction question.now.direction lines.now) }
+    ensures before { result.before ≤ result.all }
+    ensures up_to { result.up_to ≤ result.all }
+{
+    let code = question.pair.at(side.other());
+    let (direction, hour) = (question.direction, question.hour);
+    let before = sum(lines, Span::Before, code, direction, hour);
+    let up_to = sum(lines, Span::UpTo, code, direction, hour);
+    let all = sum(lines, Span::All, code, direction, hour);
+    Amounts {
+        available,
+        before,
+        up_to,
+        all,
+    }
+}
+
+/// What is available, and the sums of the nomination in force.
+fn amounts_for<R: Role>(desk: &Desk<R>, question: &Question, numbers: &Numbers) -> Amounts
+    requires hour { 1 ≤ question.now.hour }
+    requires numbers { numbers.now ≡ numbers_of R.SIDE desk.now.facts question.now }
+    ensures value { result ≡ amounts_in R.SIDE desk.now.facts question.now }
+    ensures before { result.before ≤ result.all }
+    ensures up_to { result.up_to ≤ result.all }
+{
+    let available = available(
+        contract(desk, question, numbers),
+        notice(desk, question, numbers),
+    );
+    match nomination(desk, question, numbers) {
+        Some(document) => amounts_of(R::SIDE, question, document.lines.as_slice(), available),
+        None => Amounts {
+            available,
+            before: 0,
+            up_to: 0,
+            all: 0,
+        },
+    }
+}
+
+fn scaled(available: u64, sum: u64, all: u64) -> u64
+    requires some { 0 < all }
+    requires within { sum ≤ all }
+    ensures { result ≡ available * sum / all }
+{
+    (u128::from(available) * u128::from(sum) / u128::from(all)) as u64
+}
+
+/// A quantity's part of what is available.
+fn reduced(amounts: Amounts, nominated: u64) -> u64
+    requires before { amounts.before ≤ amounts.all }
+    requires up_to { amounts.up_to ≤ amounts.all }
+    ensures { result ≡ reduced_of amounts nominated }
+{
+    if amounts.all <= amounts.available {
+        return nominated;
+    }
+    let up_to = scaled(amounts.available, amounts.up_to, amounts.all);
+    up_to.saturating_sub(scaled(amounts.available, amounts.before, amounts.all))
+}
+
+/// The processed quantity, in kWh/h.
+pub(crate) fn processed<R: Role>(desk: &Desk<R>, question: &Question, numbers: &Numbers) -> u64
+    requires hour { 1 ≤ question.now.hour }
+    requires numbers { numbers.now ≡ numbers_of R.SIDE desk.now.facts question.now }
+    ensures { result ≡ processed_quantity_of R.SIDE desk.now.facts question.now }
+{
+    if !is_covered(desk.calendar(), question) {
+        return 0;
+    }
+    match line(R::SIDE, question, nomination(desk, question, numbers)) {
+        Some(line) => {
+            let nominated = quantity(line, question.hour);
+            reduced(amounts_for(desk, question, numbers), nominated)
+        }
+        None => 0,
+    }
+}
+
+fn available_line(
+    alloc: Global,
+    contract: Option<Contract>,
+    notice: Option<Notice>,
+    available: u64,
+) -> Result<String, AllocError>
+    ensures { IfOk result (λ text. string_bytes text ≡ available_line_of contract notice available) }
+{
+    let Some(contract) = contract else {
+        return format!(in alloc; "available no contract = 0\n");
+    };
+    let (firm, interruptible) = (contract.firm.value(), contract.interruptible.value());
+    let (of_firm, of_interruptible) = (firm_left(&notice), interruptible_left(&notice));
+    format!(in alloc;
+        "available {firm} * {of_firm} / 1000 + {interruptible} * {of_interruptible} / 1000 = {available}\n"
+    )
+}
+
+fn sums_line(alloc: Global, amounts: Amounts) -> Result<String, AllocError>
+    ensures { IfOk result (λ text. string_bytes text ≡ sums_line_of amounts) }
+{
+    let (before, up_to, all) = (amounts.before, amounts.up_to, amounts.all);
+    format!(in alloc; "sums before {before} up to {up_to} all {all}\n")
+}
+
+fn formula(alloc: Global, amounts: Amounts) -> Result<String, AllocError>
+    ensures { IfOk result (λ text. string_bytes text ≡ formula_of amounts) }
+{
+    let (available, all) = (amounts.available, amounts.all);
+    if all <= available {
+        return format!(in alloc; "all {all} within {available}");
+    }
+    let (before, up_to) = (amounts.before, amounts.up_to);
+    format!(in alloc; "{available} * {up_to} / {all} - {available} * {before} / {all}")
+}
+
+fn reason(
+    alloc: Global,
+    covered: bool,
+    line: Option<&Line>,
+    amounts: Amounts,
+) -> Result<String, AllocError>
+    ensures { IfOk result (λ text. string_bytes text ≡ reason_of covered (option_copied line.entry) amounts) }
+{
+    if !covered {
+        return format!(in alloc; "hour not covered");
+    }
+    match line {
+        None => format!(in alloc; "no line"),
+        Some(_) => formula(alloc, amounts),
+    }
+}
+
+fn processed_line(
+    alloc: Global,
+    covered: bool,
+    line: Option<&Line>,
+    amounts: Amounts,
+    quantity: u64,
+) -> Result<String, AllocError>
+    ensures { IfOk result (λ text. string_bytes text ≡ processed_line_of covered (option_copied line.entry) amounts quantity) }
+{
+    let reason = reason(alloc, covered, line, amounts)?;
+    format!(in alloc; "processed {reason} = {quantity}\n")
+}
+
+/// How the processed quantity is made.
+pub(crate) fn reduction_lines<R: Role>(
+    alloc: Global,
+    desk: &Desk<R>,
+    question: &Question,
+    numbers: &Numbers,
+) -> Result<String, AllocError>
+    requires hour { 1 ≤ question.now.hour }
+    requires numbers { numbers.now ≡ numbers_of R.SIDE desk.now.facts question.now }
+    ensures { IfOk result (λ text. string_bytes text ≡ reduction_lines_of R.SIDE desk.now.facts question.now) }
+{
+    let amounts = amounts_for(desk, question, numbers);
+    let covered = is_covered(desk.calendar(), question);
+    let line = line(R::SIDE, question, nomination(desk, question, numbers));
+    let quantity = processed(desk, question, numbers);
+    let contract = contract(desk, question, numbers);
+    let notice = notice(desk, question, numbers);
+    let available = available_line(alloc, contract, notice, amounts.available)?;
+    let sums = sums_line(alloc, amounts)?;
+    let processed = processed_line(alloc, covered, line, amounts, quantity)?;
+    format!(in alloc; "{available}{sums}{processed}")
+}
