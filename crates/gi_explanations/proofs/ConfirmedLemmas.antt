@@ -1,5 +1,5 @@
 -- What is confirmed, from the frozen table and the peer's.
-use Rattle.std.proofs.Common.{◌≡◌, ℕ, List, [], ◌∷◌, ◌++◌, length, min, take, drop, Bool, true, false, cond, nat_lt, Option, Some, None, refl, sym, ap, ◌∙◌, subst, append_assoc}
+use Rattle.std.proofs.Common.{◌≡◌, ℕ, List, [], ◌∷◌, ◌++◌, length, min, take, drop, Bool, true, false, nat_lt, Option, Some, None, refl, sym, ap, ◌∙◌, subst, append_assoc}
 use Rattle.std.specs.Prelude.{option_map}
 use Rattle.std.proofs.lemmas.Bool.{and_parts}
 use Rattle.std.proofs.lemmas.List.{take-append-drop}
@@ -10,13 +10,12 @@ use Rattle.gi_pairs.specs.declared.side.Side.{Side}
 use Rattle.gi_lesser.specs.Lesser.{lesser_of}
 use Rattle.gi_lesser.proofs.LesserLaws.{AreMatched, reading-lesser_of}
 use Rattle.gi_cycles.specs.States.{matched_of}
-use Rattle.gi_cycles.specs.declared.cycle_state.CycleState.{CycleState}
 use Rattle.gi_cycles.specs.declared.cycle_state.CycleState.TheVariants.{Matched}
 use Rattle.gi_facts.proofs.SameLemmas.{same_cycle-is}
 use Rattle.gi_facts.specs.Same.{same_cycle}
 use Rattle.gi_facts.specs.declared.fact.Fact.{Fact}
 use Rattle.gi_facts.specs.declared.fact.Fact.TheVariants.{Contracted, Noticed, Nominated, Closed, Met}
-use Rattle.gi_desk.specs.History.{frozen_cycle, frozen_table, is_closed, is_meeting, met_by, peer_in, peer_of, state_of}
+use Rattle.gi_desk.specs.History.{frozen_cycle, frozen_table, is_meeting, met_by, peer_in, peer_of, state_of}
 use Rattle.gi_desk.specs.Machine.{DeskState, bad_fact, bad_from, most_facts, would_record}
 use Rattle.gi_desk.specs.Queries.{confirmed}
 use Rattle.gi_desk.specs.Writable.{FitsDesk, FitsMatched, FitsState}

@@ -1,7 +1,6 @@
 -- What a frozen table reads, from the nomination in force.
-use Rattle.std.proofs.Common.{arith, ◌≡◌, ◌<◌, ◌≤◌, ◌+◌, ◌-◌, ℕ, List, [], ◌∷◌, ◌++◌, length, map, find, fold, slice_index, Bool, true, false, cond, ◌&&◌, ◌||◌, nat_eq, nat_le, nat_lt, Option, Some, None, ◌⊎◌, inl, inr, refl, sym, ap, ◌∙◌, subst, append_assoc}
-use Rattle.std.specs.List.{flat_map, list_any, range_with_len}
-use Rattle.std.specs.List.Sorted.{IsStrictlySortedBy}
+use Rattle.std.proofs.Common.{arith, ◌≡◌, ◌<◌, ◌≤◌, ◌-◌, ℕ, List, [], ◌∷◌, ◌++◌, length, map, find, fold, slice_index, Bool, true, false, cond, ◌&&◌, ◌||◌, nat_eq, nat_le, nat_lt, Option, Some, None, inl, inr, refl, sym, ap, ◌∙◌, subst}
+use Rattle.std.specs.List.{flat_map, list_any}
 use Rattle.std.specs.Str.{bytes_eq}
 use Rattle.std.proofs.lemmas.Bool.{and_from, and_parts, lt-ltb}
 use Rattle.std.proofs.lemmas.Bool.Decides.{nat_tests}
@@ -12,11 +11,10 @@ use Rattle.jiff_core.specs.declared.civil.date.Date.{Date}
 use Rattle.gi_day.specs.Cycles.{cycle_count, first_hour, hour_count}
 use Rattle.gi_day.specs.SameDay.{same_day}
 use Rattle.gi_pairs.specs.Direction.{place_of}
-use Rattle.gi_pairs.specs.Key.{key_cmp}
 use Rattle.gi_pairs.specs.Pair.{code_at, pair_of}
 use Rattle.gi_pairs.specs.Row.{key_of}
 use Rattle.gi_pairs.specs.Side.{other}
-use Rattle.gi_pairs.specs.Table.{IsTable, TableContents, covered, in_order, is_at, keys_of, reading}
+use Rattle.gi_pairs.specs.Table.{IsTable, TableContents, covered, is_at}
 use Rattle.gi_pairs.specs.declared.cycle_id.CycleId.{CycleId}
 use Rattle.gi_pairs.specs.declared.direction.Direction.{Direction}
 use Rattle.gi_pairs.specs.declared.direction.Direction.TheVariants.{IM, MI}
@@ -36,12 +34,11 @@ use Rattle.gi_processing.specs.Processing.{AreSound, lines_in_force, lines_of, p
 use Rattle.gi_processing.specs.Recording.{portfolios_of, with_portfolio}
 use Rattle.gi_processing.specs.Reduction.{is_in}
 use Rattle.gi_processing.specs.declared.contract.Contract.{Contract}
-use Rattle.gi_processing.specs.declared.span.Span.{Span}
 use Rattle.gi_facts.proofs.SameLemmas.{same_cycle-is}
 use Rattle.gi_facts.specs.declared.fact.Fact.{Fact}
 use Rattle.gi_facts.specs.declared.fact.Fact.TheVariants.{Contracted, Noticed, Nominated, Closed, Met}
 use Rattle.gi_cycles.specs.States.{FrozenCycle}
-use Rattle.gi_desk.specs.History.{capacity_of, documents_of, frozen_cycle, frozen_table, is_closed, is_closing, met_by, peer_of, state_of}
+use Rattle.gi_desk.specs.History.{frozen_cycle, frozen_table, is_closed, is_closing, met_by, peer_of}
 use Rattle.gi_desk.specs.Machine.{bad_fact, bad_from, most_facts, would_record}
 use Rattle.gi_desk.specs.Writable.{FitsDesk, FitsState}
 use Rattle.gi_desk.proofs.CycleLaws.{recorded-below}
@@ -52,10 +49,10 @@ use Rattle.gi_explanations.specs.Basis.{counted_capacity, counted_documents, nom
 use Rattle.gi_explanations.specs.Numbers.{counterparty, counting, own}
 use Rattle.gi_explanations.specs.Outcome.{read_at}
 use Rattle.gi_explanations.specs.Reduction.{is_covered, processed_line_quantity, processed_quantity}
-use Rattle.gi_explanations.specs.Sums.{is_line, line_for}
+use Rattle.gi_explanations.specs.Sums.{is_line}
 use Rattle.gi_explanations.specs.declared.question.Question.{Question}
 use Rattle.gi_explanations.proofs.NumberLemmas.{front-taken, skipped}
-use Rattle.gi_explanations.proofs.ReductionLemmas.{IsFor, found-for}
+use Rattle.gi_explanations.proofs.ReductionLemmas.{found-for}
 
 -- ---- a closed cycle is one of its gas day
 
@@ -158,29 +155,32 @@ from_flat_map f y (x ∷ xs) h =
 
 -- ---- the row of a line
 
-row-there : (capacity : Capacity) (span : Span) (documents : List Nomint) (portfolio : List ℕ) (l : Line) → knows portfolio span.day capacity.contracts ≡ true
-    → In l (lines_of (in_force portfolio span.day documents))
-    → In (processed_row capacity span portfolio (lines_of (in_force portfolio span.day documents)) l) (span_table capacity span documents).rows
+row-there : (capacity : Capacity) (side : Side) (day : Date) (cycle : ℕ) (documents : List Nomint) (portfolio : List ℕ) (l : Line) → knows portfolio day capacity.contracts ≡ true
+    → In l (lines_of (in_force portfolio day documents))
+    → In (processed_row capacity (span_of side day cycle) portfolio (lines_of (in_force portfolio day documents)) l) (span_table capacity (span_of side day cycle) documents).rows
 unfolding portfolio_rows lines_in_force
-row-there capacity span documents portfolio l known there =
-    let lines = lines_of (in_force portfolio span.day documents) in
+row-there capacity side day cycle documents portfolio l known there =
+    let span = span_of side day cycle in
+    let lines = lines_of (in_force portfolio day documents) in
     let row = processed_row capacity span portfolio lines l in
     in_order_in row (processed_rows capacity span documents)
-    (in_flat_map (portfolio_rows capacity span documents) portfolio row (portfolios_of capacity.contracts) (known-there capacity.contracts span.day portfolio known)
+    (in_flat_map (portfolio_rows capacity span documents) portfolio row (portfolios_of capacity.contracts) (known-there capacity.contracts day portfolio known)
     (in_map (processed_row capacity span portfolio lines) l lines there))
 
 -- and what a row is of
-pub record IsRowOf (capacity : Capacity) (span : Span) (documents : List Nomint) (row : Row) : Type 0 where
+pub record IsRowOf (capacity : Capacity) (side : Side) (day : Date) (cycle : ℕ) (documents : List Nomint) (row : Row) : Type 0 where
   pub portfolio : List ℕ
   pub source : Line
-  pub there : In source (lines_of (in_force portfolio span.day documents))
-  pub is : processed_row capacity span portfolio (lines_of (in_force portfolio span.day documents)) source ≡ row
+  pub there : In source (lines_of (in_force portfolio day documents))
+  pub is : processed_row capacity (span_of side day cycle) portfolio (lines_of (in_force portfolio day documents)) source ≡ row
 
-row-of : (capacity : Capacity) (span : Span) (documents : List Nomint) (row : Row) → In row (span_table capacity span documents).rows → IsRowOf capacity span documents row
+row-of : (capacity : Capacity) (side : Side) (day : Date) (cycle : ℕ) (documents : List Nomint) (row : Row) → In row (span_table capacity (span_of side day cycle) documents).rows
+    → IsRowOf capacity side day cycle documents row
 unfolding portfolio_rows lines_in_force
-row-of capacity span documents row there =
+row-of capacity side day cycle documents row there =
+    let span = span_of side day cycle in
     let found = from_flat_map (portfolio_rows capacity span documents) row (portfolios_of capacity.contracts) (in_in_order row (processed_rows capacity span documents) there) in
-    let lines = lines_of (in_force found.0 span.day documents) in
+    let lines = lines_of (in_force found.0 day documents) in
     let made = from_map (processed_row capacity span found.0 lines) row lines found.2 in
     record { portfolio = found.0; source = made.0; there = made.1; is = made.2 }
 
@@ -193,16 +193,17 @@ paired : (side : Side) (pair : Pair) → pair_of side (code_at side pair) (code_
 paired I pair = refl
 paired M pair = refl
 
-key-of-row : (capacity : Capacity) (span : Span) (portfolio : List ℕ) (lines : List Line) (l : Line)
-    → key_of (processed_row capacity span portfolio lines l) ≡ keyed (pair_of span.side portfolio l.counterparty) l.direction
+key-of-row : (capacity : Capacity) (side : Side) (day : Date) (cycle : ℕ) (portfolio : List ℕ) (lines : List Line) (l : Line)
+    → key_of (processed_row capacity (span_of side day cycle) portfolio lines l) ≡ keyed (pair_of side portfolio l.counterparty) l.direction
 unfolding processed_row
-key-of-row capacity span portfolio lines l = refl
+key-of-row capacity side day cycle portfolio lines l = refl
 
-row-quantity : (capacity : Capacity) (span : Span) (portfolio : List ℕ) (lines : List Line) (l : Line) (hour : ℕ) → span.first ≤ hour → hour ≤ span.last
-    → slice_index (processed_row capacity span portfolio lines l).hours (hour - span.first) ≡ processed_in capacity portfolio span.day lines l hour
+row-quantity : (capacity : Capacity) (side : Side) (day : Date) (cycle : ℕ) (portfolio : List ℕ) (lines : List Line) (l : Line) (hour : ℕ) → first_hour day cycle ≤ hour → hour ≤ hour_count day
+    → slice_index (processed_row capacity (span_of side day cycle) portfolio lines l).hours (hour - first_hour day cycle) ≡ processed_in capacity portfolio day lines l hour
 unfolding processed_row
-row-quantity capacity span portfolio lines l hour low high =
-    get_or-map-range_with_len (processed_in capacity portfolio span.day lines l) span.first (covered span.first span.last) (hour - span.first) hour 0 (omega arith) (omega arith)
+row-quantity capacity side day cycle portfolio lines l hour low high =
+    let first = first_hour day cycle in
+    get_or-map-range_with_len (processed_in capacity portfolio day lines l) first (covered first (hour_count day)) (hour - first) hour 0 (omega arith) (omega arith)
 
 found-there : (p : Line → Bool) (lines : List Line) (l : Line) → find p lines ≡ Some l → In l lines
 found-there p [] l e = absurd cc
@@ -226,11 +227,11 @@ row-found capacity side cycle documents q l table table_is sound known found =
     let direction_is = is.direction_is in
     let there : In row table.rows =
     subst (λ (t : TableContents). In row t.rows) (sym table_is)
-    (row-there capacity (span_of side q.id.day cycle) documents (own side q) l known (found-there (is_line (counterparty side q) q.direction) lines l found)) in
+    (row-there capacity side q.id.day cycle documents (own side q) l known (found-there (is_line (counterparty side q) q.direction) lines l found)) in
     let pair_is : pair_of side (own side q) l.counterparty ≡ q.pair = ap (pair_of side (own side q)) code_is ∙ paired side q.pair in
     let keys : keyed (pair_of side (own side q) l.counterparty) l.direction ≡ keyed q.pair q.direction =
     λ t. keyed (pair_is t) (direction_is t) in
-    let key_is = key-of-row capacity (span_of side q.id.day cycle) (own side q) lines l ∙ keys in
+    let key_is = key-of-row capacity side q.id.day cycle (own side q) lines l ∙ keys in
     subst (λ (k : Key). find (is_at k) table.rows ≡ Some row) key_is (find_member table.rows row sound.sorted there)
 
 coded : (side : Side) (portfolio code : List ℕ) → code_at side (pair_of side portfolio code) ≡ portfolio
@@ -253,22 +254,22 @@ line-passes code direction l code_is direction_is =
 none-passes : (p : Line → Bool) (lines : List Line) (l : Line) → find p lines ≡ None → In l lines → p l ≡ true → ⊥
 none-passes p [] l none there passes = there
 none-passes p (x ∷ xs) l none (inl same) passes = let here : p x ≡ true = ap p same ∙ passes in let found : find p (x ∷ xs) ≡ Some x = rw here refl in cc
-none-passes p (x ∷ xs) l none (inr there) passes = by (p x) none
+none-passes p (x ∷ xs) l none (inr there) passes = by (p x) none (λ e. none-passes p xs l e there passes)
   where
-    by : (b : Bool) → cond b (Some x) (find p xs) ≡ None → ⊥
-    by true e = cc
-    by false e = none-passes p xs l e there passes
+    by : (b : Bool) → cond b (Some x) (find p xs) ≡ None → (find p xs ≡ None → ⊥) → ⊥
+    by true e rest = cc
+    by false e rest = rest e
 
 -- a row for the key is of a line for the counterparty and direction
 row-lined : (capacity : Capacity) (side : Side) (cycle : ℕ) (documents : List Nomint) (q : Question) (row : Row)
     → In row (span_table capacity (span_of side q.id.day cycle) documents).rows → key_of row ≡ keyed q.pair q.direction
     → nominated_line side q (in_force (own side q) q.id.day documents) ≡ None → ⊥
 row-lined capacity side cycle documents q row there key_is none =
-    let of = row-of capacity (span_of side q.id.day cycle) documents row there in
+    let of = row-of capacity side q.id.day cycle documents row there in
     let l = of.source in
     let lines = lines_of (in_force of.portfolio q.id.day documents) in
     let keys : keyed (pair_of side of.portfolio l.counterparty) l.direction ≡ keyed q.pair q.direction =
-    sym (key-of-row capacity (span_of side q.id.day cycle) of.portfolio lines l) ∙ ap key_of of.is ∙ key_is in
+    sym (key-of-row capacity side q.id.day cycle of.portfolio lines l) ∙ ap key_of of.is ∙ key_is in
     let portfolio_is : of.portfolio ≡ own side q = sym (coded side of.portfolio l.counterparty) ∙ ap (λ (k : Key). code_at side k.pair) keys in
     let code_is : l.counterparty ≡ counterparty side q = sym (coded-other side of.portfolio l.counterparty) ∙ ap (λ (k : Key). code_at (other side) k.pair) keys in
     let direction_is : l.direction ≡ q.direction = ap (λ (k : Key). k.direction) keys in
@@ -323,7 +324,7 @@ inside side facts q (Some l) sound is_table covered found =
     sym (reading-found table q.pair q.direction q.hour row
     (row-found (counted_capacity facts q) side q.id.cycle (counted_documents facts q) q l table is is_table (known-by side facts q (standing_nomination side facts q) l sound refl found) found) covered_here
     ∙ ap (λ first. slice_index row.hours (q.hour - first)) first_is
-    ∙ row-quantity (counted_capacity facts q) (span_of side q.id.day q.id.cycle) (own side q) lines l q.hour low high)
+    ∙ row-quantity (counted_capacity facts q) side q.id.day q.id.cycle (own side q) lines l q.hour low high)
 
 pub frozen-reads : (side : Side) (point : List ℕ) (facts : List Fact) (q : Question) → bad_fact side point facts ≡ None → FitsDesk side point facts
     → is_closed q.id facts ≡ true → processed_quantity side facts q ≡ read_at q (frozen_table side facts q.id)

@@ -1,5 +1,5 @@
 -- The numbers of the first and of the last fact that is so.
-use Rattle.std.proofs.Common.{arith, ◌≡◌, ◌<◌, ◌≤◌, ◌+◌, ◌-◌, ℕ, zero, suc, List, [], ◌∷◌, ◌++◌, length, take, reverse, drop, get_or, Bool, true, false, not, cond, ◌||◌, Option, Some, None, refl, sym, ap, ◌∙◌, subst, take_all, length-append}
+use Rattle.std.proofs.Common.{arith, ◌≡◌, ◌<◌, ◌≤◌, ◌+◌, ◌-◌, ℕ, suc, List, [], ◌∷◌, ◌++◌, length, take, reverse, drop, get_or, Bool, true, false, not, cond, ◌||◌, Option, Some, None, refl, sym, ap, ◌∙◌, subst, take_all, length-append}
 use Rattle.std.specs.Prelude.{slice_get}
 use Rattle.std.specs.List.{list_any}
 use Rattle.std.specs.Option.{option_map_or}
@@ -15,7 +15,6 @@ use Rattle.gi_desk.specs.Queries.{fact_at}
 use Rattle.gi_desk.proofs.StageLaws.{all_before}
 use Rattle.gi_desk.proofs.StateLaws.{facts_before-more}
 use Rattle.gi_explanations.specs.Numbers.{counting, first_number, is_contract, is_nomination, is_notice, last_number, numbers, own}
-use Rattle.gi_explanations.specs.declared.numbers.Numbers.{Numbers}
 use Rattle.gi_explanations.specs.declared.question.Question.{Question}
 
 abbrev pub Test : Type 0

@@ -1,26 +1,26 @@
 -- The sums of a nomination's lines.
-use Rattle.std.proofs.Common.{arith, ◌≡◌, ◌<◌, ◌≤◌, ◌+◌, ◌*◌, ℕ, suc, List, [], ◌∷◌, ◌++◌, length, take, get_or, filter, Bool, true, false, not, cond, ◌&&◌, refl, sym, ap, ◌∙◌, take_all}
+use Rattle.std.proofs.Common.{arith, ◌≡◌, ◌<◌, ◌≤◌, ◌+◌, ℕ, List, [], ◌∷◌, length, take, get_or, filter, Bool, true, false, not, cond, ◌&&◌, refl, sym, ap, ◌∙◌, take_all}
 use Rattle.std.specs.List.{sum_by}
 use Rattle.std.proofs.lemmas.List.Filters.{sum_by-filter_both}
-use Rattle.std.proofs.lemmas.List.Sums.{sum_by_push}
+use Rattle.std.proofs.lemmas.List.Sums.{sum_by-cons, sum_by_push}
 use Rattle.gi_pairs.specs.declared.direction.Direction.{Direction}
 use Rattle.gi_messages.specs.declared.line.Line.{Line}
 use Rattle.gi_processing.specs.Reduction.{in_direction, is_before, is_in, is_up_to, quantity_at, sum_before, sum_up_to, total}
 use Rattle.gi_desk.proofs.HistoryLaws.{one_more}
-use Rattle.gi_explanations.specs.Sums.{is_counted, share_of, sum_over}
+use Rattle.gi_explanations.specs.Sums.{share_of, sum_over}
 use Rattle.gi_explanations.specs.declared.lines.Span.{Span}
 use Rattle.gi_explanations.specs.declared.lines.Span.TheVariants.{Before, UpTo, All}
 
 -- what lines add where they pass two tests, one after the other
 both : (p q : Line → Bool) (f : Line → ℕ) (lines : List Line) → sum_by (λ line. cond (p line && q line) (f line) 0) lines ≡ sum_by f (filter q (filter p lines))
 both p q f [] = refl
-both p q f (x ∷ xs) = by (p x) (both p q f xs)
+both p q f (x ∷ xs) = sum_by-cons (λ (line : Line). cond (p line && q line) (f line) 0) x xs ∙ by (p x) (both p q f xs)
   where
     rest : ℕ
     rest = sum_by (λ line. cond (p line && q line) (f line) 0) xs
 
     by_second : (b : Bool) → rest ≡ sum_by f (filter q (filter p xs)) → cond b (f x) 0 + rest ≡ sum_by f (cond b (x ∷ filter q (filter p xs)) (filter q (filter p xs)))
-    by_second true same = ap (λ n. f x + n) same
+    by_second true same = ap (λ n. f x + n) same ∙ sym (sum_by-cons f x (filter q (filter p xs)))
     by_second false same = omega (arith, same)
 
     by : (b : Bool) → rest ≡ sum_by f (filter q (filter p xs)) → cond (b && q x) (f x) 0 + rest ≡ sum_by f (filter q (cond b (x ∷ filter p xs) (filter p xs)))

@@ -111,7 +111,6 @@ pub(crate) fn asked_line(
 }
 
 fn nominated_words(alloc: Global, hour: u8, line: Option<&Line>) -> Result<String, AllocError>
-    requires { 1 ≤ hour }
     ensures { IfOk result (λ text. string_bytes text ≡ nominated_words_of hour (option_copied line.entry)) }
 {
     match line {
@@ -130,7 +129,6 @@ fn nomination_line(
     document: Option<&Nomint>,
     line: Option<&Line>,
 ) -> Result<String, AllocError>
-    requires { 1 ≤ hour }
     ensures { IfOk result (λ text. string_bytes text ≡ nomination_line_of number hour (option_copied document.entry) (option_copied line.entry)) }
 {
     match document {
@@ -179,7 +177,6 @@ pub(crate) fn basis_lines<R: Role>(
     question: &Question,
     numbers: &Numbers,
 ) -> Result<String, AllocError>
-    requires hour { 1 ≤ question.now.hour }
     requires numbers { numbers.now ≡ numbers_of R.SIDE desk.now.facts question.now }
     ensures { IfOk result (λ text. string_bytes text ≡ basis_lines_of R.SIDE desk.now.facts question.now numbers.now) }
 {

@@ -19,7 +19,6 @@ pub fn explanation<R: Role>(
     desk: &Desk<R>,
     question: &Question,
 ) -> Result<String, AllocError>
-    requires { 1 ≤ question.now.hour }
     ensures { IfOk result (λ text. string_bytes text ≡ explanation_of R.SIDE desk.now question.now) }
 {
     let numbers = Numbers::of(desk, question);

@@ -45,18 +45,20 @@ pub(crate) fn line_for(lines: &[Line], code: Code, direction: Direction) -> Opti
 }
 
 pub(crate) fn quantity(line: &Line, hour: u8) -> u64
-    requires { 1 ≤ hour }
     ensures value { result ≡ quantity_at (hour - 1) line.now }
     ensures in_range { IsQuantity result }
 {
-    match line.hours.as_slice().get(usize::from(hour - 1)) {
+    match line
+        .hours
+        .as_slice()
+        .get(usize::from(hour.saturating_sub(1)))
+    {
         Some(quantity) => quantity.value(),
         None => 0,
     }
 }
 
 fn share(line: &Line, span: Span, code: Code, direction: Direction, hour: u8) -> u64
-    requires { 1 ≤ hour }
     ensures value { result ≡ share_of span code direction (hour - 1) line.now }
     ensures in_range { IsQuantity result }
 {
@@ -69,7 +71,6 @@ fn share(line: &Line, span: Span, code: Code, direction: Direction, hour: u8) ->
 /// The sum, in the hour, of the quantities of those lines of the direction whose counterparties are
 /// counted.
 pub(crate) fn sum(lines: &[Line], span: Span, code: Code, direction: Direction, hour: u8) -> u64
-    requires hour { 1 ≤ hour }
     requires few { length lines.now ≤ most_lines }
     ensures { result ≡ sum_over span code (hour - 1) (in_direction direction lines.now) }
 {

@@ -134,7 +134,6 @@ pub(crate) fn outcome_lines<R: Role>(
     question: &Question,
     numbers: &Numbers,
 ) -> Result<String, AllocError>
-    requires hour { 1 ≤ question.now.hour }
     requires numbers { numbers.now ≡ numbers_of R.SIDE desk.now.facts question.now }
     ensures { IfOk result (λ text. string_bytes text ≡ outcome_lines_of R.SIDE desk.now question.now numbers.now) }
 {

@@ -6,6 +6,6 @@ pub struct Question {
     pub pair: Pair,
     pub direction: Direction,
     pub id: CycleId,
-    /// From 1.
+    /// From 1; no cycle covers an hour 0.
     pub hour: u8,
 }

@@ -67,7 +67,6 @@ fn available(contract: Option<Contract>, notice: Option<Notice>) -> u64
 }
 
 fn amounts_of(side: Side, question: &Question, lines: &[Line], available: u64) -> Amounts
-    requires hour { 1 ≤ question.now.hour }
     requires few { length lines.now ≤ most_lines }
     ensures value { result ≡ amounts_at available (counterparty side question.now) (question.now.hour - 1) (in_direction question.now.direction lines.now) }
     ensures before { result.before ≤ result.all }
@@ -88,7 +87,6 @@ fn amounts_of(side: Side, question: &Question, lines: &[Line], available: u64) -
 
 /// What is available, and the sums of the nomination in force.
 fn amounts_for<R: Role>(desk: &Desk<R>, question: &Question, numbers: &Numbers) -> Amounts
-    requires hour { 1 ≤ question.now.hour }
     requires numbers { numbers.now ≡ numbers_of R.SIDE desk.now.facts question.now }
     ensures value { result ≡ amounts_in R.SIDE desk.now.facts question.now }
     ensures before { result.before ≤ result.all }
@@ -132,7 +130,6 @@ fn reduced(amounts: Amounts, nominated: u64) -> u64
 
 /// The processed quantity, in kWh/h.
 pub(crate) fn processed<R: Role>(desk: &Desk<R>, question: &Question, numbers: &Numbers) -> u64
-    requires hour { 1 ≤ question.now.hour }
     requires numbers { numbers.now ≡ numbers_of R.SIDE desk.now.facts question.now }
     ensures { result ≡ processed_quantity_of R.SIDE desk.now.facts question.now }
 {
@@ -221,7 +218,6 @@ pub(crate) fn reduction_lines<R: Role>(
     question: &Question,
     numbers: &Numbers,
 ) -> Result<String, AllocError>
-    requires hour { 1 ≤ question.now.hour }
     requires numbers { numbers.now ≡ numbers_of R.SIDE desk.now.facts question.now }
     ensures { IfOk result (λ text. string_bytes text ≡ reduction_lines_of R.SIDE desk.now.facts question.now) }
 {

@@ -1,5 +1,4 @@
 use Rattle.std.proofs.Common.{◌≡◌, ◌++◌, ◌∙◌, ap, string_bytes}
-use Rattle.std.specs.Option.{option_copied}
 use Rattle.std.proofs.lemmas.Result.{IfOk-weaker}
 use Rattle.gi_explanations.specs.Basis.{basis_lines, contract_line, nominated_line, nomination_line, notice_line, standing_nomination}
 use Rattle.gi_explanations.proofs.basis.basis_lines.Goals as goal
@@ -12,7 +11,7 @@ returns g c =
     let n = c.args.numbers.now in
     let document = standing_nomination side c.args.desk.now.facts q in
     let document_is = c.nomination-document.ensures.value in
-    let line_is = c.line-line.ensures ∙ ap (nominated_line side q) document_is in
+    let line_is = c.line-line.ensures ∙ (λ t. nominated_line (c.SIDE.ensures t) q (document_is t)) in
     let nomination_is : string_bytes c.in_ok-nomination.nomination ≡ nomination_line n.nomination q.hour document (nominated_line side q document) =
     c.in_ok-nomination.ensures ∙ (λ t. nomination_line n.nomination q.hour (document_is t) (line_is t)) in
     let contract_is = c.in_ok-contract.ensures ∙ ap (contract_line n.contract) c.contract.ensures in

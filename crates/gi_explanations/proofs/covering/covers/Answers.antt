@@ -1,6 +1,6 @@
 use Rattle.std.proofs.Common.{◌<◌, arith, is_ok, ap}
 use Rattle.std.proofs.lemmas.Result.{Ok-from_Ok_iff}
-use Rattle.gi_day.specs.Cycles.{IsCycle, cycle_count, first_hour}
+use Rattle.gi_day.specs.Cycles.{IsCycle, first_hour}
 use Rattle.gi_explanations.proofs.covering.covers.Goals as goal
 
 pub unwrap-first-requires : goal.unwrap-first-requires

@@ -1,4 +1,6 @@
-use Rattle.std.proofs.Common.{arith, ◌-◌}
+use Rattle.std.proofs.Common.{◌-◌, ap, ◌∙◌}
+use Rattle.gi_pairs.specs.Pair.{code_at}
+use Rattle.gi_pairs.specs.declared.side.Side.{Side}
 use Rattle.gi_explanations.proofs.SumLemmas.{before-within, up_to-within}
 use Rattle.gi_explanations.proofs.ReductionLemmas.{amounts-made, within-made}
 use Rattle.gi_explanations.proofs.reduction.amounts_of.Goals as goal
@@ -6,7 +8,7 @@ use Rattle.gi_explanations.proofs.reduction.amounts_of.Goals as goal
 pub returns-clause-value : goal.returns-clause-value
 returns-clause-value c =
     amounts-made c.args.side c.args.question.now c.args.available c.args.lines.now c.at-code.result c.sum-before.result c.sum-up_to.result c.sum-all.result
-    c.at-code.ensures c.sum-before.ensures c.sum-up_to.ensures c.sum-all.ensures
+    (c.at-code.ensures ∙ ap (λ (side : Side). code_at side c.args.question.now.pair) c.other.ensures) c.sum-before.ensures c.sum-up_to.ensures c.sum-all.ensures
 
 pub returns-clause-before : goal.returns-clause-before
 returns-clause-before c =

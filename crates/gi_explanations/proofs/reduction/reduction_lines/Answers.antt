@@ -2,7 +2,6 @@ use Rattle.std.proofs.Common.{◌≡◌, ◌++◌, ◌∙◌, ap, string_bytes}
 use Rattle.std.proofs.lemmas.Result.{IfOk-weaker}
 use Rattle.gi_explanations.specs.Basis.{nominated_line, standing_contract, standing_nomination, standing_notice}
 use Rattle.gi_explanations.specs.Reduction.{amounts, available_line, available_quantity, is_covered, processed_line, processed_quantity, reduction_lines, sums_line}
-use Rattle.gi_explanations.specs.declared.reduction.Amounts.{Amounts}
 use Rattle.gi_explanations.proofs.reduction.reduction_lines.Goals as goal
 
 pub returns : goal.returns
@@ -12,7 +11,7 @@ returns g c =
     let facts = c.args.desk.now.facts in
     let q = c.args.question.now in
     let amounts_is = c.amounts_for-amounts.ensures.value in
-    let line_is = c.line-line.ensures ∙ ap (nominated_line side q) c.nomination.ensures.value in
+    let line_is = c.line-line.ensures ∙ (λ t. nominated_line (c.SIDE.ensures t) q (c.nomination.ensures.value t)) in
     let available_is : string_bytes c.in_ok-available.available ≡ available_line (standing_contract side facts q) (standing_notice facts q) (available_quantity side facts q) =
     c.in_ok-available.ensures ∙ (λ t. available_line (c.contract-contract.ensures t) (c.notice-notice.ensures t) (amounts_is t).available) in
     let sums_is = c.in_ok-sums.ensures ∙ ap sums_line amounts_is in
