@@ -1,3 +1,4 @@
+mod ExplainingLemmas
 pub mod HoursLemmas
 pub mod MatchLemmas
 pub mod ShapeLemmas

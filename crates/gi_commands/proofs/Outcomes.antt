@@ -78,6 +78,7 @@ module _ (reads : ReadsSpelling) where
   fault_is input fault.CommandLine memory refused = absurd refused
   fault_is input fault.Read memory refused = absurd refused
   fault_is input fault.TooLarge memory refused = absurd refused
+  fault_is input fault.Differs memory refused = absurd refused
   fault_is input fault.Write memory refused = absurd refused
   fault_is input (fault.Day why) memory refused = absurd refused
   fault_is input (fault.Calendar why) memory refused = absurd refused

@@ -7,7 +7,7 @@ ghost use Rattle.gi_commands.specs.Fault.{no_code};
 ghost use Rattle.gi_commands.specs.Reporting.{IsBookFault};
 
 use crate::fault::Fault;
-use gi_audit::{Audit, audit};
+use gi_audit::{Audited, audit};
 use gi_command_line::BookFiles;
 use gi_day::Calendar;
 use gi_desk::{Desk, Role};
@@ -27,7 +27,7 @@ fn desk_of_file<R: Role>(rt: &HostRuntime, point: Code, file: &str) -> Result<De
 
 /// The audit of both operators' books. `CodeText` where the point is no code, whatever the files
 /// are; then the faults of the initiating operator's book, and those of the matching one's.
-pub fn file_audit(rt: &HostRuntime, books: BookFiles<'_>) -> Result<Audit, Fault>
+pub fn file_audit(rt: &HostRuntime, books: BookFiles<'_>) -> Result<Audited, Fault>
     ensures audited { IfOk result (λ it. HasAudit books.entry.point.now (string_bytes it.text) it.first) }
     ensures fault { IfErr result (IsNoAudit books.entry.point.now) }
     ensures code { ¬ (IsCode books.entry.point.now) → result ≡ Err no_code }

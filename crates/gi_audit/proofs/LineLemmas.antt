@@ -1,0 +1,32 @@
+-- One more line, and one more cycle.
+use Rattle.std.proofs.Common.{◌≡◌, ◌<◌, ◌+◌, ℕ, List, [], ◌∷◌, ◌++◌, length, take, find, get_or, append-nil, Bool, true, false, cond, Option, Some, None, refl, sym, ap, ◌∙◌}
+use Rattle.std.specs.List.{flat_map}
+use Rattle.std.specs.Option.{option_or}
+use Rattle.std.proofs.lemmas.List.Concat.{flat_map-append}
+use Rattle.std.proofs.lemmas.List.Folds.{find-append}
+use Rattle.gi_pairs.specs.declared.cycle_id.CycleId.{CycleId}
+use Rattle.gi_desk.specs.Machine.{DeskState}
+use Rattle.gi_desk.proofs.HistoryLaws.{one_more}
+use Rattle.gi_audit.specs.Audit.{cycle_lines, first_difference, line_of}
+use Rattle.gi_audit.specs.Finding.{differs, finding, is_difference}
+use Rattle.gi_audit.specs.declared.finding.Finding.{Finding}
+
+pub lines_more : (s t : DeskState) (ids : List CycleId) (i : ℕ) (id : CycleId) (found : Finding) (text line next : List ℕ) → i < length ids → id ≡ get_or ids i id
+    → text ≡ cycle_lines s t (take i ids) → found ≡ finding s t id → line ≡ line_of id found → next ≡ text ++ line → next ≡ cycle_lines s t (take (i + 1) ids)
+lines_more s t ids i id found text line next below is text_is found_is line_is next_is =
+    let of : CycleId → List ℕ = λ id. line_of id (finding s t id) in
+    next_is ∙ (λ k. text_is k ++ line_is k) ∙ ap (λ (f : Finding). flat_map of (take i ids) ++ line_of id f) found_is
+    ∙ ap (λ (l : List ℕ). flat_map of (take i ids) ++ l) (sym (append-nil (of id)))
+    ∙ sym (flat_map-append of (take i ids) (id ∷ []))
+    ∙ ap (flat_map of) (sym (one_more ids i id below is))
+
+pub first_more : (s t : DeskState) (ids : List CycleId) (i : ℕ) (id : CycleId) (found : Finding) (first now next : Option CycleId) → i < length ids → id ≡ get_or ids i id
+    → first ≡ first_difference s t (take i ids) → found ≡ finding s t id → now ≡ cond (is_difference found) (Some id) None → next ≡ option_or first now
+    → next ≡ first_difference s t (take (i + 1) ids)
+unfolding differs
+first_more s t ids i id found first now next below is first_is found_is now_is next_is =
+    let test : CycleId → Bool = differs s t in
+    next_is ∙ (λ k. option_or (first_is k) (now_is k))
+    ∙ ap (λ (f : Finding). option_or (find test (take i ids)) (cond (is_difference f) (Some id) None)) found_is
+    ∙ sym (find-append test (take i ids) (id ∷ []))
+    ∙ ap (find test) (sym (one_more ids i id below is))

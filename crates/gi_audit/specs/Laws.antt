@@ -1,0 +1,22 @@
+-- What holds of all desks that agree, and of the desks of every world.
+use Rattle.gi_pairs.specs.declared.side.Side.TheVariants.{I, M}
+use Rattle.gi_desk.specs.Machine.{DeskState, started_again}
+use Rattle.gi_desk.specs.Writable.{FitsDesk}
+use Rattle.gi_world.specs.Agreement.{IsLegal, IsSound}
+use Rattle.gi_world.specs.World.{WorldState}
+use Rattle.gi_audit.specs.Agreeing.{Agree, ConfirmOneQuantity}
+
+-- Of two desks that agree every quantity that either has confirmed is the lower of the two that both froze. Each holds
+-- facts that it would record in turn, and can be written: so do all desks.
+abbrev pub AgreeingDesksConfirmOneQuantity : Type 0
+AgreeingDesksConfirmOneQuantity =
+    (initiating matching : DeskState) → IsLegal I initiating → IsLegal M matching → FitsDesk I initiating.point initiating.facts → FitsDesk M matching.point matching.facts
+    → Agree initiating matching → ConfirmOneQuantity initiating matching
+
+-- The two desks of a world agree, whatever steps led to it, and so do the desks that start again from what is saved
+-- there.
+abbrev pub WorldsAgree : Type 0
+WorldsAgree =
+    (w : WorldState) → IsSound w
+    → Agree w.initiating.desk w.matching.desk
+    × Agree (started_again w.initiating.desk w.initiating.desk.saved) (started_again w.matching.desk w.matching.desk.saved)

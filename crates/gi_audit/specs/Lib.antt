@@ -1,0 +1,7 @@
+pub mod Sent
+pub mod Agreeing
+pub mod Finding
+pub mod FindingText
+pub mod Cycles
+pub mod Audit
+pub mod Laws

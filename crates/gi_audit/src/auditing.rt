@@ -1,0 +1,110 @@
+//! The audit of two desks.
+
+ghost use Rattle.std.specs.Prelude.{◌≡◌, ◌↔◌, IfOk, false, if◌then◌else◌, string_bytes};
+ghost use Rattle.gi_audit.specs.Agreeing.{Agree, ConfirmOneQuantity};
+ghost use Rattle.gi_audit.specs.Audit.{IsAudit, cycle_lines, first_difference, last_line as last_line_of, line_of};
+ghost use Rattle.gi_audit.specs.Finding.{is_difference};
+
+use crate::comparing::found_at;
+use crate::cycles::closed_at_either;
+use crate::finding::Finding;
+use crate::knowing::known;
+use crate::laws::agreeing_desks_confirm_one_quantity;
+use gi_desk::Desk;
+use gi_initiator::Initiating;
+use gi_matcher::Matching;
+use gi_pairs::CycleId;
+use gi_reports::RightInTwo;
+use std::alloc::{AllocError, Global};
+
+/// What two desks have of their cycles.
+#[derive(Debug, Drop)]
+pub struct Audited {
+    /// A line for each cycle that either has closed, by gas day and number, and a last one.
+    pub text: String,
+    /// The first cycle of which a table differs: none where the desks agree.
+    pub first: Option<CycleId>,
+}
+
+fn line(alloc: Global, id: &CycleId, found: Finding) -> Result<String, AllocError>
+    ensures { IfOk result (λ line. string_bytes line ≡ line_of id.now found) }
+{
+    let day = id.day;
+    let cycle = RightInTwo {
+        number: u64::from(id.cycle),
+    };
+    format!(in alloc; "{day} {cycle} {found}\n")
+}
+
+fn last_line(alloc: Global, first: &Option<CycleId>) -> Result<String, AllocError>
+    ensures { IfOk result (λ line. string_bytes line ≡ last_line_of first.now) }
+{
+    match first {
+        Some(id) => {
+            let (day, cycle) = (id.day, id.cycle);
+            format!(in alloc; "differs at {day} {cycle}\n")
+        }
+        None => format!(in alloc; "agreed\n"),
+    }
+}
+
+/// The cycle, where it differs.
+fn differing(id: &CycleId, found: Finding) -> Option<CycleId>
+    ensures { result ≡ if is_difference found then Some id.now else None }
+{
+    if found.is_difference() {
+        Some(*id)
+    } else {
+        None
+    }
+}
+
+fn lines(
+    alloc: Global,
+    initiating: &Desk<Initiating>,
+    matching: &Desk<Matching>,
+    ids: &[CycleId],
+) -> Result<Audited, AllocError>
+    requires initiating { initiating.now.halted ≡ false }
+    requires matching { matching.now.halted ≡ false }
+    ensures text { IfOk result (λ audit. string_bytes audit.text ≡ cycle_lines initiating.now matching.now ids.now) }
+    ensures first { IfOk result (λ audit. audit.first ≡ first_difference initiating.now matching.now ids.now) }
+{
+    let mut text = String::new(alloc);
+    let mut first = None;
+    for id in ids {
+        let found = found_at(alloc, initiating, matching, id)?;
+        let line = line(alloc, id, found)?;
+        text.push_str(line.as_str())?;
+        first = first.or(differing(id, found));
+    }
+    Ok(Audited { text, first })
+}
+
+/// Sets two desks that are not halted against each other, as those are that a book was replayed to:
+/// a line for each cycle that either has closed, by gas day and number, with what is found of it,
+/// and a last one, `agreed` or the first cycle of which a table differs.
+///
+/// They agree exactly where each table that either side met is the one that the other side froze,
+/// and what the initiating side met the matching side met before. Then every quantity that either
+/// side has confirmed is the lower of the two that both froze.
+pub fn audit(
+    alloc: Global,
+    initiating: &Desk<Initiating>,
+    matching: &Desk<Matching>,
+) -> Result<Audited, AllocError>
+    requires initiating { initiating.now.halted ≡ false }
+    requires matching { matching.now.halted ≡ false }
+    ensures written { IfOk result (λ audit. IsAudit initiating.now matching.now (string_bytes audit.text) audit.first) }
+    ensures verdict { IfOk result (λ audit. (audit.first ≡ None) ↔ Agree initiating.now matching.now) }
+    ensures one_quantity { IfOk result (λ audit. audit.first ≡ None → ConfirmOneQuantity initiating.now matching.now) }
+{
+    agreeing_desks_confirm_one_quantity();
+    known(initiating);
+    known(matching);
+    let ids = closed_at_either(alloc, initiating, matching)?;
+    let Audited { mut text, first } = lines(alloc, initiating, matching, &ids)?;
+    let last = last_line(alloc, &first)?;
+    text.push_str(last.as_str())?;
+    Ok(Audited { text, first })
+}

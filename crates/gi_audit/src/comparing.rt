@@ -1,0 +1,97 @@
+//! What is found of one cycle.
+
+ghost use Rattle.std.specs.Prelude.{◌≡◌, IfOk, false};
+ghost use Rattle.std.specs.Option.{option_copied};
+ghost use Rattle.gi_audit.specs.Finding.{against as against_of, difference as difference_of, finding as finding_of, undisputed as undisputed_of};
+
+use crate::difference::{Against, Difference};
+use crate::finding::Finding;
+use crate::meeting::{met_table, saved_closing};
+use crate::sending::sent_table;
+use crate::total::total;
+use gi_desk::{Desk, Role};
+use gi_initiator::Initiating;
+use gi_matcher::Matching;
+use gi_pairs::{CycleId, Direction, Table};
+use std::alloc::{AllocError, Global};
+
+fn against<R: Role>(
+    alloc: Global,
+    desk: &Desk<R>,
+    id: &CycleId,
+    met: &Table,
+) -> Result<Option<Against>, AllocError>
+    requires { desk.now.halted ≡ false }
+    ensures { IfOk result (λ what. what ≡ against_of R.SIDE desk.now id.now met.now) }
+{
+    let Some(closing) = saved_closing(desk, id) else {
+        return Ok(Some(Against::NotClosed));
+    };
+    match sent_table(alloc, desk, id)? {
+        Some(sent) if *met == sent => Ok(None),
+        Some(_) => Ok(Some(Against::Closed(closing))),
+        None => Ok(Some(Against::NotMet)),
+    }
+}
+
+#[tactic(auto, unfolding(crate::specs::Finding::difference))]
+fn difference<R: Role, S: Role>(
+    alloc: Global,
+    desk: &Desk<R>,
+    peer: &Desk<S>,
+    id: &CycleId,
+) -> Result<Option<Difference>, AllocError>
+    requires { peer.now.halted ≡ false }
+    ensures { IfOk result (λ difference. difference ≡ difference_of R.SIDE S.SIDE desk.now peer.now id.now) }
+{
+    let Some((met, table)) = met_table(desk, id) else {
+        return Ok(None);
+    };
+    match against(alloc, peer, id, table)? {
+        Some(against) => Ok(Some(Difference {
+            side: R::SIDE,
+            met,
+            against,
+        })),
+        None => Ok(None),
+    }
+}
+
+fn undisputed(ours: Option<&Table>, theirs: Option<&Table>) -> Finding
+    ensures { result ≡ undisputed_of (option_copied ours.entry) (option_copied theirs.entry) }
+{
+    match (ours, theirs) {
+        (Some(table), Some(_)) => Finding::Agreed {
+            im: total(table, Direction::IM),
+            mi: total(table, Direction::MI),
+        },
+        (Some(_), None) => Finding::OpenAtMatching,
+        (None, Some(_)) => Finding::OpenAtInitiating,
+        (None, None) => Finding::OpenAtBoth,
+    }
+}
+
+/// What is found of a cycle at two desks that are not halted: that a table that one of them met is
+/// not the one that the other wrote, first the one that the matching side met; or how far both are.
+#[tactic(auto, unfolding(crate::specs::Finding::finding))]
+pub(crate) fn found_at(
+    alloc: Global,
+    initiating: &Desk<Initiating>,
+    matching: &Desk<Matching>,
+    id: &CycleId,
+) -> Result<Finding, AllocError>
+    requires runs { initiating.now.halted ≡ false }
+    requires run { matching.now.halted ≡ false }
+    ensures { IfOk result (λ found. found ≡ finding_of initiating.now matching.now id.now) }
+{
+    if let Some(found) = difference(alloc, matching, initiating, id)? {
+        return Ok(Finding::Differs(found));
+    }
+    if let Some(found) = difference(alloc, initiating, matching, id)? {
+        return Ok(Finding::Differs(found));
+    }
+    Ok(undisputed(
+        initiating.confirmed(*id),
+        matching.confirmed(*id),
+    ))
+}

@@ -1,0 +1,17 @@
+//! What holds of all desks that agree, and of those of all worlds. These functions do nothing;
+//! their clauses are the laws.
+
+ghost use Rattle.gi_audit.specs.Laws.{AgreeingDesksConfirmOneQuantity, WorldsAgree};
+
+/// Of two desks that agree every quantity that either has confirmed is the lower of the two that
+/// both froze; what the initiating side has confirmed, the matching side has; and what both have
+/// confirmed of a cycle reads alike.
+pub fn agreeing_desks_confirm_one_quantity()
+    ensures { AgreeingDesksConfirmOneQuantity }
+{}
+
+/// The two desks of a world agree, whatever steps led to it, and so do the desks that start again
+/// from what is saved there: no audit of them tells of a difference.
+pub fn worlds_agree()
+    ensures { WorldsAgree }
+{}

@@ -1,0 +1,29 @@
+//! Whether two operators' books agree, as an outsider compares them who trusts neither office.
+//!
+//! [`audit`] takes two desks, each replayed from its book's facts. What one side has met it sets
+//! against what the other side has written of it, cycle by cycle:
+//!
+//! ```text
+//!   initiating desk                          matching desk
+//!   closed: its order's table  ────────────  met: the order's table
+//!   met: the response's table  ────────────  closed, and met: its response's table
+//! ```
+//!
+//! Where all of these are the same, every quantity that either side has confirmed is the lower of
+//! the two that both froze ([`agreeing_desks_confirm_one_quantity`]). And they always are, where
+//! both desks came of the steps of a world ([`worlds_agree`]).
+#![tactic(auto)]
+
+mod auditing;
+mod comparing;
+mod cycles;
+mod difference;
+mod finding;
+mod knowing;
+mod laws;
+mod meeting;
+mod sending;
+mod total;
+
+pub use auditing::{Audited, audit};
+pub use laws::{agreeing_desks_confirm_one_quantity, worlds_agree};
