@@ -10,8 +10,10 @@ use Rattle.gi_pairs.specs.declared.direction.Direction.{Direction}
 use Rattle.gi_pairs.specs.declared.side.Side.{Side}
 use Rattle.gi_command_line.specs.Asked.{Asked, QuantityWords, Wanted, at_once, audit, explain, hours, match_tables, mistaken, report, serve, simulate}
 use Rattle.gi_command_line.specs.Numbers.{cycle_named, hour_named}
-use Rattle.gi_command_line.specs.ReportWords.{kind_named}
+use Rattle.gi_command_line.specs.ReportWords.{format_named, kind_named}
 use Rattle.gi_command_line.specs.Sessions.{default_sessions, sessions_named}
+use Rattle.gi_command_line.specs.declared.request.Format.{Format}
+use Rattle.gi_command_line.specs.declared.request.Format.TheVariants.{Text}
 use Rattle.gi_command_line.specs.declared.request.ReportKind.{ReportKind}
 
 -- ---- the commands and options that the program knows
@@ -46,7 +48,7 @@ abbrev pub with_book : App → App
 with_book app = with_rule (with_rule app (option (codes "book"))) (option (codes "point"))
 
 abbrev pub the_report : App
-the_report = with_book (with_rule (with_rule (new_app (codes "report")) (word (codes "KIND"))) (word (codes "SIDE")))
+the_report = with_book (with_rule (with_rule (with_rule (new_app (codes "report")) (word (codes "KIND"))) (word (codes "SIDE"))) (option (codes "format")))
 
 abbrev pub the_explain : App
 the_explain = with_book (with_hour (with_pair (with_rule (new_app (codes "explain")) (word (codes "SIDE")))))
@@ -87,10 +89,16 @@ over_book ask None (Some point) = mistaken
 over_book ask (Some file) None = mistaken
 over_book ask (Some file) (Some point) = ask (Some (file, point))
 
-abbrev pub report_of : Option ReportKind → Option Side → Option (List ℕ) → Option (List ℕ) → Asked
-report_of None side file point = mistaken
-report_of (Some kind) None file point = mistaken
-report_of (Some kind) (Some side) file point = over_book (report kind side) file point
+-- text where no format is named
+abbrev pub format_asked : Option (List ℕ) → Option Format
+format_asked None = Some Text
+format_asked (Some word) = format_named word
+
+abbrev pub report_of : Option ReportKind → Option Side → Option Format → Option (List ℕ) → Option (List ℕ) → Asked
+report_of None side format file point = mistaken
+report_of (Some kind) None format file point = mistaken
+report_of (Some kind) (Some side) None file point = mistaken
+report_of (Some kind) (Some side) (Some format) file point = over_book (report kind format side) file point
 
 -- the value of a word, the empty one where there is none
 abbrev pub value_of : List ℕ → List Row → List ℕ
@@ -98,7 +106,7 @@ value_of name rows = unwrap_or (first_of name rows) []
 
 abbrev pub report_asked : List Row → Asked
 report_asked rows =
-    report_of (kind_named (value_of (codes "KIND") rows)) (side_named (value_of (codes "SIDE") rows)) (first_of (codes "book") rows) (first_of (codes "point") rows)
+    report_of (kind_named (value_of (codes "KIND") rows)) (side_named (value_of (codes "SIDE") rows)) (format_asked (first_of (codes "format") rows)) (first_of (codes "book") rows) (first_of (codes "point") rows)
 
 -- the words of a quantity are those of its portfolios and gas day, of whatever text, its direction, and numbers
 abbrev pub quantity_of : List Row → Direction → ℕ → ℕ → QuantityWords

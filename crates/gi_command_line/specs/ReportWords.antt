@@ -1,6 +1,8 @@
 -- The words of `report`, and what is told of wrong words.
 use Rattle.std.specs.Prelude.{◌++◌, ℕ, List, Option, None, Some, if◌then◌else◌, codes}
 use Rattle.std.specs.Str.{bytes_eq}
+use Rattle.gi_command_line.specs.declared.request.Format.{Format}
+use Rattle.gi_command_line.specs.declared.request.Format.TheVariants.{Text, Csv, Json}
 use Rattle.gi_command_line.specs.declared.request.Mistake.{Mistake}
 use Rattle.gi_command_line.specs.declared.request.Mistake.TheVariants as mistake
 use Rattle.gi_command_line.specs.declared.request.ReportKind.{ReportKind}
@@ -12,12 +14,20 @@ kind_named word =
     if bytes_eq word (codes "open") then Some Open
     else (if bytes_eq word (codes "confirmed") then Some Confirmed else (if bytes_eq word (codes "refused") then Some Refused else None))
 
+-- the format that a word names
+abbrev pub format_named : List ℕ → Option Format
+format_named word =
+    if bytes_eq word (codes "text") then Some Text
+    else (if bytes_eq word (codes "csv") then Some Csv else (if bytes_eq word (codes "json") then Some Json else None))
+
 -- what is told of words that are wrong
 abbrev pub mistake_text : Mistake → List ℕ
 mistake_text (mistake.Kind word) =
     codes "error: invalid value '" ++ (word.now ++ codes "' for '<KIND>'\n  [possible values: open, confirmed, refused]\n")
 mistake_text (mistake.Side word) = codes "error: invalid value '" ++ (word.now ++ codes "' for '<SIDE>'\n  [possible values: I, M]\n")
 mistake_text mistake.Unpaired = codes "error: '--book <FILE>' and '--point <CODE>' need each other\n"
+mistake_text (mistake.Format word) =
+    codes "error: invalid value '" ++ (word.now ++ codes "' for '--format <FORMAT>'\n  [possible values: text, csv, json]\n")
 mistake_text (mistake.Sessions word) =
     codes "error: invalid value '" ++ (word.now ++ codes "' for '--sessions <N>'\n  [possible values: 1 to 8]\n")
 mistake_text (mistake.Direction word) =

@@ -9,8 +9,8 @@ mod words;
 
 pub use laws::{hours_is_taken, match_is_taken, serve_is_taken};
 pub use request::{
-    BookFile, BookFiles, Explanation, Mistake, NamedQuantity, Report, ReportKind, Request, Service,
-    Task, kind_named,
+    BookFile, BookFiles, Explanation, Format, Mistake, NamedQuantity, Report, ReportKind, Request,
+    Service, Task, format_named, kind_named,
 };
 pub use sessions::Sessions;
 pub use words::requested;

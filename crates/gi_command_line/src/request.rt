@@ -1,7 +1,7 @@
 //! What a command line asks for.
 
 ghost use Rattle.std.specs.Prelude.{◌≡◌, Some};
-ghost use Rattle.gi_command_line.specs.ReportWords.{kind_named as kind_named_by, mistake_text};
+ghost use Rattle.gi_command_line.specs.ReportWords.{format_named as format_named_by, kind_named as kind_named_by, mistake_text};
 
 use crate::sessions::Sessions;
 use gi_pairs::{Direction, Side};
@@ -18,6 +18,17 @@ pub enum ReportKind {
     Refused,
 }
 
+/// How a report is written.
+#[derive(Clone, Copy, Debug, PartialEq, Eq)]
+pub enum Format {
+    /// In columns, for people.
+    Text,
+    /// Comma-separated values, with a header.
+    Csv,
+    /// A JSON object a line.
+    Json,
+}
+
 /// A book in a file, and the interconnection point that it is of.
 #[derive(Clone, Copy, Debug, PartialEq, Eq)]
 pub struct BookFile<'a> {
@@ -29,6 +40,7 @@ pub struct BookFile<'a> {
 #[derive(Clone, Copy, Debug, PartialEq, Eq)]
 pub struct Report<'a> {
     pub kind: ReportKind,
+    pub format: Format,
     pub side: Side,
     pub book: Option<BookFile<'a>>,
 }
@@ -80,6 +92,8 @@ pub enum Mistake<'a> {
     Side(&'a str),
     /// One of `--book` and `--point` without the other.
     Unpaired,
+    /// The word is no format.
+    Format(&'a str),
     /// The word is no number of sessions.
     Sessions(&'a str),
     /// The word is no direction.
@@ -134,6 +148,10 @@ impl fmt::Display for Mistake<'_> {
             Mistake::Unpaired => {
                 f.write_str("error: '--book <FILE>' and '--point <CODE>' need each other\n")
             }
+            Mistake::Format(word) => write!(
+                f,
+                "error: invalid value '{word}' for '--format <FORMAT>'\n  [possible values: text, csv, json]\n"
+            ),
             Mistake::Sessions(word) => write!(
                 f,
                 "error: invalid value '{word}' for '--sessions <N>'\n  [possible values: 1 to 8]\n"
@@ -162,6 +180,18 @@ pub fn kind_named(word: &str) -> Option<ReportKind>
         "open" => Some(ReportKind::Open),
         "confirmed" => Some(ReportKind::Confirmed),
         "refused" => Some(ReportKind::Refused),
+        _ => None,
+    }
+}
+
+/// The format that a word names.
+pub fn format_named(word: &str) -> Option<Format>
+    ensures { result ≡ format_named_by word.now }
+{
+    match word {
+        "text" => Some(Format::Text),
+        "csv" => Some(Format::Csv),
+        "json" => Some(Format::Json),
         _ => None,
     }
 }

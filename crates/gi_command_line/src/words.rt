@@ -3,12 +3,12 @@ ghost use Rattle.std.specs.Prelude.{◌≡◌, IfOk, codes, false, map, option_m
 ghost use Rattle.std.specs.Result.{result_ok};
 ghost use Rattle.clap.specs.Words.{FailsBy, app_of, first_of, found_of, rows_of, rule_of, subcommand_rows_of, with_subcommand};
 ghost use Rattle.gi_command_line.specs.Asked.{explain as asks_explanation, meaning, quantity_words, report as asks_report, task_meaning};
-ghost use Rattle.gi_command_line.specs.CommandLine.{asked, asked_at_once, asked_of, audit_asked, explain_asked, hours_asked, needed as needed_rule, objections, option as option_rule, over_book, quantity_asked, report_asked, serve_asked, sessions_asked, the_audit, the_explain, the_hours, the_match, the_program, the_report, the_serve, the_simulate, value_of as value_at, word as word_rule};
+ghost use Rattle.gi_command_line.specs.CommandLine.{asked, asked_at_once, asked_of, audit_asked, explain_asked, format_asked, hours_asked, needed as needed_rule, objections, option as option_rule, over_book, quantity_asked, report_asked, serve_asked, sessions_asked, the_audit, the_explain, the_hours, the_match, the_program, the_report, the_serve, the_simulate, value_of as value_at, word as word_rule};
 
 use crate::numbers::{cycle_named, hour_named};
 use crate::request::{
-    BookFile, BookFiles, Explanation, Mistake, NamedQuantity, Report, ReportKind, Request, Service,
-    Task, kind_named,
+    BookFile, BookFiles, Explanation, Format, Mistake, NamedQuantity, Report, ReportKind, Request,
+    Service, Task, format_named, kind_named,
 };
 use crate::sessions::Sessions;
 use clap::{Arg, ArgMatches, Command, Error};
@@ -76,7 +76,8 @@ those before it are written.";
 const REPORT_HELP: &str = "\
 KIND is `open` (closed cycles that are not confirmed), `confirmed` (confirmed quantities in kWh/h,
 hour by hour) or `refused` (how many submissions of each portfolio were refused), and SIDE is `I` or
-`M`. Standard input is a script as for `simulate`, whose steps are made and not told. With --book
+`M`. Standard input is a script as for `simulate`, whose steps are made and not told. FORMAT is `text`
+in columns, `csv` with a header line, or `json` with an object a line. With --book
 and --point the side's desk is read from its book instead, standard input is not read, and `refused`
 has no lines.
 
@@ -186,6 +187,12 @@ fn with_report<'a>(alloc: Global, program: Command<'a>) -> Result<Command<'a>, A
         .arg(word(alloc, "SIDE", "I or M"))?
         .arg(option(
             alloc,
+            "format",
+            "FORMAT",
+            "text, csv or json; text where none is named",
+        ))?
+        .arg(option(
+            alloc,
             "book",
             "FILE",
             "The side's book, in place of a script",
@@ -283,18 +290,24 @@ fn hours_of<'a>(matches: &ArgMatches<'a>) -> Request<'a>
 
 fn report_over<'a>(
     kind: ReportKind,
+    format: Format,
     side: Side,
     file: Option<&'a str>,
     point: Option<&'a str>,
 ) -> Request<'a>
-    ensures { meaning result ≡ over_book (asks_report kind side) (option_map (λ s. s.now) file.entry) (option_map (λ s. s.now) point.entry) }
+    ensures { meaning result ≡ over_book (asks_report kind format side) (option_map (λ s. s.now) file.entry) (option_map (λ s. s.now) point.entry) }
 {
     let book = match (file, point) {
         (None, None) => None,
         (Some(file), Some(point)) => Some(BookFile { file, point }),
         _ => return Request::Mistaken(Mistake::Unpaired),
     };
-    Request::Report(Report { kind, side, book })
+    Request::Report(Report {
+        kind,
+        format,
+        side,
+        book,
+    })
 }
 
 fn explanation_over<'a>(
@@ -326,6 +339,15 @@ fn word_of<'a>(matches: &ArgMatches<'a>, name: &str) -> &'a str
     }
 }
 
+fn format_of(word: Option<&str>) -> Option<Format>
+    ensures { result ≡ format_asked (option_map (λ s. s.now) word.entry) }
+{
+    match word {
+        Some(word) => format_named(word),
+        None => Some(Format::Text),
+    }
+}
+
 fn report_of<'a>(matches: &ArgMatches<'a>) -> Request<'a>
     ensures { meaning result ≡ report_asked (rows_of (found_of matches.now)) }
 {
@@ -337,8 +359,13 @@ fn report_of<'a>(matches: &ArgMatches<'a>) -> Request<'a>
     let Ok(side) = side_word.parse::<Side>() else {
         return Request::Mistaken(Mistake::Side(side_word));
     };
+    let format_word = value_of(matches, "format");
+    let Some(format) = format_of(format_word) else {
+        return Request::Mistaken(Mistake::Format(format_word.unwrap_or("")));
+    };
     report_over(
         kind,
+        format,
         side,
         value_of(matches, "book"),
         value_of(matches, "point"),

@@ -44,7 +44,7 @@ abbrev pub Does : Asked → Option (List ℕ) → Option (List ℕ) → Option (
 Does match_tables remaining old new = IfSome remaining (λ input. Answers input old new)
 Does (hours day) remaining old new = TellsHours day old new
 Does simulate remaining old new = IfSome remaining (λ input. Simulates input old new)
-Does (report kind side book) remaining old new = TellsDesk (Listed kind) side book remaining old new
+Does (report kind format side book) remaining old new = TellsDesk (Listed kind format) side book remaining old new
 Does (explain side words book) remaining old new =
     (question : Question) × Asks words question × TellsDesk (Explanation question) side book remaining old new
 Does (audit initiating matching point) remaining old new = Audits point old new
@@ -55,7 +55,7 @@ abbrev pub IsFaultOf : Asked → Option (List ℕ) → Fault → Type 0
 IsFaultOf match_tables remaining why = IfSome remaining (λ input. IsFirstFault input why)
 IsFaultOf (hours day) remaining why = IsFirstHoursFault day why
 IsFaultOf simulate remaining why = IfSome remaining (λ input. IsFirstScriptFault HasScript input why)
-IsFaultOf (report kind side book) remaining why = IsDeskFault (Listed kind) side book remaining why
+IsFaultOf (report kind format side book) remaining why = IsDeskFault (Listed kind format) side book remaining why
 IsFaultOf (explain side words book) remaining why =
     (why ≡ fault.OutOfMemory) ⊎ IsQuestionFault words why
     ⊎ ((question : Question) × Asks words question × IsDeskFault (Explanation question) side book remaining why)
@@ -77,7 +77,7 @@ abbrev pub Leaves : Asked → Option (List ℕ) → Option (List ℕ) → Option
 Leaves match_tables remaining old new why = LeavesNothing old new why
 Leaves (hours day) remaining old new why = LeavesNothing old new why
 Leaves simulate remaining old new why = LeavesFront remaining old new why
-Leaves (report kind side book) remaining old new why = LeavesNothing old new why
+Leaves (report kind format side book) remaining old new why = LeavesNothing old new why
 Leaves (explain side words book) remaining old new why = LeavesNothing old new why
 Leaves (audit initiating matching point) remaining old new why = LeavesAudit point old new why
 Leaves mistaken remaining old new why = LeavesNothing old new why
@@ -87,7 +87,7 @@ abbrev pub MayRead : Asked → Option (List ℕ) → Option (List ℕ) → Type 
 MayRead match_tables old new = Unit {0}
 MayRead (hours day) old new = Keeps old new
 MayRead simulate old new = Unit {0}
-MayRead (report kind side book) old new = ReadsUnlessBook book old new
+MayRead (report kind format side book) old new = ReadsUnlessBook book old new
 MayRead (explain side words book) old new = ReadsUnlessBook book old new
 MayRead (audit initiating matching point) old new = Keeps old new
 MayRead mistaken old new = Keeps old new
@@ -97,7 +97,7 @@ abbrev pub HasNoCode : Asked → Type 0
 HasNoCode match_tables = ⊥
 HasNoCode (hours day) = ⊥
 HasNoCode simulate = ⊥
-HasNoCode (report kind side book) = HasNoPoint book
+HasNoCode (report kind format side book) = HasNoPoint book
 HasNoCode (explain side words book) = NamesNoCodes words
 HasNoCode (audit initiating matching point) = ¬ (IsCode point)
 HasNoCode mistaken = ⊥

@@ -6,6 +6,8 @@ use Rattle.gi_pairs.specs.declared.side.Side.{Side}
 use Rattle.gi_desk.specs.Machine.{DeskState, bad_fact}
 use Rattle.gi_facts.specs.declared.fact.Fact.{Fact}
 use Rattle.gi_explanations.specs.Explanation.{explanation}
+use Rattle.gi_exports.specs.Csv.{IsConfirmedCsv, IsOpenCsv, refused_text}
+use Rattle.gi_exports.specs.Json.{IsConfirmedJson, IsOpenJson, count_data, json_lines}
 use Rattle.gi_reports.specs.Confirmed.{IsConfirmedReport}
 use Rattle.gi_reports.specs.Open.{IsOpenReport}
 use Rattle.gi_reports.specs.Refused.{refused_counts, refused_lines}
@@ -16,13 +18,31 @@ use Rattle.gi_commands.specs.declared.fault.Fault.{Fault}
 use Rattle.gi_commands.specs.declared.fault.Fault.TheVariants as fault
 use Rattle.gi_commands.specs.declared.desk_report.DeskReport.{DeskReport}
 use Rattle.gi_commands.specs.declared.desk_report.DeskReport.TheVariants.{Listed, Explanation}
+use Rattle.gi_command_line.specs.declared.request.Format.TheVariants.{Text, Csv, Json}
+use Rattle.gi_command_line.specs.declared.request.ReportKind.{ReportKind}
 use Rattle.gi_command_line.specs.declared.request.ReportKind.TheVariants.{Open, Confirmed, Refused}
 
--- the report of a side's desk: a list, which may be of its refused submissions, or what a quantity comes from
+-- a list of a side's desk, or of its refused submissions: in columns, as CSV, and as JSON lines
+abbrev pub IsTextReport : ReportKind → Side → DeskState → List (Option (List ℕ)) → List ℕ → Type 0
+IsTextReport Open side s submissions text = IsOpenReport side s text
+IsTextReport Confirmed side s submissions text = IsConfirmedReport side s text
+IsTextReport Refused side s submissions text = text ≡ refused_lines (refused_counts submissions)
+
+abbrev pub IsCsvReport : ReportKind → Side → DeskState → List (Option (List ℕ)) → List ℕ → Type 0
+IsCsvReport Open side s submissions text = IsOpenCsv side s text
+IsCsvReport Confirmed side s submissions text = IsConfirmedCsv side s text
+IsCsvReport Refused side s submissions text = text ≡ refused_text (refused_counts submissions)
+
+abbrev pub IsJsonReport : ReportKind → Side → DeskState → List (Option (List ℕ)) → List ℕ → Type 0
+IsJsonReport Open side s submissions text = IsOpenJson side s text
+IsJsonReport Confirmed side s submissions text = IsConfirmedJson side s text
+IsJsonReport Refused side s submissions text = text ≡ json_lines count_data (refused_counts submissions)
+
+-- the report of a side's desk: such a list, or what a quantity comes from
 abbrev pub IsReport : DeskReport → Side → DeskState → List (Option (List ℕ)) → List ℕ → Type 0
-IsReport (Listed Open) side s submissions text = IsOpenReport side s text
-IsReport (Listed Confirmed) side s submissions text = IsConfirmedReport side s text
-IsReport (Listed Refused) side s submissions text = text ≡ refused_lines (refused_counts submissions)
+IsReport (Listed kind Text) side s submissions text = IsTextReport kind side s submissions text
+IsReport (Listed kind Csv) side s submissions text = IsCsvReport kind side s submissions text
+IsReport (Listed kind Json) side s submissions text = IsJsonReport kind side s submissions text
 IsReport (Explanation question) side s submissions text = text ≡ explanation side s question
 
 -- the desk of these facts, all saved

@@ -1,6 +1,6 @@
 //! Books in files.
 
-ghost use Rattle.std.specs.Prelude.{◌≡◌, Err, IfErr, IfOk, string_bytes};
+ghost use Rattle.std.specs.Prelude.{◌≡◌, Err, IfErr, IfOk};
 ghost use Rattle.gi_pairs.specs.Code.{IsCode};
 ghost use Rattle.gi_commands.specs.Fault.{no_code};
 ghost use Rattle.gi_commands.specs.Reporting.{HasBookReport, IsFileFault};
@@ -21,8 +21,8 @@ pub fn file_report(
     kind: DeskReport,
     side: Side,
     book: BookFile<'_>,
-) -> Result<String, Fault>
-    ensures reported { IfOk result (λ text. HasBookReport kind side book.entry.point.now (string_bytes text)) }
+) -> Result<Vec<u8>, Fault>
+    ensures reported { IfOk result (λ text. HasBookReport kind side book.entry.point.now (text.items)) }
     ensures fault { IfErr result (IsFileFault side book.entry.point.now) }
     ensures code { ¬ (IsCode book.entry.point.now) → result ≡ Err no_code }
 {

@@ -99,7 +99,7 @@ fn report_script<R: Read, W: Write>(
 {
     let bytes = read_input(alloc, input, &mut Calls::none())?;
     let text = script_report(alloc, kind, side, bytes.as_slice())?;
-    write_text(text.as_bytes(), output)
+    write_text(text.as_slice(), output)
 }
 
 fn report_book<W: Write>(
@@ -115,7 +115,7 @@ fn report_book<W: Write>(
     ensures code { ¬ (IsCode book.entry.point.now) → result ≡ Err no_code }
 {
     let text = file_report(rt, kind, side, book)?;
-    write_text(text.as_bytes(), output)
+    write_text(text.as_slice(), output)
 }
 
 /// Tells of a side's desk: of its book, or else after a script.
@@ -203,7 +203,7 @@ pub fn perform<R: Read, W: Write>(
         Request::Hours(day) => tell_hours(alloc, day, output),
         Request::Simulate => simulate_script(alloc, input, output),
         Request::Report(wanted) => {
-            let kind = DeskReport::Listed(wanted.kind);
+            let kind = DeskReport::Listed(wanted.kind, wanted.format);
             tell_desk(rt, kind, wanted.side, wanted.book, input, output)
         }
         Request::Audit(books) => audit_books(rt, books, output),

@@ -1,20 +1,21 @@
 //! What `report` writes of a script's end, and of a book.
 
-ghost use Rattle.std.specs.Prelude.{◌≡◌, IfErr, IfOk, List, string_bytes};
+ghost use Rattle.std.specs.Prelude.{◌≡◌, IfErr, IfOk, List};
 ghost use Rattle.sqlite.specs.Held.{state};
 ghost use Rattle.gi_facts.specs.declared.fact.Fact.{Fact};
 ghost use Rattle.gi_store.specs.Book.{IsRead};
 ghost use Rattle.gi_store.specs.Clean.{IsClean};
-ghost use Rattle.gi_commands.specs.Reporting.{HasBookReport, IsBookFault, IsBookReport, IsFactsFault, IsReport, IsRowsFault};
+ghost use Rattle.gi_commands.specs.Reporting.{HasBookReport, IsBookFault, IsBookReport, IsCsvReport, IsFactsFault, IsJsonReport, IsReport, IsRowsFault, IsTextReport};
 ghost use Rattle.gi_commands.specs.Simulating.{IsNoScript, IsScriptReport};
 ghost use Rattle.gi_world.specs.World.{station_of};
 
 use crate::desk_report::DeskReport;
 use crate::fault::Fault;
-use gi_command_line::ReportKind;
+use gi_command_line::{Format, ReportKind};
 use gi_day::Calendar;
 use gi_desk::{Desk, Fact, Role};
 use gi_explanations::explanation;
+use gi_exports::{confirmed_csv, confirmed_json, open_csv, open_json, refused_csv, refused_json};
 use gi_initiator::Initiating;
 use gi_matcher::Matching;
 use gi_pairs::{Code, Side};
@@ -26,19 +27,65 @@ use gi_world::World;
 use sqlite::Alter;
 use std::alloc::{AllocError, Global};
 
+fn text_report<R: Role>(
+    alloc: Global,
+    kind: ReportKind,
+    desk: &Desk<R>,
+    submissions: &[Option<Code>],
+) -> Result<Vec<u8>, AllocError>
+    ensures { IfOk result (λ text. IsTextReport kind R.SIDE desk.now submissions.now text.items) }
+{
+    let text = match kind {
+        ReportKind::Open => open_report(alloc, desk)?,
+        ReportKind::Confirmed => confirmed_report(alloc, desk)?,
+        ReportKind::Refused => refused_report(alloc, submissions)?,
+    };
+    Ok(text.into_bytes())
+}
+
+fn csv_report<R: Role>(
+    alloc: Global,
+    kind: ReportKind,
+    desk: &Desk<R>,
+    submissions: &[Option<Code>],
+) -> Result<Vec<u8>, AllocError>
+    ensures { IfOk result (λ text. IsCsvReport kind R.SIDE desk.now submissions.now text.items) }
+{
+    match kind {
+        ReportKind::Open => open_csv(alloc, desk),
+        ReportKind::Confirmed => confirmed_csv(alloc, desk),
+        ReportKind::Refused => refused_csv(alloc, submissions),
+    }
+}
+
+fn json_report<R: Role>(
+    alloc: Global,
+    kind: ReportKind,
+    desk: &Desk<R>,
+    submissions: &[Option<Code>],
+) -> Result<Vec<u8>, AllocError>
+    ensures { IfOk result (λ text. IsJsonReport kind R.SIDE desk.now submissions.now text.items) }
+{
+    match kind {
+        ReportKind::Open => open_json(alloc, desk),
+        ReportKind::Confirmed => confirmed_json(alloc, desk),
+        ReportKind::Refused => refused_json(alloc, submissions),
+    }
+}
+
 fn desk_report<R: Role>(
     alloc: Global,
     kind: DeskReport,
     desk: &Desk<R>,
     submissions: &[Option<Code>],
-) -> Result<String, AllocError>
-    ensures { IfOk result (λ text. IsReport kind R.SIDE desk.now submissions.now (string_bytes text)) }
+) -> Result<Vec<u8>, AllocError>
+    ensures { IfOk result (λ text. IsReport kind R.SIDE desk.now submissions.now (text.items)) }
 {
     match kind {
-        DeskReport::Listed(ReportKind::Open) => open_report(alloc, desk),
-        DeskReport::Listed(ReportKind::Confirmed) => confirmed_report(alloc, desk),
-        DeskReport::Listed(ReportKind::Refused) => refused_report(alloc, submissions),
-        DeskReport::Explanation(question) => explanation(alloc, desk, &question),
+        DeskReport::Listed(kind, Format::Text) => text_report(alloc, kind, desk, submissions),
+        DeskReport::Listed(kind, Format::Csv) => csv_report(alloc, kind, desk, submissions),
+        DeskReport::Listed(kind, Format::Json) => json_report(alloc, kind, desk, submissions),
+        DeskReport::Explanation(question) => Ok(explanation(alloc, desk, &question)?.into_bytes()),
     }
 }
 
@@ -48,8 +95,8 @@ fn side_report(
     side: Side,
     world: &World,
     submissions: &[Option<Code>],
-) -> Result<String, AllocError>
-    ensures { IfOk result (λ text. IsReport kind side (station_of side world.now).desk submissions.now (string_bytes text)) }
+) -> Result<Vec<u8>, AllocError>
+    ensures { IfOk result (λ text. IsReport kind side (station_of side world.now).desk submissions.now (text.items)) }
 {
     match side {
         Side::I => desk_report(alloc, kind, world.initiating(), submissions),
@@ -64,8 +111,8 @@ pub fn script_report(
     kind: DeskReport,
     side: Side,
     input: &[u8],
-) -> Result<String, Fault>
-    ensures text { IfOk result (λ text. IsScriptReport kind side input.now (string_bytes text)) }
+) -> Result<Vec<u8>, Fault>
+    ensures text { IfOk result (λ text. IsScriptReport kind side input.now (text.items)) }
     ensures fault { IfErr result (IsNoScript input.now) }
 {
     let script = read_script(alloc, input)?;
@@ -81,8 +128,8 @@ pub(crate) fn facts_report<R: Role>(
     kind: DeskReport,
     point: Code,
     facts: Vec<Fact>,
-) -> Result<String, Fault>
-    ensures reported { IfOk result (λ text. IsBookReport kind R.SIDE point facts.items (string_bytes text)) }
+) -> Result<Vec<u8>, Fault>
+    ensures reported { IfOk result (λ text. IsBookReport kind R.SIDE point facts.items (text.items)) }
     ensures fault { IfErr result (IsFactsFault R.SIDE point facts.items) }
 {
     let desk = Desk::<R>::replay(alloc, Calendar::new()?, point, facts)?;
@@ -94,12 +141,12 @@ fn replayed_report<R: Role, S: Alter>(
     kind: DeskReport,
     point: Code,
     book: &mut BookStore<S>,
-) -> Result<String, Fault>
+) -> Result<Vec<u8>, Fault>
     ensures of_rows { IsClean S.Store book.new.connection →
-        IfOk result (λ text. (facts : List Fact) × IsRead (state S.Store book.new.connection) facts × IsBookReport kind R.SIDE point facts (string_bytes text)) }
+        IfOk result (λ text. (facts : List Fact) × IsRead (state S.Store book.new.connection) facts × IsBookReport kind R.SIDE point facts (text.items)) }
     ensures refused_rows { IsClean S.Store book.new.connection →
         IfErr result (IsRowsFault R.SIDE point (state S.Store book.old.connection) (state S.Store book.new.connection)) }
-    ensures reported { IfOk result (λ text. HasBookReport kind R.SIDE point (string_bytes text)) }
+    ensures reported { IfOk result (λ text. HasBookReport kind R.SIDE point (text.items)) }
     ensures fault { IfErr result (IsBookFault R.SIDE point) }
 {
     facts_report::<R>(alloc, kind, point, book.load()?)
@@ -114,12 +161,12 @@ pub fn book_report<S: Alter>(
     side: Side,
     point: Code,
     book: &mut BookStore<S>,
-) -> Result<String, Fault>
+) -> Result<Vec<u8>, Fault>
     ensures of_rows { IsClean S.Store book.new.connection →
-        IfOk result (λ text. (facts : List Fact) × IsRead (state S.Store book.new.connection) facts × IsBookReport kind side point facts (string_bytes text)) }
+        IfOk result (λ text. (facts : List Fact) × IsRead (state S.Store book.new.connection) facts × IsBookReport kind side point facts (text.items)) }
     ensures refused_rows { IsClean S.Store book.new.connection →
         IfErr result (IsRowsFault side point (state S.Store book.old.connection) (state S.Store book.new.connection)) }
-    ensures reported { IfOk result (λ text. HasBookReport kind side point (string_bytes text)) }
+    ensures reported { IfOk result (λ text. HasBookReport kind side point (text.items)) }
     ensures fault { IfErr result (IsBookFault side point) }
 {
     match side {

@@ -30,9 +30,9 @@ pub may_want : (wanted : Wanted) (remaining : Option (List ℕ)) → IsTaskFault
 may_want (at_once match_tables) remaining = if_some remaining (λ input. IsFirstFault input fault.OutOfMemory) (λ input. tt)
 may_want (at_once (hours day)) remaining = tt
 may_want (at_once simulate) remaining = if_some remaining (λ input. IsFirstScriptFault HasScript input fault.OutOfMemory) (λ input. tt)
-may_want (at_once (report kind side None)) remaining =
-    if_some remaining (λ input. IsFirstScriptFault (HasReport (Listed kind) side) input fault.OutOfMemory) (λ input. tt)
-may_want (at_once (report kind side (Some book))) remaining = tt
+may_want (at_once (report kind format side None)) remaining =
+    if_some remaining (λ input. IsFirstScriptFault (HasReport (Listed kind format) side) input fault.OutOfMemory) (λ input. tt)
+may_want (at_once (report kind format side (Some book))) remaining = tt
 may_want (at_once (explain side words book)) remaining = inl refl
 may_want (at_once (audit initiating matching point)) remaining = inl tt
 may_want (at_once mistaken) remaining = inr refl
@@ -43,7 +43,7 @@ pub may_keep : (wanted : Wanted) (remaining old new : Option (List ℕ)) → Kee
 may_keep (at_once match_tables) remaining old new kept = kept
 may_keep (at_once (hours day)) remaining old new kept = kept
 may_keep (at_once simulate) remaining old new kept = if_some remaining (λ input. CutsShort input old new) (λ input. inl kept)
-may_keep (at_once (report kind side book)) remaining old new kept = kept
+may_keep (at_once (report kind format side book)) remaining old new kept = kept
 may_keep (at_once (explain side words book)) remaining old new kept = kept
 may_keep (at_once (audit initiating matching point)) remaining old new kept = kept
 may_keep (at_once mistaken) remaining old new kept = kept

@@ -1,6 +1,6 @@
 //! Readers and writers that fail in mid-stream, and inputs at the limit.
 
-use gi_command_line::{Report, ReportKind, Request};
+use gi_command_line::{Format, Report, ReportKind, Request};
 use gi_commands::{Fault, perform};
 use gi_pairs::Side;
 use gi_script::ScriptFault;
@@ -24,6 +24,7 @@ const SCRIPT: &str = "point BORDER-1\nI submit {}\n";
 /// The report of the initiating side's refused submissions, over a script.
 const REPORT: Request<'static> = Request::Report(Report {
     kind: ReportKind::Refused,
+    format: Format::Text,
     side: Side::I,
     book: None,
 });

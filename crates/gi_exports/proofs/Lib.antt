@@ -1,0 +1,4 @@
+pub mod ListingLemmas
+pub mod SheetLemmas
+pub mod LineLemmas
+pub mod SameLines

@@ -1,0 +1,7 @@
+use Rattle.std.proofs.lemmas.Result.{IfOk-weaker}
+use Rattle.gi_exports.specs.Json.{count_data}
+use Rattle.gi_exports.proofs.LineLemmas.{line_more}
+use Rattle.gi_exports.proofs.json_reports.with_count.Goals as goal
+
+pub returns : goal.returns
+returns c = IfOk-weaker c.ended.result _ _ (λ bytes is. line_more (count_data (c.args.code.now, c.args.count)) c.args.text.items bytes.items c.new-out.ensures.before c.new-out.ensures.tokens c.in_ok-put_count.ensures is) c.ended.ensures

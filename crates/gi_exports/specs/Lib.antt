@@ -1,0 +1,5 @@
+pub mod Lines
+pub mod Csv
+pub mod Sheet
+pub mod Json
+pub mod Laws
