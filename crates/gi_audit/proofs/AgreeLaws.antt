@@ -1,36 +1,31 @@
 -- What two desks agree on, found cycle by cycle, and what comes of it.
-use Rattle.std.proofs.Common.{◌≡◌, ◌≤◌, ◌↔◌, ◌⊎◌, inl, inr, ℕ, List, [], ◌∷◌, find, take, Contains, Bool, true, false, cond, Option, Some, None, is_some, option_map, refl, sym, ap, ◌∙◌, subst, arith, true≢false}
+use Rattle.std.proofs.Common.{◌≡◌, ◌↔◌, inl, inr, List, [], ◌∷◌, find, Bool, true, false, cond, Option, Some, None, is_some, option_map, refl, sym, ap, ◌∙◌, subst, arith, true≢false}
 use Rattle.std.proofs.lemmas.List.{take-take}
-use Rattle.gi_pairs.specs.Table.{TableContents, reading}
+use Rattle.gi_pairs.specs.Table.{TableContents}
 use Rattle.gi_pairs.specs.declared.cycle_id.CycleId.{CycleId}
 use Rattle.gi_pairs.specs.declared.side.Side.{Side}
 use Rattle.gi_pairs.specs.declared.side.Side.TheVariants.{I, M}
-use Rattle.gi_pairs.proofs.Building.{In, contains_from_in, in_from_contains}
+use Rattle.gi_pairs.proofs.Building.{In, in_from_contains}
 use Rattle.gi_lesser.specs.Lesser.{lesser_of}
 use Rattle.gi_desk.specs.History.{frozen_table, is_closed, peer_of}
 use Rattle.gi_desk.specs.Machine.{DeskState, started_again}
 use Rattle.gi_desk.specs.Queries.{confirmed}
 use Rattle.gi_desk.specs.Writable.{FitsDesk}
 use Rattle.gi_desk.proofs.Confirmed.{met_closed}
-use Rattle.gi_desk.proofs.Legality.{legal-front}
 use Rattle.gi_facts.specs.declared.fact.Fact.{Fact}
-use Rattle.gi_world.specs.Agreement.{FitsWorld, IsLegal, IsSound, MeetsAfter, MeetsFrozen, saved_facts}
-use Rattle.gi_world.specs.Confirming.{ConfirmsAtBoth, ConfirmsTheLower, ReadAlike}
-use Rattle.gi_world.specs.World.{WorldState, other, station_of}
+use Rattle.gi_world.specs.Agreement.{FitsWorld, IsLegal, MeetsAfter, MeetsFrozen, saved_facts}
+use Rattle.gi_world.specs.Confirming.{ConfirmsAtBoth, ConfirmsTheLower}
+use Rattle.gi_world.specs.World.{other, station_of}
 use Rattle.gi_world.proofs.ConfirmedLaws.{HaveMetFrozen, confirms-lower}
-use Rattle.gi_world.proofs.Fronts.{front-frozen, front-met, front-take, saved-front}
-use Rattle.gi_world.proofs.Meetings.{some_in}
-use Rattle.gi_audit.specs.Agreeing.{Agree, ConfirmOneQuantity, world_of}
+use Rattle.gi_world.proofs.Fronts.{front-frozen, front-met, saved-front}
+use Rattle.gi_audit.specs.Agreeing.{Agree, world_of}
 use Rattle.gi_audit.specs.Audit.{first_difference}
 use Rattle.gi_audit.specs.Cycles.{AreClosedAtEither}
 use Rattle.gi_audit.specs.Finding.{differs}
 use Rattle.gi_audit.specs.Laws.{AgreeingDesksConfirmOneQuantity, WorldsAgree}
-use Rattle.gi_audit.proofs.FindingLemmas.{AgreeAt, IsWritten, agrees-at}
+use Rattle.gi_audit.proofs.FindingLemmas.{AgreeAt, agrees-at}
 
 -- ---- all cycles
-
-
-
 
 -- what is not closed is not met
 not_met : (side : Side) (s : DeskState) (id : CycleId) (table : TableContents) → IsLegal side s → is_closed id s.facts ≡ false → peer_of id s.facts ≡ Some table → ⊥

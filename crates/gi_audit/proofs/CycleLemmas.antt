@@ -113,9 +113,9 @@ either-closed s t ours theirs sorted ids are_ours are_theirs moved in_order kept
     closed : (id : CycleId) → Contains ids id ↔ ((is_closed id s.facts ≡ true) ⊎ (is_closed id t.facts ≡ true))
     closed id = (
       λ there.
-      ⊎_elim (λ here. inl (from_ids id s.facts ours are_ours here)) (λ here. inr (from_ids id t.facts theirs are_theirs here))
-      (Contains-append_cases ours theirs id (out_of id there)),
+          ⊎_elim (λ here. inl (from_ids id s.facts ours are_ours here)) (λ here. inr (from_ids id t.facts theirs are_theirs here))
+          (Contains-append_cases ours theirs id (out_of id there)),
       λ is.
-      ⊎_elim (λ here. into id (Contains-append_left ours theirs id (to_ids id s.facts ours are_ours here)))
-      (λ here. into id (Contains-append_right ours theirs id (to_ids id t.facts theirs are_theirs here))) is,
+          ⊎_elim (λ here. into id (Contains-append_left ours theirs id (to_ids id s.facts ours are_ours here)))
+          (λ here. into id (Contains-append_right ours theirs id (to_ids id t.facts theirs are_theirs here))) is,
     )

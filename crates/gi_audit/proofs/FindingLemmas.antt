@@ -1,5 +1,5 @@
 -- Where nothing is found to differ.
-use Rattle.std.proofs.Common.{◌≡◌, ◌↔◌, ℕ, Bool, true, false, cond, Option, Some, None, is_some, refl, sym, ap, ◌∙◌, subst, true≢false}
+use Rattle.std.proofs.Common.{◌≡◌, ◌↔◌, ℕ, Bool, true, false, cond, Option, Some, None, refl, ap, subst, true≢false}
 use Rattle.gi_pairs.specs.Table.{TableContents, table_eq}
 use Rattle.gi_pairs.specs.declared.cycle_id.CycleId.{CycleId}
 use Rattle.gi_pairs.specs.declared.side.Side.{Side}
@@ -9,7 +9,7 @@ use Rattle.gi_desk.specs.History.{frozen_table, is_closed, is_closing, is_meetin
 use Rattle.gi_desk.specs.Machine.{DeskState}
 use Rattle.gi_desk.specs.Queries.{confirmed}
 use Rattle.gi_world.specs.Agreement.{saved_facts}
-use Rattle.gi_audit.specs.Finding.{against, against_by, closing_within, difference, difference_of, difference_with, differs, finding, found_by, is_difference, undisputed}
+use Rattle.gi_audit.specs.Finding.{against, against_by, difference, difference_of, difference_with, differs, finding, found_by, is_difference, undisputed}
 use Rattle.gi_audit.specs.Sent.{has_sent, sent_table}
 use Rattle.gi_audit.specs.declared.difference.Against.{Against}
 use Rattle.gi_audit.specs.declared.difference.Against.TheVariants.{Closed}
@@ -103,9 +103,9 @@ agrees-at s t id =
     let second = difference I M s t id in
     let other = undisputed (confirmed I s id) (confirmed M t id) in (
       λ e.
-      let none = none_of_both first second other e in
-      record { matching_met = (no-difference M I t s id).0 none.0; initiating_met = (no-difference I M s t id).0 none.1 },
+          let none = none_of_both first second other e in
+          record { matching_met = (no-difference M I t s id).0 none.0; initiating_met = (no-difference I M s t id).0 none.1 },
       λ agree.
-      of_none first second other ((no-difference M I t s id).1 agree.matching_met) ((no-difference I M s t id).1 agree.initiating_met)
-      (undisputed_is (confirmed I s id) (confirmed M t id)),
+          of_none first second other ((no-difference M I t s id).1 agree.matching_met) ((no-difference I M s t id).1 agree.initiating_met)
+          (undisputed_is (confirmed I s id) (confirmed M t id)),
     )

@@ -6,3 +6,4 @@ pub mod CycleLemmas
 pub mod TotalLemmas
 pub mod LineLemmas
 pub mod AgreeLaws
+pub mod RunLemmas

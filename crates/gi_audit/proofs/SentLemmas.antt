@@ -1,5 +1,5 @@
 -- What a desk lets out again of a cycle, as its peer reads it.
-use Rattle.std.proofs.Common.{◌≡◌, ◌<◌, ◌≤◌, ℕ, List, [], ◌∷◌, ◌++◌, filter, find, Bool, true, false, cond, nat_le, length, Option, Some, None, is_some, refl, sym, ap, ◌∙◌, subst, arith, le-leb, leb-true, true≢false}
+use Rattle.std.proofs.Common.{◌≡◌, ◌<◌, ◌≤◌, ℕ, List, [], ◌∷◌, ◌++◌, filter, find, Bool, true, false, cond, nat_le, length, Option, Some, None, is_some, refl, sym, ap, ◌∙◌, subst, le-leb, leb-true, true≢false}
 use Rattle.std.proofs.lemmas.Bool.{leb-false, lt-leb}
 use Rattle.std.specs.Prelude.{slice_get}
 use Rattle.std.specs.List.{list_any}
@@ -10,15 +10,13 @@ use Rattle.gi_pairs.specs.declared.cycle_id.CycleId.{CycleId}
 use Rattle.gi_pairs.specs.declared.side.Side.{Side}
 use Rattle.gi_pairs.specs.declared.side.Side.TheVariants.{I, M}
 use Rattle.gi_messages.specs.Decoding.{decoded}
-use Rattle.gi_messages.specs.declared.message.Message.{Message}
 use Rattle.gi_messages.specs.declared.message.Message.TheVariants as messages
-use Rattle.gi_messages.specs.declared.message_fault.MessageFault.{MessageFault}
 use Rattle.gi_cycles.specs.States.{matched_of}
 use Rattle.gi_cycles.specs.declared.cycle_state.CycleState.TheVariants.{Matched}
 use Rattle.gi_desk.specs.History.{frozen_cycle, frozen_table, is_closed, is_closing, is_meeting, met_by, number_of, peer_of, state_of}
-use Rattle.gi_desk.specs.LetOut.{IsFact, let_out, let_out_on_closing, sent}
+use Rattle.gi_desk.specs.LetOut.{IsFact, let_out, let_out_on_closing}
 use Rattle.gi_desk.specs.Machine.{DeskState, is_for_peer, out_of, outcome, reply, saved_out, unless_full}
-use Rattle.gi_desk.specs.Messages.{on_met, order_of, response_of, to_peer}
+use Rattle.gi_desk.specs.Messages.{order_of, response_of, to_peer}
 use Rattle.gi_desk.specs.Writable.{FitsDesk, FitsState}
 use Rattle.gi_desk.specs.declared.call.Call.TheVariants.{Resend}
 use Rattle.gi_desk.specs.declared.outcome.Outcome.TheVariants.{Refuses, Resends}
@@ -28,7 +26,7 @@ use Rattle.gi_facts.specs.declared.fact.Fact.{Fact}
 use Rattle.gi_facts.specs.declared.fact.Fact.TheVariants.{Closed, Met}
 use Rattle.gi_desk.proofs.Confirmed.{met_closed}
 use Rattle.gi_desk.proofs.Legality.{legal-front}
-use Rattle.gi_desk.proofs.LettingOut.{closing_for_peer, fact_closes, fact_meets, meeting_for_peer}
+use Rattle.gi_desk.proofs.LettingOut.{closing_for_peer, fact_meets, meeting_for_peer}
 use Rattle.gi_desk.proofs.StateLaws.{any-more, state-closed}
 use Rattle.gi_world.specs.Agreement.{IsLegal, saved_facts}
 use Rattle.gi_world.proofs.DeliveredPackets.{closed_fits, frozen_fits, order_reads, ordered_by, response_reads, unanswered_by}

@@ -1,16 +1,14 @@
 -- Sums of quantities fit.
-use Rattle.std.proofs.Common.{◌≡◌, ◌<◌, ◌≤◌, ◌+◌, ◌*◌, ◌^◌, ℕ, List, length, take, get_or, sum, All, Bool, true, false, cond, nat_eq, refl, sym, ap, ◌∙◌, arith}
+use Rattle.std.proofs.Common.{◌≡◌, ◌<◌, ◌≤◌, ◌+◌, ◌*◌, ◌^◌, ℕ, List, length, take, get_or, sum, All, Bool, true, false, cond, nat_eq, ap, ◌∙◌, arith}
 use Rattle.std.specs.List.{sum_by}
-use Rattle.std.proofs.lemmas.List.Elements.{All-weaker}
-use Rattle.std.proofs.lemmas.List.Sums.{sum_by-le, sum_by_more, sum_by_more_le}
+use Rattle.std.proofs.lemmas.List.Sums.{sum_by-le, sum_by_more_le}
 use Rattle.gi_pairs.specs.Direction.{place_of}
-use Rattle.gi_pairs.specs.Limits.{last_hour, most_rows}
+use Rattle.gi_pairs.specs.Limits.{last_hour}
 use Rattle.gi_pairs.specs.Quantity.{IsQuantity, most_quantity}
-use Rattle.gi_pairs.specs.Row.{IsRow}
 use Rattle.gi_pairs.specs.Table.{IsTable, TableContents, covered}
 use Rattle.gi_pairs.specs.declared.direction.Direction.{Direction}
 use Rattle.gi_pairs.specs.declared.row.Row.{Row}
-use Rattle.gi_audit.specs.Finding.{row_total, total}
+use Rattle.gi_audit.specs.Finding.{row_total}
 
 -- what all hours of a row have at most
 abbrev most_of_row : ℕ

@@ -1,5 +1,5 @@
 -- What a side has written to its peer of the table that it froze.
-use Rattle.std.specs.Prelude.{Bool, is_some, if◌then◌else◌, Option, Some, None, Result, Ok, Err}
+use Rattle.std.specs.Prelude.{Bool, is_some, if◌then◌else◌, Option, Some, None, Result, Ok}
 use Rattle.gi_pairs.specs.Table.{TableContents}
 use Rattle.gi_pairs.specs.declared.cycle_id.CycleId.{CycleId}
 use Rattle.gi_pairs.specs.declared.side.Side.{Side}

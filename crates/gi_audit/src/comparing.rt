@@ -90,8 +90,5 @@ pub(crate) fn found_at(
     if let Some(found) = difference(alloc, initiating, matching, id)? {
         return Ok(Finding::Differs(found));
     }
-    Ok(undisputed(
-        initiating.confirmed(*id),
-        matching.confirmed(*id),
-    ))
+    Ok(undisputed(initiating.confirmed(*id), matching.confirmed(*id)))
 }

@@ -22,8 +22,10 @@ mod finding;
 mod knowing;
 mod laws;
 mod meeting;
+mod running;
 mod sending;
 mod total;
 
 pub use auditing::{Audited, audit};
 pub use laws::{agreeing_desks_confirm_one_quantity, worlds_agree};
+pub use running::audit_run;

@@ -19,10 +19,7 @@ fn peer_at<'a, R: Role>(desk: &'a Desk<R>, n: u32, id: &CycleId) -> Option<&'a T
 }
 
 /// The table that the desk met of the cycle, with the number of the fact that met it.
-pub(crate) fn met_table<'a, R: Role>(
-    desk: &'a Desk<R>,
-    id: &CycleId,
-) -> Option<(u32, &'a Table)>
+pub(crate) fn met_table<'a, R: Role>(desk: &'a Desk<R>, id: &CycleId) -> Option<(u32, &'a Table)>
     ensures table { option_map (λ it. it.1.now) result ≡ peer_of id.now desk.now.facts }
     ensures number { IfSome result (λ it. it.0 ≡ number_of (is_meeting id.now) desk.now.facts) }
 {

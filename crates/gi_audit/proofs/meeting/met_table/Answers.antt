@@ -1,4 +1,4 @@
-use Rattle.std.proofs.Common.{◌≡◌, ◌+◌, ◌<◌, ◌∙◌, None, Some, ap, arith, length, sym}
+use Rattle.std.proofs.Common.{◌≡◌, ◌+◌, ◌<◌, ◌∙◌, Some, ap, arith, length, sym}
 use Rattle.std.specs.Option.{option_and_then, option_copied}
 use Rattle.gi_desk.specs.History.{peer_in}
 use Rattle.gi_desk.specs.Queries.{fact_at}

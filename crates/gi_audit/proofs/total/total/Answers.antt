@@ -1,4 +1,4 @@
-use Rattle.std.proofs.Common.{◌≡◌, ◌<◌, ◌+◌, ◌^◌, ◌∙◌, List, ap, arith, get_or, length, subst, sym, take}
+use Rattle.std.proofs.Common.{◌≡◌, ◌<◌, ◌+◌, ◌^◌, ◌∙◌, List, ap, arith, get_or, length, subst, take}
 use Rattle.std.specs.List.{sum_by}
 use Rattle.gi_pairs.specs.declared.row.Row.{Row}
 use Rattle.gi_audit.specs.Finding.{row_total}
