@@ -1,5 +1,6 @@
 use crate::fault::Fault;
 use crate::subject::Subject;
+use std::mem::ManuallyDrop;
 
 /// Whether a line of cases is a call: a line that is empty, or a comment, or an answer is none.
 fn is_call(line: &str) -> bool {
@@ -39,14 +40,14 @@ fn add_line<S: Subject>(
 }
 
 /// The cases, each call with what it answers now.
-pub fn answered<S: Subject>(
-    rt: &HostRuntime,
-    mut subject: S,
-    cases: &str,
-) -> Result<String, Fault> {
+///
+/// The subject is kept until the program ends: no call is left to see how it is let go, and with a
+/// database or a desk in it that is dear to prove.
+pub fn answered<S: Subject>(rt: &HostRuntime, subject: S, cases: &str) -> Result<String, Fault> {
+    let mut kept = unsafe { ManuallyDrop::new_unchecked(subject) };
     let mut text = String::new(rt.alloc());
     for line in cases.lines() {
-        add_line(rt, &mut subject, line, &mut text)?;
+        add_line(rt, &mut *kept, line, &mut text)?;
     }
     Ok(text)
 }

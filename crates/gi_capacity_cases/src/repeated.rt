@@ -7,7 +7,6 @@ use std::fmt::Write;
 
 /// A subject whose calls can be repeated: `each 1-64 CALL` makes the call for each of the numbers,
 /// which stands in it in place of `#`. Equal answers in a row are one, behind their numbers.
-#[derive(Drop)]
 pub struct Repeated<S: Subject> {
     subject: S,
 }
