@@ -44,6 +44,7 @@ fn add_line<S: Subject>(
 /// The subject is kept until the program ends: no call is left to see how it is let go, and with a
 /// database or a desk in it that is dear to prove.
 pub fn answered<S: Subject>(rt: &HostRuntime, subject: S, cases: &str) -> Result<String, Fault> {
+    // `ManuallyDrop::new` asks for a type that may be let go, whose drop is then proved here.
     let mut kept = unsafe { ManuallyDrop::new_unchecked(subject) };
     let mut text = String::new(rt.alloc());
     for line in cases.lines() {
