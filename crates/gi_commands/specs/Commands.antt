@@ -98,6 +98,6 @@ HasNoCode match_tables = ⊥
 HasNoCode (hours day) = ⊥
 HasNoCode simulate = ⊥
 HasNoCode (report kind format side book) = HasNoPoint book
-HasNoCode (explain side words book) = NamesNoCodes words
+HasNoCode (explain side words book) = NamesNoCodes words ⊎ ((question : Question) × Asks words question × HasNoPoint book)
 HasNoCode (audit initiating matching point) = ¬ (IsCode point)
 HasNoCode mistaken = ⊥

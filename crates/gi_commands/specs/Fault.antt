@@ -13,7 +13,8 @@ use Rattle.gi_world.specs.declared.start_fault.StartFault.TheVariants as start
 use Rattle.gi_commands.specs.declared.fault.Fault.{Fault}
 use Rattle.gi_commands.specs.declared.fault.Fault.TheVariants.{BadFact, Calendar, Code, CommandLine, OutOfMemory, Script, Store}
 
--- 2 is a wrong command line, 3 a book that failed or is none, 4 want of memory, and 1 refused input or a writer that failed
+-- 2 is a wrong command line, 3 a book that failed or is none, 4 want of memory, and 1 refused input, a reader or a writer that
+-- failed, or books that differ
 abbrev pub status_of : Fault → ℕ
 status_of CommandLine = 2
 status_of (Store why) = 3

@@ -4,7 +4,6 @@ ghost use Rattle.gi_pairs.specs.Code.{IsCode};
 ghost use Rattle.gi_command_line.specs.Asked.{book_of, explain as asks_explanation, meaning, quantity_words};
 ghost use Rattle.gi_commands.specs.Auditing.{Audits, IsFirstAuditFault, LeavesAudit};
 ghost use Rattle.gi_commands.specs.Commands.{Does, HasNoCode, HasNoPoint, IsDeskFault, IsFaultOf, Leaves, LeavesFront, LeavesNothing, MayRead, ReadsUnlessBook, TellsDesk};
-ghost use Rattle.gi_commands.specs.Explaining.{NamesNoCodes};
 ghost use Rattle.gi_commands.specs.Fault.{no_code};
 ghost use Rattle.gi_commands.specs.Hours.{IsFirstHoursFault, TellsHours};
 ghost use Rattle.gi_commands.specs.Match.{Answers, IsFirstFault};
@@ -150,7 +149,7 @@ fn explain<R: Read, W: Write>(
     ensures first { IfErr result (IsFaultOf (asks_explanation wanted.entry.side (quantity_words wanted.entry.quantity) (book_of wanted.entry.book)) (R.remaining input.old)) }
     ensures leaves { IfErr result (LeavesNothing (W.contents output.old) (W.contents output.new)) }
     ensures unread { ReadsUnlessBook (book_of wanted.entry.book) (R.remaining input.old) (R.remaining input.new) }
-    ensures code { NamesNoCodes (quantity_words wanted.entry.quantity) → result ≡ Err no_code }
+    ensures code { HasNoCode (asks_explanation wanted.entry.side (quantity_words wanted.entry.quantity) (book_of wanted.entry.book)) → result ≡ Err no_code }
 {
     let question = question(wanted.quantity)?;
     tell_desk(
@@ -182,8 +181,9 @@ fn audit_books<W: Write>(
 }
 
 /// Does what a request asks for, and answers the fault, if any: after a fault nothing is written,
-/// unless memory ran out in a script's step or the writer failed, and then perhaps a part. `Write`,
-/// where the writer fails, comes after every other fault. `match` works in several threads.
+/// unless memory ran out in a script's step or the writer failed, and then perhaps a part, or books
+/// differ, and then their audit. `Write`, where the writer fails, comes after every other fault but
+/// those two. `match` works in several threads.
 pub fn perform<R: Read, W: Write>(
     rt: &HostRuntime,
     threads: &(impl Threads + Sync),

@@ -1,9 +1,10 @@
 //! The quantity that the words of `explain` name.
 
-ghost use Rattle.std.specs.Prelude.{◌≡◌, Err, IfErr, IfOk};
+ghost use Rattle.std.specs.Prelude.{◌≡◌, Err, IfErr, IfOk, IsOk};
 ghost use Rattle.gi_command_line.specs.Asked.{quantity_words};
 ghost use Rattle.gi_commands.specs.Explaining.{Asks, IsQuestionFault, NamesNoCodes};
 ghost use Rattle.gi_commands.specs.Fault.{no_code};
+ghost use Rattle.gi_explanations.specs.declared.question.Question.{Question as QuestionContents};
 
 use crate::fault::Fault;
 use gi_command_line::NamedQuantity;
@@ -17,6 +18,7 @@ pub(crate) fn question(words: NamedQuantity<'_>) -> Result<Question, Fault>
     ensures asked { IfOk result (Asks (quantity_words words.entry)) }
     ensures fault { IfErr result (IsQuestionFault (quantity_words words.entry)) }
     ensures code { NamesNoCodes (quantity_words words.entry) → result ≡ Err no_code }
+    ensures read { (q : QuestionContents) → Asks (quantity_words words.entry) q → IsOk result }
 {
     let initiating = Code::read(words.initiating)?;
     let matching = Code::read(words.matching)?;

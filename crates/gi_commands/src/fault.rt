@@ -68,7 +68,7 @@ pub enum Fault {
     /// The input is no script.
     #[error("{0}")]
     Script(ScriptFault),
-    /// The point of a book is no code.
+    /// The point of a book, or a portfolio of `explain`, is no code.
     #[error("{0}")]
     Code(CodeText),
     /// The file is no book of version 1, or it failed.
@@ -80,7 +80,8 @@ pub enum Fault {
     /// Two books differ. What differs is written.
     #[error("Differs")]
     Differs,
-    /// A writer failed. It comes after all other faults, but want of memory in a script's step.
+    /// A writer failed. It comes after all other faults, but want of memory in a script's step, and
+    /// `Differs`.
     #[error("Write")]
     Write,
     /// An allocation was refused.

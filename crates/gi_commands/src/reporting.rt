@@ -1,4 +1,4 @@
-//! What `report` writes of a script's end, and of a book.
+//! What `report` and `explain` write of a script's end, and of a book.
 
 ghost use Rattle.std.specs.Prelude.{◌≡◌, IfErr, IfOk, List};
 ghost use Rattle.sqlite.specs.Held.{state};

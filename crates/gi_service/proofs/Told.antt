@@ -18,6 +18,7 @@ first_command sessions input fault.Read h = h
 first_command sessions input fault.TooLarge h = h
 first_command sessions input fault.Lines h = h
 first_command sessions input fault.ShapeDiffers h = h
+first_command sessions input fault.Differs h = h
 first_command sessions input fault.OutOfMemory h = h
 first_command sessions input (fault.Message line why) h = h
 first_command sessions input (fault.WrongKind line) h = h
