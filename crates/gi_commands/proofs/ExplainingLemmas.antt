@@ -1,11 +1,11 @@
 -- The question that words ask, from what was read of each.
-use Rattle.std.proofs.Common.{◌≡◌, ◌⊎◌, ap₂, inl, inr, ℕ, List}
+use Rattle.std.proofs.Common.{◌≡◌, ap₂, ℕ, List}
 use Rattle.jiff_core.specs.declared.civil.date.Date.{Date}
 use Rattle.gi_day.specs.Day.{IsDayText, IsGasYear}
 use Rattle.gi_pairs.specs.Code.{IsCode}
 use Rattle.gi_command_line.specs.Asked.{QuantityWords}
 use Rattle.gi_explanations.specs.declared.question.Question.{Question}
-use Rattle.gi_commands.specs.Explaining.{Asks, NamesNoCodes}
+use Rattle.gi_commands.specs.Explaining.{Asks}
 
 -- the question of two codes and a day
 abbrev of_parts : QuantityWords → Date → List ℕ → List ℕ → Question
@@ -27,8 +27,3 @@ asks-of_parts words day initiating matching first second named = record {
   named = named.1;
   asked = ap₂ (of_parts words day) first.1 second.1;
 }
-
--- words that name a portfolio that is none ask no question
-pub asks-codes : (words : QuantityWords) (question : Question) → Asks words question → ¬ (NamesNoCodes words)
-asks-codes words question asks (inl no) = no asks.initiating
-asks-codes words question asks (inr no) = no asks.matching

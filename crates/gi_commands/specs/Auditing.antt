@@ -3,31 +3,35 @@ use Rattle.std.specs.Prelude.{◌≡◌, ◌⊎◌, ℕ, List, Option, None, Som
 use Rattle.std.specs.Io.KnownBytes.{Appends, Keeps}
 use Rattle.gi_pairs.specs.Code.{IsCode}
 use Rattle.gi_pairs.specs.declared.cycle_id.CycleId.{CycleId}
-use Rattle.gi_pairs.specs.declared.side.Side.{Side}
 use Rattle.gi_pairs.specs.declared.side.Side.TheVariants.{I, M}
 use Rattle.gi_facts.specs.declared.fact.Fact.{Fact}
-use Rattle.gi_desk.specs.Machine.{DeskState, bad_fact}
+use Rattle.gi_desk.specs.Machine.{bad_fact}
 use Rattle.gi_audit.specs.Agreeing.{ConfirmOneQuantity}
 use Rattle.gi_audit.specs.Audit.{IsAudit}
 use Rattle.gi_commands.specs.Reporting.{IsBookFault, desk_of}
 use Rattle.gi_commands.specs.declared.fault.Fault.{Fault}
 use Rattle.gi_commands.specs.declared.fault.Fault.TheVariants as fault
 
--- a desk that some facts make, all of which are saved
-pub record IsOfBook (side : Side) (point : List ℕ) (s : DeskState) : Type 0 where
-  pub facts : List Fact
-  pub legal : bad_fact side point facts ≡ None
-  pub made : s ≡ desk_of point facts
+-- The audit of the facts of two books, the initiating operator's and the matching one's, and its first difference. Each
+-- makes a desk. Where there is no difference, the two confirm one quantity: what either has confirmed is the lower of what
+-- both froze.
+pub record IsFactsAudit (point : List ℕ) (initiating matching : List Fact) (text : List ℕ) (first : Option CycleId) : Type 0 where
+  pub legal : bad_fact I point initiating ≡ None
+  pub legal_too : bad_fact M point matching ≡ None
+  pub audited : IsAudit (desk_of point initiating) (desk_of point matching) text first
+  pub one_quantity : first ≡ None → ConfirmOneQuantity (desk_of point initiating) (desk_of point matching)
 
--- The audit of the desks that two books make, and its first difference. Where there is none, the two books confirm one
--- quantity: what either has confirmed is the lower of what both froze.
-pub record HasAudit (point text : List ℕ) (first : Option CycleId) : Type 0 where
-  pub initiating : DeskState
-  pub matching : DeskState
-  pub of_initiating : IsOfBook I point initiating
-  pub of_matching : IsOfBook M point matching
-  pub audited : IsAudit initiating matching text first
-  pub one_quantity : first ≡ None → ConfirmOneQuantity initiating matching
+-- why facts have no audit, the first: the initiating operator's make no desk, or the matching one's do not; or memory ran
+-- out
+abbrev pub IsNoFactsAudit : List ℕ → List Fact → List Fact → Fault → Type 0
+IsNoFactsAudit point initiating matching (fault.BadFact n) =
+    (bad_fact I point initiating ≡ Some n) ⊎ ((bad_fact I point initiating ≡ None) × (bad_fact M point matching ≡ Some n))
+IsNoFactsAudit point initiating matching fault.OutOfMemory = Unit {0}
+IsNoFactsAudit point initiating matching _ = ⊥
+
+-- the audit of some facts
+abbrev pub HasAudit : List ℕ → List ℕ → Option CycleId → Type 0
+HasAudit point text first = (initiating matching : List Fact) × IsFactsAudit point initiating matching text first
 
 -- the books agree, and their audit is what the output has gained
 abbrev pub Audits : List ℕ → Option (List ℕ) → Option (List ℕ) → Type 0

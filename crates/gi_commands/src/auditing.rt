@@ -2,38 +2,47 @@
 
 ghost use Rattle.std.specs.Prelude.{◌≡◌, Err, IfErr, IfOk, string_bytes};
 ghost use Rattle.gi_pairs.specs.Code.{IsCode};
-ghost use Rattle.gi_commands.specs.Auditing.{HasAudit, IsNoAudit, IsOfBook};
+ghost use Rattle.gi_commands.specs.Auditing.{HasAudit, IsFactsAudit, IsNoAudit, IsNoFactsAudit};
 ghost use Rattle.gi_commands.specs.Fault.{no_code};
-ghost use Rattle.gi_commands.specs.Reporting.{IsBookFault};
 
 use crate::fault::Fault;
 use gi_audit::{Audited, audit};
 use gi_command_line::BookFiles;
 use gi_day::Calendar;
-use gi_desk::{Desk, Role};
+use gi_desk::{Desk, Fact};
 use gi_files::facts_of_file;
 use gi_initiator::Initiating;
 use gi_matcher::Matching;
 use gi_pairs::{Code, CodeText};
+use std::alloc::Global;
 
-/// The desk that a book in a file makes. A file that is not there is `Store`, and is not made.
-fn desk_of_file<R: Role>(rt: &HostRuntime, point: Code, file: &str) -> Result<Desk<R>, Fault>
-    ensures made { IfOk result (λ desk. IsOfBook R.SIDE point desk) }
-    ensures fault { IfErr result (IsBookFault R.SIDE point) }
+/// The audit of the facts of two books. `BadFact` for the first fact that no desk of the initiating
+/// side and point records after those before it, and then for that of the matching side; and
+/// `OutOfMemory`.
+pub fn facts_audit(
+    alloc: Global,
+    point: Code,
+    initiating: Vec<Fact>,
+    matching: Vec<Fact>,
+) -> Result<Audited, Fault>
+    ensures audited { IfOk result (λ it. IsFactsAudit point initiating.items matching.items (string_bytes it.text) it.first) }
+    ensures fault { IfErr result (IsNoFactsAudit point initiating.items matching.items) }
 {
-    let facts = facts_of_file(rt, file)?;
-    Ok(Desk::<R>::replay(rt.alloc(), Calendar::new()?, point, facts)?)
+    let initiating = Desk::<Initiating>::replay(alloc, Calendar::new()?, point, initiating)?;
+    let matching = Desk::<Matching>::replay(alloc, Calendar::new()?, point, matching)?;
+    Ok(audit(alloc, &initiating, &matching)?)
 }
 
 /// The audit of both operators' books. `CodeText` where the point is no code, whatever the files
-/// are; then the faults of the initiating operator's book, and those of the matching one's.
+/// are; then what is wrong with the initiating operator's file, and with the matching one's; then the
+/// faults of their facts.
 pub fn file_audit(rt: &HostRuntime, books: BookFiles<'_>) -> Result<Audited, Fault>
     ensures audited { IfOk result (λ it. HasAudit books.entry.point.now (string_bytes it.text) it.first) }
     ensures fault { IfErr result (IsNoAudit books.entry.point.now) }
     ensures code { ¬ (IsCode books.entry.point.now) → result ≡ Err no_code }
 {
     let point = Code::read(books.point)?;
-    let initiating = desk_of_file::<Initiating>(rt, point, books.initiating)?;
-    let matching = desk_of_file::<Matching>(rt, point, books.matching)?;
-    Ok(audit(rt.alloc(), &initiating, &matching)?)
+    let initiating = facts_of_file(rt, books.initiating)?;
+    let matching = facts_of_file(rt, books.matching)?;
+    facts_audit(rt.alloc(), point, initiating, matching)
 }

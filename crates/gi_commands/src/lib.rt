@@ -16,6 +16,7 @@ mod matching;
 mod reporting;
 mod simulating;
 
+pub use auditing::facts_audit;
 pub use commands::perform;
 pub use desk_report::DeskReport;
 pub use fault::{Fault, Line};
