@@ -19,7 +19,7 @@ use std::convert::AsStr;
 const PROGRAM_HELP: &str = "\
 With no command `match` is meant. A fault is one line on standard error, `gi_dispatch: ` and its
 name (a wrong command line is told in more words), and nothing on standard output, unless memory or
-a writer fails, or an office that runs gives up.
+a writer fails, an office that runs gives up, or books differ.
 
 Exit status: 0 done, 1 refused input, a reader or writer that failed, or offices or books that do
 not agree, 2 wrong command line, 3 a book that failed or is none, 4 want of memory.
@@ -76,10 +76,9 @@ those before it are written.";
 const REPORT_HELP: &str = "\
 KIND is `open` (closed cycles that are not confirmed), `confirmed` (confirmed quantities in kWh/h,
 hour by hour) or `refused` (how many submissions of each portfolio were refused), and SIDE is `I` or
-`M`. Standard input is a script as for `simulate`, whose steps are made and not told. FORMAT is `text`
-in columns, `csv` with a header line, or `json` with an object a line. With --book
-and --point the side's desk is read from its book instead, standard input is not read, and `refused`
-has no lines.
+`M`. FORMAT is `text` in columns, `csv` with a header line, or `json` with an object a line. Standard
+input is a script as for `simulate`, whose steps are made and not told. With --book and --point the
+side's desk is read from its book instead, standard input is not read, and `refused` has no lines.
 
 Faults: those of `simulate`. With a book, the first of: CodeText (CODE is no code), Version, Gap N,
 Damaged N or Store (the file is not there, is no database, or fails), BadFact N (no desk records
@@ -100,14 +99,15 @@ Faults, the first of: CodeText (INITIATING or MATCHING is no code), DayText or D
 
 const AUDIT_HELP: &str = "\
 Compares the books of both operators, as an outsider would: it trusts neither, and makes each
-side's desk from its facts. Standard output gets a line for each cycle that either has closed:
-agreed, with the sum of its confirmed quantities by direction in kWh; open at one side or both; or
-what differs, with the numbers of the facts. The last line is `agreed` (exit status 0), or `differs
-at DAY CYCLE` for the first cycle that differs (exit status 1). Standard input is not read.
+side's desk from its facts. The books have to be of one moment, when no office runs. Standard output
+gets a line for each cycle that either has closed: agreed, with the sum of its confirmed quantities
+by direction in kWh; open at I or at both; or what differs, with the numbers of the facts. The last
+line is `agreed` (exit status 0), or `differs at DAY CYCLE` for the first cycle that differs (exit
+status 1). Standard input is not read.
 
-Faults, the first of: CodeText (CODE is no code); for the initiating operator's book and then for
-the matching one's, Version, Gap N, Damaged N, Store or BadFact N, as for `report`; Write; Differs,
-once the lines are written.";
+Faults, the first of: CodeText (CODE is no code); Version, Gap N, Damaged N or Store, as for
+`report`, of the initiating operator's book, then of the matching one's; BadFact N of the one, then
+of the other; Write; Differs, once the lines are written.";
 
 const SERVE_HELP: &str = "\
 Standard input is a script as for `simulate`, without `save`, `deliver` and `restart` lines: two

@@ -70,8 +70,8 @@ fn point_out<E: Write>(mistake: Mistake<'_>, errors: &mut E) -> Result<(), Progr
 /// Does what the words ask for, the first being the program's own name, and answers the fault, if
 /// any. Words in which `clap` objects to nothing ask for the command that they name, or else for
 /// `match`. A fault is one line on `errors` (a wrong command line has more words there) and nothing
-/// on `output`, unless memory runs out in a script's step, a running office gives up, or a writer
-/// fails: that is `Write`, after all other faults but those two.
+/// on `output`, unless memory runs out in a script's step, a running office gives up, books differ, or
+/// a writer fails: that is `Write`, after all other faults but those three.
 pub fn dispatch<S: AsStr, R: Read, W: Write, E: Write, T: Threads + Wait + Sync, V: Watch>(
     rt: &HostRuntime,
     threads: &T,
