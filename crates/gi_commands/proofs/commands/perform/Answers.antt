@@ -1,0 +1,4 @@
+use Rattle.gi_commands.proofs.commands.perform.Goals as goal
+
+pub returns-in-Explain-clause-code : goal.returns-in-Explain-clause-code
+returns-in-Explain-clause-code g c = rw c.in-Explain.is c.explain.ensures.code
