@@ -12,7 +12,7 @@ use Rattle.gi_commands.specs.Simulating.{CutsShort, HasReport, HasScript, IsFirs
 use Rattle.gi_commands.specs.declared.desk_report.DeskReport.TheVariants.{Listed}
 use Rattle.gi_commands.specs.declared.fault.Fault.TheVariants as fault
 use Rattle.gi_service.specs.Serving.{IsFirstServeFault}
-use Rattle.gi_service.specs.Tasks.{IsTaskFault, LeavesTask}
+use Rattle.gi_service.specs.Tasks.{IsTaskFault, LeavesTask, MayReadTask}
 use Rattle.gi_service.specs.declared.program_fault.ProgramFault.{ProgramFault}
 use Rattle.gi_service.specs.declared.program_fault.ProgramFault.TheVariants.{Command}
 
@@ -38,7 +38,24 @@ may_want (at_once (audit initiating matching point)) remaining = inl tt
 may_want (at_once mistaken) remaining = inr refl
 may_want (serve sessions books) remaining = if_some remaining (λ input. IsFirstServeFault sessions input (Command fault.OutOfMemory)) (λ input. inl tt)
 
--- and where it did, each command may have written nothing
+-- each command may have read nothing
+keeps_same : (remaining : Option (List ℕ)) → Keeps remaining remaining
+keeps_same None = tt
+keeps_same (Some input) = refl
+
+pub may_leave : (wanted : Wanted) (remaining : Option (List ℕ)) → MayReadTask wanted remaining remaining
+may_leave (at_once match_tables) remaining = tt
+may_leave (at_once (hours day)) remaining = keeps_same remaining
+may_leave (at_once simulate) remaining = tt
+may_leave (at_once (report kind format side None)) remaining = tt
+may_leave (at_once (report kind format side (Some book))) remaining = keeps_same remaining
+may_leave (at_once (explain side words None)) remaining = tt
+may_leave (at_once (explain side words (Some book))) remaining = keeps_same remaining
+may_leave (at_once (audit initiating matching point)) remaining = keeps_same remaining
+may_leave (at_once mistaken) remaining = keeps_same remaining
+may_leave (serve sessions books) remaining = tt
+
+-- and where memory ran out, each command may have written nothing
 pub may_keep : (wanted : Wanted) (remaining old new : Option (List ℕ)) → Keeps old new → LeavesTask wanted remaining old new (Command fault.OutOfMemory)
 may_keep (at_once match_tables) remaining old new kept = kept
 may_keep (at_once (hours day)) remaining old new kept = kept

@@ -3,7 +3,7 @@ use Rattle.std.specs.Prelude.{IfErr}
 use Rattle.gi_command_line.specs.CommandLine.{asked}
 use Rattle.gi_service.specs.Tasks.{IsTaskFault, LeavesTask}
 use Rattle.gi_service.specs.declared.program_fault.ProgramFault.{ProgramFault}
-use Rattle.gi_dispatch.proofs.Unasked.{may_keep, may_want, memory_alone, no_command}
+use Rattle.gi_dispatch.proofs.Unasked.{may_keep, may_leave, may_want, memory_alone, no_command}
 use Rattle.gi_dispatch.proofs.dispatching.dispatch.Goals as goal
 
 pub returns-in-Err-clause-first : goal.returns-in-Err-clause-first
@@ -21,6 +21,9 @@ returns-in-Err-clause-leaves g c = λ none.
     let new = g.W.Write.contents c.explain.new.output in
     let is = c.explain.ensures.memory (memory_alone _ c.in-Err.said c.in-Err.ensures.refused none) in
     subst (λ (r : Result (Unit {0}) ProgramFault). IfErr r (LeavesTask wanted remaining old new)) (sym is) (may_keep wanted remaining old new (rw is at c.explain.ensures.leaves))
+
+pub returns-in-Err-clause-unread : goal.returns-in-Err-clause-unread
+returns-in-Err-clause-unread g c = λ none. may_leave (asked (map g.S.AsStr.text c.args.words.now)) (g.R.Read.remaining c.args.input.now)
 
 pub returns-in-Err-clause-mistaken : goal.returns-in-Err-clause-mistaken
 returns-in-Err-clause-mistaken g c =
