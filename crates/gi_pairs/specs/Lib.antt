@@ -8,6 +8,7 @@ pub mod Limits
 pub mod Pair
 pub mod Quantity
 pub mod Row
+pub mod RowsKept
 pub mod Side
 pub mod Table
 pub mod TableKept

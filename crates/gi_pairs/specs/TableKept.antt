@@ -3,4 +3,4 @@ use Rattle.gi_pairs.specs.Table.{TableContents}
 use Rattle.gi_pairs.specs.declared.table.Table.TheInside.{Inside}
 
 abbrev pub contents : Inside → TableContents
-contents t = record { first = t.first; last = t.last; rows = t.rows.items }
+contents t = record { first = t.first; last = t.last; rows = t.rows }

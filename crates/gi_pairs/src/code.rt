@@ -31,7 +31,7 @@ impl Error for CodeText {}
 #[derive(Clone, Copy)]
 pub struct Code {
     bytes: [u8; 16],
-    len: usize,
+    len: u8,
 }
 
 impl Model for Code {
@@ -76,7 +76,7 @@ impl Code {
         bytes[..text.len()].copy_from_slice(text);
         Ok(Code {
             bytes,
-            len: text.len(),
+            len: text.len() as u8,
         })
     }
 
@@ -84,7 +84,7 @@ impl Code {
         ensures value { result.now ≡ self.now }
         ensures code { IsCode result.now }
     {
-        &self.bytes[..self.len]
+        &self.bytes[..usize::from(self.len)]
     }
 
     /// The text of the code.

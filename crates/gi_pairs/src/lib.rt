@@ -9,6 +9,7 @@ mod key;
 mod pair;
 mod quantity;
 mod row;
+mod rows;
 mod side;
 mod table;
 

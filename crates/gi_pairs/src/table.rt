@@ -15,6 +15,7 @@ use crate::direction::Direction;
 use crate::key::Key;
 use crate::pair::Pair;
 use crate::row::Row;
+use crate::rows::Rows;
 use std::alloc::AllocError;
 use std::cmp::Ordering;
 use std::error::Error;
@@ -71,7 +72,7 @@ impl Error for TableFault {}
 pub struct Table {
     first: u8,
     last: u8,
-    rows: Vec<Row>,
+    rows: Rows,
 }
 
 impl Model for Table {
@@ -158,7 +159,11 @@ impl Table {
         if has_twins(&rows) {
             return Err(TableFault::Duplicate);
         }
-        Ok(Table { first, last, rows })
+        Ok(Table {
+            first,
+            last,
+            rows: Rows::new(rows),
+        })
     }
 
     /// The quantity, in kWh/h, of a pair, a direction and an hour: that of the row, where one
@@ -170,7 +175,7 @@ impl Table {
         if hour < self.first || self.last < hour {
             return 0;
         }
-        match row_of(&self.rows, Key { pair, direction }) {
+        match row_of(self.rows.as_slice(), Key { pair, direction }) {
             Some(row) => row.hours.as_slice()[usize::from(hour - self.first)].value(),
             None => 0,
         }
@@ -196,7 +201,7 @@ impl Table {
         ensures rows { result.now ≡ self.now.rows }
         ensures table { IsTable self.now }
     {
-        &self.rows
+        self.rows.as_slice()
     }
 
     /// Every table is one.
@@ -214,14 +219,25 @@ impl Table {
         (self.first, self.last) == (other.first, other.last)
     }
 
-    /// An equal table.
+    /// The same table, in memory that its copies share. `OutOfMemory` where there is none for the share.
+    pub fn share(self) -> Result<Table, AllocError>
+        ensures { IfOk result (λ table. table ≡ self) }
+    {
+        Ok(Table {
+            first: self.first,
+            last: self.last,
+            rows: self.rows.share()?,
+        })
+    }
+
+    /// An equal table: in the same memory where that is shared.
     pub fn copy(&self) -> Result<Table, AllocError>
         ensures { IfOk result (λ table. table ≡ self.now) }
     {
         Ok(Table {
             first: self.first,
             last: self.last,
-            rows: copy_rows(&self.rows)?,
+            rows: self.rows.copy()?,
         })
     }
 }
@@ -235,20 +251,10 @@ impl PartialEq for Table {
     ghost laws = { Prim.search (comparing, rules) depth 12 };
 
     fn eq(&self, other: &Table) -> bool {
-        self.covers_same_hours(other) && self.rows == other.rows
+        self.covers_same_hours(other) && self.rows() == other.rows()
     }
 }
 
 impl Eq for Table {
     ghost laws = { Prim.search (comparing, rules) depth 12 };
-}
-
-fn copy_rows(rows: &Vec<Row>) -> Result<Vec<Row>, AllocError>
-    ensures { IfOk result (λ copies. copies.items ≡ rows.now.items) }
-{
-    let mut copies = Vec::with_capacity(*rows.allocator(), rows.len())?;
-    for row in rows {
-        copies.push(row.copy()?)?;
-    }
-    Ok(copies)
 }

@@ -63,6 +63,8 @@ impl<R: Role> Desk<R> {
         ensures next { OnOk result (self.new ≡ record self.old { facts = self.old.facts ++ Met id.now peer ∷ [] }) }
         ensures kept { OnErr result (self.new ≡ self.old) }
     {
+        // The fact and the cycle hold the peer's table in the same memory.
+        let peer = peer.share()?;
         let fact = Fact::Met {
             id: *id,
             peer: peer.copy()?,

@@ -1,7 +1,7 @@
 use Rattle.std.proofs.Common.{◌≡◌, List, nat_lt, length, true, false, Ok, All, sym, ap, subst, ◌∙◌, arith}
 use Rattle.std.specs.List.Sorted.{IsStrictlySortedBy}
 use Rattle.std.proofs.lemmas.Bool.Decides.{nat_tests}
-use Rattle.gi_pairs.specs.Table.{in_order, keys_of, repeats}
+use Rattle.gi_pairs.specs.Table.{IsTable, in_order, keys_of, repeats}
 use Rattle.gi_pairs.specs.TableKept.{contents}
 use Rattle.gi_pairs.specs.Key.{key_cmp}
 use Rattle.gi_pairs.specs.Row.{IsRow}
@@ -40,9 +40,11 @@ invariant_of-result c =
     let few : nat_lt most_rows (length c.args.rows.items) ≡ false = grind (arith, nat_tests, c.len.ensures, c.if-len-gt-MOST_ROWS.false) in
     let hours = sym c.if-not-is_hour_range.ensures in
     let whole = whole_from c.args.first c.args.last c.from.result c.deref.result.now c.args.rows.items true hours c.from.ensures c.deref.ensures.value c.if-not-have_hours.ensures.lengths in
+    let table =
     is_table c.args.first c.args.last c.args.rows.items c.sort_rows.new.rows.items hours few whole
     (subst (λ (rows : List Row). All IsRow rows) c.deref.ensures.value c.if-not-have_hours.ensures.known) c.sort_rows.ensures.permutation
-    (subst (λ (rows : List Row). IsStrictlySortedBy key_cmp (keys_of rows)) c.deref-2.ensures.value c.if-has_twins.ensures.ordered)
+    (subst (λ (rows : List Row). IsStrictlySortedBy key_cmp (keys_of rows)) c.deref-2.ensures.value c.if-has_twins.ensures.ordered) in
+    subst (λ (rows : List Row). IsTable (record { first = c.args.first; last = c.args.last; rows = rows })) (sym c.new.ensures) table
 
 pub returns-clause-exact : goal.returns-clause-exact
 returns-clause-exact c =
@@ -53,8 +55,8 @@ returns-clause-exact c =
     ∙ ap (λ (rows : List Row). repeats (keys_of rows)) (sym c.deref-2.ensures.value) ∙ sym c.if-has_twins.ensures.twins in
     let strict = subst (λ (rows : List Row). IsStrictlySortedBy key_cmp (keys_of rows)) c.deref-2.ensures.value c.if-has_twins.ensures.ordered in
     let order : c.sort_rows.new.rows.items ≡ in_order c.args.rows.items = in_order_is c.args.rows.items c.sort_rows.new.rows.items c.sort_rows.ensures.permutation strict in
-    let same : contents (record { first = c.args.first; last = c.args.last; rows = c.sort_rows.new.rows }) ≡ record { first = c.args.first; last = c.args.last; rows = in_order c.args.rows.items } =
-    λ i. record { first = c.args.first; last = c.args.last; rows = order i } in
+    let same : contents (record { first = c.args.first; last = c.args.last; rows = c.new.result }) ≡ record { first = c.args.first; last = c.args.last; rows = in_order c.args.rows.items } =
+    λ i. record { first = c.args.first; last = c.args.last; rows = (c.new.ensures ∙ order) i } in
     ap Ok same ∙ accepted c.args.first c.args.last c.args.rows.items hours few whole twins
 
 pub returns-clause-table : goal.returns-clause-table
