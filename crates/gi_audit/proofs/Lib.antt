@@ -1,3 +1,4 @@
+pub mod PlaceLemmas
 pub mod Places
 pub mod Searching
 pub mod SentLemmas

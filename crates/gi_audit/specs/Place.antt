@@ -1,7 +1,6 @@
 -- Where a table that a side met and the one that its peer wrote differ first.
-use Rattle.std.specs.Prelude.{ℕ, ◌-◌, List, [], ◌++◌, find, Bool, not, nat_eq, if◌then◌else◌, Option, None, Some, option_map, slice_get, codes}
+use Rattle.std.specs.Prelude.{ℕ, zero, suc, ◌+◌, ◌-◌, List, [], ◌++◌, Bool, not, nat_eq, if◌then◌else◌, Option, None, Some, option_map, slice_get, codes}
 use Rattle.std.specs.Fmt.{decimal}
-use Rattle.std.specs.List.{range_with_len}
 use Rattle.std.specs.Ordering.{is_lt}
 use Rattle.gi_pairs.specs.Direction.{direction_text}
 use Rattle.gi_pairs.specs.Key.{key_cmp}
@@ -17,7 +16,6 @@ use Rattle.gi_desk.specs.Deciding.{difference}
 use Rattle.gi_desk.specs.History.{peer_of}
 use Rattle.gi_desk.specs.Machine.{DeskState}
 use Rattle.gi_audit.specs.Sent.{sent_table}
-use Rattle.gi_audit.specs.declared.difference.Difference.{Difference}
 use Rattle.gi_audit.specs.declared.finding.Finding.{Finding}
 use Rattle.gi_audit.specs.declared.finding.Finding.TheVariants.{Agreed, OpenAtInitiating, OpenAtBoth, Differs}
 use Rattle.gi_audit.specs.declared.place.HourDifference.{HourDifference}
@@ -43,9 +41,15 @@ key_at met written = key_by met written (difference met.rows written.rows)
 abbrev pub differs_in : TableContents → TableContents → Key → ℕ → Bool
 differs_in met written key hour = not (nat_eq (reading met key.pair key.direction hour) (reading written key.pair key.direction hour))
 
+-- the first hour in which they do, of so many from this one on
+abbrev pub differing_from : TableContents → TableContents → Key → ℕ → ℕ → Option ℕ
+differing_from met written key zero hour = None
+differing_from met written key (suc more) hour =
+    if differs_in met written key hour then Some hour else differing_from met written key more (hour + 1)
+
 -- the first such hour of the longest gas day, and what both tables read in it
-abbrev pub differing_hour : TableContents → TableContents → Key → Option ℕ
-differing_hour met written key = find (differs_in met written key) (range_with_len 1 last_hour)
+unfoldable pub differing_hour : TableContents → TableContents → Key → Option ℕ
+differing_hour met written key = differing_from met written key last_hour 1
 
 abbrev pub read_in : TableContents → TableContents → Key → ℕ → HourDifference
 read_in met written key hour =

@@ -1,6 +1,6 @@
 //! Where a table that a side met and the one that its peer wrote differ first.
 
-ghost use Rattle.std.specs.Prelude.{◌≡◌, Some, codes, find};
+ghost use Rattle.std.specs.Prelude.{◌≡◌, Some};
 ghost use Rattle.std.specs.Option.{option_copied};
 ghost use Rattle.gi_audit.specs.Place.{differs_in as differs_in_of, differing_hour as differing_hour_of, first_place as first_place_of, hour_at as hour_at_of, hour_text, key_at as key_at_of, lower_key as lower_key_of, place_text};
 
@@ -79,14 +79,14 @@ fn key_at(met: &Table, written: &Table) -> Option<Key>
     lower_key(rows.get(before), others.get(before))
 }
 
-fn differs_in(met: &Table, written: &Table, key: Key, hour: u8) -> bool
-    ensures { result ≡ differs_in_of met.now written.now key hour }
+fn differs_in(met: &Table, written: &Table, key: &Key, hour: u8) -> bool
+    ensures { result ≡ differs_in_of met.now written.now key.now hour }
 {
     met.at(key.pair, key.direction, hour) != written.at(key.pair, key.direction, hour)
 }
 
-fn differing_hour(met: &Table, written: &Table, key: Key) -> Option<u8>
-    ensures { result ≡ differing_hour_of met.now written.now key }
+fn differing_hour(met: &Table, written: &Table, key: &Key) -> Option<u8>
+    ensures { result ≡ differing_hour_of met.now written.now key.now }
 {
     for hour in 1..=LAST_HOUR {
         if differs_in(met, written, key, hour) {
@@ -96,8 +96,8 @@ fn differing_hour(met: &Table, written: &Table, key: Key) -> Option<u8>
     None
 }
 
-fn hour_at(met: &Table, written: &Table, key: Key) -> Option<HourDifference>
-    ensures { result ≡ hour_at_of met.now written.now key }
+fn hour_at(met: &Table, written: &Table, key: &Key) -> Option<HourDifference>
+    ensures { result ≡ hour_at_of met.now written.now key.now }
 {
     let hour = differing_hour(met, written, key)?;
     Some(HourDifference {
@@ -113,8 +113,6 @@ pub(crate) fn first_place(met: &Table, written: &Table) -> Option<Place>
     ensures { result ≡ first_place_of met.now written.now }
 {
     let key = key_at(met, written)?;
-    Some(Place {
-        key,
-        hour: hour_at(met, written, key),
-    })
+    let hour = hour_at(met, written, &key);
+    Some(Place { key, hour })
 }

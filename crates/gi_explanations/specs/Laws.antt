@@ -1,5 +1,5 @@
 -- What holds of every explanation that a desk gives. Each desk has facts that are legal and can be written.
-use Rattle.std.specs.Prelude.{◌≡◌, ℕ, ◌+◌, ◌-◌, ◌*◌, ◌/◌, min, IfSome, List, true, false, Option, None, Some}
+use Rattle.std.specs.Prelude.{◌≡◌, ℕ, ◌+◌, ◌-◌, ◌*◌, ◌/◌, min, IfSome, List, true, false, None, Some}
 use Rattle.std.specs.Option.{option_and_then, option_map_or}
 use Rattle.gi_pairs.specs.Table.{TableContents}
 use Rattle.gi_pairs.specs.declared.side.Side.{Side}
