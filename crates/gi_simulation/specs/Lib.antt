@@ -1,5 +1,6 @@
 pub mod Simulation
 pub mod OutcomeText
+pub mod Trace
 pub mod Runs
 pub mod Refused
 pub mod OnItsWay
