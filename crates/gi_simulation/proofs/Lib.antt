@@ -2,5 +2,6 @@ mod NewWorld
 mod Numbers
 mod RunLaws
 mod SimulationLaws
+mod TraceLaws
 mod OnItsWay
 mod SoundSimulation

@@ -4,6 +4,7 @@ ghost use Rattle.std.specs.Prelude.{◌≡◌, IfOk, map, string_bytes};
 ghost use Rattle.std.specs.List.{flat_map};
 ghost use Rattle.std.specs.Option.{option_copied};
 ghost use Rattle.gi_messages.specs.Decoding.{decoded};
+ghost use Rattle.gi_messages.specs.declared.message.Message.TheVariants as messages;
 ghost use Rattle.gi_simulation.specs.Trace.{is_lost as is_lost_of, known_text as known_text_of, line_text as line_text_of, lines_text as lines_text_of, lost_text as lost_text_of, message_text as message_text_of, moved_line as moved_line_of, numbered_text, packet_line as packet_line_of, quantity_text, recipient_text as recipient_text_of};
 
 use gi_carrier::{MOST_WAITING, Move};
@@ -46,7 +47,7 @@ fn lines_text(alloc: Global, first: u8, lines: &[Line]) -> Result<String, AllocE
 }
 
 fn nomres_text(alloc: Global, nomres: &Nomres) -> Result<String, AllocError>
-    ensures { IfOk result (λ text. string_bytes text ≡ known_text_of (Nomres nomres.now)) }
+    ensures { IfOk result (λ text. string_bytes text ≡ known_text_of (messages.Nomres nomres.now)) }
 {
     let (day, cycle) = (nomres.day, nomres.cycle);
     let lines = lines_text(alloc, nomres.first, nomres.lines.as_slice())?;
