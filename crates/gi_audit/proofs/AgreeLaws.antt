@@ -22,8 +22,8 @@ use Rattle.gi_audit.specs.Agreeing.{Agree, world_of}
 use Rattle.gi_audit.specs.Audit.{first_difference}
 use Rattle.gi_audit.specs.Cycles.{AreClosedAtEither}
 use Rattle.gi_audit.specs.Finding.{differs}
-use Rattle.gi_audit.specs.Laws.{AgreeingDesksConfirmOneQuantity, WorldsAgree}
-use Rattle.gi_audit.proofs.FindingLemmas.{AgreeAt, agrees-at}
+use Rattle.gi_audit.specs.Laws.{AgreeingDesksConfirmOneQuantity, TheMatchingSideConfirmsFirst, WorldsAgree}
+use Rattle.gi_audit.proofs.FindingLemmas.{AgreeAt, agrees-at, no-difference}
 
 -- ---- all cycles
 
@@ -97,6 +97,12 @@ mapped_some own (Some peer) e = refl
 confirmed_some : (side : Side) (s : DeskState) (id : CycleId) → is_some (peer_of id (saved_facts s)) ≡ true → is_some (confirmed side s id) ≡ true
 unfolding confirmed
 confirmed_some side s id e = mapped_some (frozen_table side s.facts id) (peer_of id (saved_facts s)) e
+
+pub confirms-first : TheMatchingSideConfirmsFirst
+confirms-first s t id table none e =
+    let (peer, saved) = confirmed_from I s id table e in
+    let written = (no-difference I M s t id).0 none peer (front-met (saved_facts s) s.facts id peer (saved-front s) saved) in
+    confirmed_some M t id written.sent
 
 have_met : (s t : DeskState) → IsLegal I s → IsLegal M t → Agree s t → HaveMetFrozen (world_of s t)
 have_met s t ours theirs agree = record { legal = legal; met = met }

@@ -77,8 +77,8 @@ no-difference side other s peer id =
     let found = peer_of id s.facts in (λ e. same_from side other s peer id found e, λ written. from_same side other s peer id found written)
 
 undisputed_is : (ours theirs : Option TableContents) → is_difference (undisputed ours theirs) ≡ false
-undisputed_is None None = refl
 undisputed_is None (Some theirs) = refl
+undisputed_is None None = refl
 undisputed_is (Some ours) None = refl
 undisputed_is (Some ours) (Some theirs) = refl
 

@@ -7,15 +7,18 @@ use Rattle.std.proofs.lemmas.List.Folds.{find-append}
 use Rattle.gi_pairs.specs.declared.cycle_id.CycleId.{CycleId}
 use Rattle.gi_desk.specs.Machine.{DeskState}
 use Rattle.gi_desk.proofs.HistoryLaws.{one_more}
-use Rattle.gi_audit.specs.Audit.{cycle_lines, first_difference, line_of}
+use Rattle.gi_audit.specs.Audit.{cycle_line, cycle_lines, first_difference, line_of}
 use Rattle.gi_audit.specs.Finding.{differs, finding, is_difference}
+use Rattle.gi_audit.specs.Place.{place_found}
 use Rattle.gi_audit.specs.declared.finding.Finding.{Finding}
+use Rattle.gi_audit.specs.declared.place.Place.{Place}
 
-pub lines_more : (s t : DeskState) (ids : List CycleId) (i : ℕ) (id : CycleId) (found : Finding) (text line next : List ℕ) → i < length ids → id ≡ get_or ids i id
-    → text ≡ cycle_lines s t (take i ids) → found ≡ finding s t id → line ≡ line_of id found → next ≡ text ++ line → next ≡ cycle_lines s t (take (i + 1) ids)
-lines_more s t ids i id found text line next below is text_is found_is line_is next_is =
-    let of : CycleId → List ℕ = λ id. line_of id (finding s t id) in
-    next_is ∙ (λ k. text_is k ++ line_is k) ∙ ap (λ (f : Finding). flat_map of (take i ids) ++ line_of id f) found_is
+pub lines_more : (s t : DeskState) (ids : List CycleId) (i : ℕ) (id : CycleId) (found : Finding) (place : Option Place) (text line next : List ℕ) → i < length ids → id ≡ get_or ids i id
+    → text ≡ cycle_lines s t (take i ids) → found ≡ finding s t id → place ≡ place_found found s t id → line ≡ line_of id found place → next ≡ text ++ line → next ≡ cycle_lines s t (take (i + 1) ids)
+lines_more s t ids i id found place text line next below is text_is found_is place_is line_is next_is =
+    let of : CycleId → List ℕ = cycle_line s t in
+    next_is ∙ (λ k. text_is k ++ line_is k) ∙ ap (λ (p : Option Place). flat_map of (take i ids) ++ line_of id found p) place_is
+    ∙ ap (λ (f : Finding). flat_map of (take i ids) ++ line_of id f (place_found f s t id)) found_is
     ∙ ap (λ (l : List ℕ). flat_map of (take i ids) ++ l) (sym (append-nil (of id)))
     ∙ sym (flat_map-append of (take i ids) (id ∷ []))
     ∙ ap (flat_map of) (sym (one_more ids i id below is))

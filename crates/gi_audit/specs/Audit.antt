@@ -9,20 +9,27 @@ use Rattle.gi_reports.specs.Columns.{right_in}
 use Rattle.gi_audit.specs.Cycles.{AreClosedAtEither}
 use Rattle.gi_audit.specs.Finding.{differs, finding}
 use Rattle.gi_audit.specs.FindingText.{finding_text}
+use Rattle.gi_audit.specs.Place.{any_place_text, place_found}
 use Rattle.gi_audit.specs.declared.finding.Finding.{Finding}
+use Rattle.gi_audit.specs.declared.place.Place.{Place}
 
--- `2026-01-15 35 agreed IM 17 MI 0`
-abbrev pub line_of : CycleId → Finding → List ℕ
-line_of id found = day_text id.day ++ (codes " " ++ (right_in 2 id.cycle ++ (codes " " ++ (finding_text found ++ codes "\n"))))
+-- `2026-01-15 35 agreed IM 17 MI 0`, and where tables differ, the place
+abbrev pub line_of : CycleId → Finding → Option Place → List ℕ
+line_of id found place =
+    day_text id.day ++ (codes " " ++ (right_in 2 id.cycle ++ (codes " " ++ (finding_text found ++ (any_place_text place ++ codes "\n")))))
+
+abbrev pub cycle_line : DeskState → DeskState → CycleId → List ℕ
+cycle_line initiating matching id =
+    let found = finding initiating matching id in line_of id found (place_found found initiating matching id)
 
 abbrev pub cycle_lines : DeskState → DeskState → List CycleId → List ℕ
-cycle_lines initiating matching ids = flat_map (λ id. line_of id (finding initiating matching id)) ids
+cycle_lines initiating matching ids = flat_map (cycle_line initiating matching) ids
 
 -- the first of these cycles of which a table differs
 abbrev pub first_difference : DeskState → DeskState → List CycleId → Option CycleId
 first_difference initiating matching ids = find (differs initiating matching) ids
 
--- `agreed`, or `differs at 2026-01-15 36`
+-- `agreed`, or `differs at 2026-01-15 35`
 abbrev pub last_line : Option CycleId → List ℕ
 last_line None = codes "agreed\n"
 last_line (Some id) = codes "differs at " ++ (day_text id.day ++ (codes " " ++ (decimal id.cycle ++ codes "\n")))

@@ -19,7 +19,7 @@ use Rattle.gi_audit.specs.declared.difference.Difference.{Difference}
 use Rattle.gi_audit.specs.declared.difference.Against.{Against}
 use Rattle.gi_audit.specs.declared.difference.Against.TheVariants.{NotClosed, NotMet, Closed}
 use Rattle.gi_audit.specs.declared.finding.Finding.{Finding}
-use Rattle.gi_audit.specs.declared.finding.Finding.TheVariants.{Agreed, OpenAtInitiating, OpenAtMatching, OpenAtBoth, Differs}
+use Rattle.gi_audit.specs.declared.finding.Finding.TheVariants.{Agreed, OpenAtInitiating, OpenAtBoth, Differs}
 
 -- fact number n closes the cycle
 abbrev pub closes : CycleId → Option Fact → Bool
@@ -62,12 +62,11 @@ row_total direction row = if nat_eq (place_of row.direction) (place_of direction
 abbrev pub total : Direction → TableContents → ℕ
 total direction table = sum_by (row_total direction) table.rows
 
--- the state of a cycle where nothing differs, by what both have confirmed of it
+-- the state of a cycle where nothing differs, by what both have confirmed of it: the matching side confirms first
 abbrev pub undisputed : Option TableContents → Option TableContents → Finding
 undisputed (Some ours) (Some theirs) = Agreed (total IM ours) (total MI ours)
-undisputed (Some ours) None = OpenAtMatching
 undisputed None (Some theirs) = OpenAtInitiating
-undisputed None None = OpenAtBoth
+undisputed ours None = OpenAtBoth
 
 abbrev pub found_by : Option Difference → Option Difference → Finding → Finding
 found_by (Some first) second other = Differs first
@@ -83,7 +82,6 @@ abbrev pub is_difference : Finding → Bool
 is_difference (Differs difference) = true
 is_difference (Agreed im mi) = false
 is_difference OpenAtInitiating = false
-is_difference OpenAtMatching = false
 is_difference OpenAtBoth = false
 
 unfoldable pub differs : DeskState → DeskState → CycleId → Bool

@@ -6,7 +6,7 @@ use Rattle.gi_audit.specs.declared.difference.Difference.{Difference}
 use Rattle.gi_audit.specs.declared.difference.Against.{Against}
 use Rattle.gi_audit.specs.declared.difference.Against.TheVariants.{NotClosed, NotMet, Closed}
 use Rattle.gi_audit.specs.declared.finding.Finding.{Finding}
-use Rattle.gi_audit.specs.declared.finding.Finding.TheVariants.{Agreed, OpenAtInitiating, OpenAtMatching, OpenAtBoth, Differs}
+use Rattle.gi_audit.specs.declared.finding.Finding.TheVariants.{Agreed, OpenAtInitiating, OpenAtBoth, Differs}
 
 abbrev pub against_text : Against → List ℕ
 against_text NotClosed = codes "not closed"
@@ -22,6 +22,5 @@ difference_text d =
 abbrev pub finding_text : Finding → List ℕ
 finding_text (Agreed im mi) = codes "agreed IM " ++ (decimal im ++ (codes " MI " ++ decimal mi))
 finding_text OpenAtInitiating = codes "open at I"
-finding_text OpenAtMatching = codes "open at M"
 finding_text OpenAtBoth = codes "open at both"
 finding_text (Differs difference) = codes "differs " ++ difference_text difference

@@ -1,10 +1,15 @@
 -- What holds of all desks that agree, and of the desks of every world.
+use Rattle.std.specs.Prelude.{◌≡◌, None, Some, is_some, true}
+use Rattle.gi_pairs.specs.Table.{TableContents}
+use Rattle.gi_pairs.specs.declared.cycle_id.CycleId.{CycleId}
 use Rattle.gi_pairs.specs.declared.side.Side.TheVariants.{I, M}
 use Rattle.gi_desk.specs.Machine.{DeskState, started_again}
+use Rattle.gi_desk.specs.Queries.{confirmed}
 use Rattle.gi_desk.specs.Writable.{FitsDesk}
 use Rattle.gi_world.specs.Agreement.{IsLegal, IsSound}
 use Rattle.gi_world.specs.World.{WorldState}
 use Rattle.gi_audit.specs.Agreeing.{Agree, ConfirmOneQuantity}
+use Rattle.gi_audit.specs.Finding.{difference}
 
 -- Of two desks that agree every quantity that either has confirmed is the lower of the two that both froze. Each holds
 -- facts that it would record in turn, and can be written: so do all desks.
@@ -12,6 +17,13 @@ abbrev pub AgreeingDesksConfirmOneQuantity : Type 0
 AgreeingDesksConfirmOneQuantity =
     (initiating matching : DeskState) → IsLegal I initiating → IsLegal M matching → FitsDesk I initiating.point initiating.facts → FitsDesk M matching.point matching.facts
     → Agree initiating matching → ConfirmOneQuantity initiating matching
+
+-- Where what the initiating side met does not differ, and it has confirmed a cycle, the matching side has: so no cycle is open
+-- at the matching side alone.
+abbrev pub TheMatchingSideConfirmsFirst : Type 0
+TheMatchingSideConfirmsFirst =
+    (initiating matching : DeskState) (id : CycleId) (table : TableContents) → difference I M initiating matching id ≡ None → confirmed I initiating id ≡ Some table
+    → is_some (confirmed M matching id) ≡ true
 
 -- The two desks of a world agree, whatever steps led to it, and so do the desks that start again from what is saved
 -- there.

@@ -5,11 +5,12 @@ ghost use Rattle.gi_audit.specs.Agreeing.{Agree, ConfirmOneQuantity};
 ghost use Rattle.gi_audit.specs.Audit.{IsAudit, cycle_lines, first_difference, last_line as last_line_of, line_of};
 ghost use Rattle.gi_audit.specs.Finding.{is_difference};
 
-use crate::comparing::found_at;
+use crate::comparing::{found_at, place_found};
 use crate::cycles::closed_at_either;
 use crate::finding::Finding;
 use crate::knowing::known;
 use crate::laws::agreeing_desks_confirm_one_quantity;
+use crate::place::Place;
 use gi_desk::Desk;
 use gi_initiator::Initiating;
 use gi_matcher::Matching;
@@ -26,14 +27,22 @@ pub struct Audited {
     pub first: Option<CycleId>,
 }
 
-fn line(alloc: Global, id: &CycleId, found: Finding) -> Result<String, AllocError>
-    ensures { IfOk result (λ line. string_bytes line ≡ line_of id.now found) }
+fn line(
+    alloc: Global,
+    id: &CycleId,
+    found: Finding,
+    place: Option<Place>,
+) -> Result<String, AllocError>
+    ensures { IfOk result (λ line. string_bytes line ≡ line_of id.now found place) }
 {
     let day = id.day;
     let cycle = RightInTwo {
         number: u64::from(id.cycle),
     };
-    format!(in alloc; "{day} {cycle} {found}\n")
+    match place {
+        Some(place) => format!(in alloc; "{day} {cycle} {found}{place}\n"),
+        None => format!(in alloc; "{day} {cycle} {found}\n"),
+    }
 }
 
 fn last_line(alloc: Global, first: &Option<CycleId>) -> Result<String, AllocError>
@@ -74,7 +83,8 @@ fn lines(
     let mut first = None;
     for id in ids {
         let found = found_at(alloc, initiating, matching, id)?;
-        let line = line(alloc, id, found)?;
+        let place = place_found(alloc, initiating, matching, id, found)?;
+        let line = line(alloc, id, found, place)?;
         text.push_str(line.as_str())?;
         first = first.or(differing(id, found));
     }

@@ -3,16 +3,18 @@
 ghost use Rattle.std.specs.Prelude.{◌≡◌, IfOk, false};
 ghost use Rattle.std.specs.Option.{option_copied};
 ghost use Rattle.gi_audit.specs.Finding.{against as against_of, difference as difference_of, finding as finding_of, undisputed as undisputed_of};
+ghost use Rattle.gi_audit.specs.Place.{place_between as place_between_of, place_found as place_found_of, place_met_by};
 
 use crate::difference::{Against, Difference};
 use crate::finding::Finding;
 use crate::meeting::{met_table, saved_closing};
+use crate::place::{Place, first_place};
 use crate::sending::sent_table;
 use crate::total::total;
 use gi_desk::{Desk, Role};
 use gi_initiator::Initiating;
 use gi_matcher::Matching;
-use gi_pairs::{CycleId, Direction, Table};
+use gi_pairs::{CycleId, Direction, Side, Table};
 use std::alloc::{AllocError, Global};
 
 fn against<R: Role>(
@@ -65,9 +67,8 @@ fn undisputed(ours: Option<&Table>, theirs: Option<&Table>) -> Finding
             im: total(table, Direction::IM),
             mi: total(table, Direction::MI),
         },
-        (Some(_), None) => Finding::OpenAtMatching,
         (None, Some(_)) => Finding::OpenAtInitiating,
-        (None, None) => Finding::OpenAtBoth,
+        (_, None) => Finding::OpenAtBoth,
     }
 }
 
@@ -80,8 +81,8 @@ pub(crate) fn found_at(
     matching: &Desk<Matching>,
     id: &CycleId,
 ) -> Result<Finding, AllocError>
-    requires runs { initiating.now.halted ≡ false }
-    requires run { matching.now.halted ≡ false }
+    requires initiating { initiating.now.halted ≡ false }
+    requires matching { matching.now.halted ≡ false }
     ensures { IfOk result (λ found. found ≡ finding_of initiating.now matching.now id.now) }
 {
     if let Some(found) = difference(alloc, matching, initiating, id)? {
@@ -91,4 +92,45 @@ pub(crate) fn found_at(
         return Ok(Finding::Differs(found));
     }
     Ok(undisputed(initiating.confirmed(*id), matching.confirmed(*id)))
+}
+
+#[tactic(auto, unfolding(crate::specs::Place::place_between))]
+fn place_between<R: Role, S: Role>(
+    alloc: Global,
+    desk: &Desk<R>,
+    peer: &Desk<S>,
+    id: &CycleId,
+) -> Result<Option<Place>, AllocError>
+    requires { peer.now.halted ≡ false }
+    ensures { IfOk result (λ place. place ≡ place_between_of S.SIDE desk.now peer.now id.now) }
+{
+    let Some((_, met)) = met_table(desk, id) else {
+        return Ok(None);
+    };
+    match sent_table(alloc, peer, id)? {
+        Some(written) => Ok(first_place(met, &written)),
+        None => Ok(None),
+    }
+}
+
+/// Where what was found of a cycle differs: no place where nothing does, or where the other side has
+/// written no table.
+pub(crate) fn place_found(
+    alloc: Global,
+    initiating: &Desk<Initiating>,
+    matching: &Desk<Matching>,
+    id: &CycleId,
+    found: Finding,
+) -> Result<Option<Place>, AllocError>
+    requires initiating { initiating.now.halted ≡ false }
+    requires matching { matching.now.halted ≡ false }
+    ensures { IfOk result (λ place. place ≡ place_found_of found initiating.now matching.now id.now) }
+{
+    let Finding::Differs(difference) = found else {
+        return Ok(None);
+    };
+    match difference.side {
+        Side::I => place_between(alloc, initiating, matching, id),
+        Side::M => place_between(alloc, matching, initiating, id),
+    }
 }

@@ -6,10 +6,8 @@ use std::fmt;
 pub(crate) enum Finding {
     /// Both have confirmed it, so much in each direction: in kWh, over all rows and hours.
     Agreed { im: u64, mi: u64 },
-    /// Nothing differs, and the initiating side alone has not confirmed it.
+    /// Nothing differs, and the matching side alone has confirmed it: it confirms first.
     OpenAtInitiating,
-    /// Nothing differs, and the matching side alone has not confirmed it.
-    OpenAtMatching,
     /// Nothing differs, and neither side has confirmed it.
     OpenAtBoth,
     /// A side met another table than the one that the other side wrote.
@@ -26,7 +24,6 @@ impl fmt::Display for Finding {
         match self {
             Finding::Agreed { im, mi } => write!(f, "agreed IM {im} MI {mi}"),
             Finding::OpenAtInitiating => f.write_str("open at I"),
-            Finding::OpenAtMatching => f.write_str("open at M"),
             Finding::OpenAtBoth => f.write_str("open at both"),
             Finding::Differs(difference) => write!(f, "differs {difference}"),
         }

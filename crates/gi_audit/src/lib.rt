@@ -22,10 +22,13 @@ mod finding;
 mod knowing;
 mod laws;
 mod meeting;
+mod place;
 mod running;
 mod sending;
 mod total;
 
 pub use auditing::{Audited, audit};
-pub use laws::{agreeing_desks_confirm_one_quantity, worlds_agree};
+pub use laws::{
+    agreeing_desks_confirm_one_quantity, the_matching_side_confirms_first, worlds_agree,
+};
 pub use running::audit_run;

@@ -1,5 +1,5 @@
 -- What can be asked of the program.
-use Rattle.std.specs.Prelude.{ℕ, List, Option, None, Some, option_map}
+use Rattle.std.specs.Prelude.{ℕ, Bool, List, Option, None, Some, option_map}
 use Rattle.gi_pairs.specs.declared.direction.Direction.{Direction}
 use Rattle.gi_pairs.specs.declared.side.Side.{Side}
 use Rattle.gi_command_line.specs.declared.request.BookFile.{BookFile}
@@ -20,13 +20,13 @@ pub record QuantityWords : Type 0 where
   pub cycle : ℕ
   pub hour : ℕ
 
--- one of the commands but `serve`; a report of this kind, in this format and of this side, or what a quantity comes from at a side, over a script
--- or over the book in a file, for this point; the audit of the initiating and the matching operator's books in files, for
--- this point; or a command in wrong words
+-- one of the commands but `serve`: a script's steps, with a trace or without; a report of this kind, in this format and of
+-- this side, or what a quantity comes from at a side, over a script or over the book in a file, for this point; the audit of
+-- the initiating and the matching operator's books in files, for this point; or a command in wrong words
 pub data Asked : Type 0 where
   match_tables : Asked
   hours : List ℕ → Asked
-  simulate : Asked
+  simulate : Bool → Asked
   report : ReportKind → Format → Side → Option (List ℕ × List ℕ) → Asked
   explain : Side → QuantityWords → Option (List ℕ × List ℕ) → Asked
   audit : List ℕ → List ℕ → List ℕ → Asked
@@ -50,7 +50,7 @@ quantity_words named = record {
 abbrev pub meaning : Request → Asked
 meaning request.Match = match_tables
 meaning (request.Hours day) = hours day.now
-meaning request.Simulate = simulate
+meaning (request.Simulate trace) = simulate trace
 meaning (request.Report wanted) = report wanted.kind wanted.format wanted.side (book_of wanted.book)
 meaning (request.Explain wanted) = explain wanted.side (quantity_words wanted.quantity) (book_of wanted.book)
 meaning (request.Audit books) = audit books.initiating.now books.matching.now books.point.now

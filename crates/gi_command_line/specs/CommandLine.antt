@@ -1,7 +1,8 @@
 -- What the words of a command line mean.
-use Rattle.std.specs.Prelude.{◌≡◌, ◌≢◌, ◌⊎◌, ◌++◌, ℕ, List, [], ◌∷◌, Option, None, Some, true, if◌then◌else◌, unwrap_or, codes}
+use Rattle.std.specs.Prelude.{◌≡◌, ◌≢◌, ◌⊎◌, ℕ, Bool, List, [], ◌∷◌, Option, None, Some, true, false, if◌then◌else◌, unwrap_or, codes}
 use Rattle.std.specs.Str.{bytes_eq}
 use Rattle.clap.specs.Words.{App, IsAmong, Kinds, Row, Rule, fault_of, first_of, new_app, new_rule, subcommand_of, with_rule, with_subcommand}
+use Rattle.clap.specs.declared.builder.action.ArgAction.TheVariants.{SetTrue}
 use Rattle.clap.specs.declared.error.kind.ErrorKind.{ErrorKind}
 use Rattle.clap.specs.declared.error.kind.ErrorKind.TheVariants.{DisplayHelp, DisplayVersion}
 use Rattle.gi_pairs.specs.Direction.{direction_named}
@@ -18,7 +19,7 @@ use Rattle.gi_command_line.specs.declared.request.ReportKind.{ReportKind}
 
 -- ---- the commands and options that the program knows
 
--- a word that has to be there, an option with a value, and one that has to be there
+-- a word that has to be there, an option with a value, one that has to be there, and an option without a value
 abbrev pub word : List ℕ → Rule
 word name = record (new_rule name) { required = true }
 
@@ -28,6 +29,9 @@ option name = record (new_rule name) { long = Some name; value_names = 1 }
 abbrev pub needed : List ℕ → Rule
 needed name = record (option name) { required = true }
 
+abbrev pub flag : List ℕ → Rule
+flag name = record (new_rule name) { long = Some name; action = Some SetTrue }
+
 abbrev pub the_match : App
 the_match = new_app (codes "match")
 
@@ -35,7 +39,7 @@ abbrev pub the_hours : App
 the_hours = with_rule (new_app (codes "hours")) (word (codes "DAY"))
 
 abbrev pub the_simulate : App
-the_simulate = new_app (codes "simulate")
+the_simulate = with_rule (new_app (codes "simulate")) (flag (codes "trace"))
 
 -- the pair's portfolios and the direction; the gas day, the cycle and the hour
 abbrev pub with_pair : App → App
@@ -83,22 +87,31 @@ hours_asked None = match_tables
 hours_asked (Some day) = hours day
 
 -- a book is named by its file and its point, both or neither
-abbrev pub over_book : (Option (List ℕ × List ℕ) → Asked) → Option (List ℕ) → Option (List ℕ) → Asked
-over_book ask None None = ask None
-over_book ask None (Some point) = mistaken
-over_book ask (Some file) None = mistaken
-over_book ask (Some file) (Some point) = ask (Some (file, point))
+abbrev pub book_named : Option (List ℕ) → Option (List ℕ) → Option (Option (List ℕ × List ℕ))
+book_named None None = Some None
+book_named None (Some point) = None
+book_named (Some file) None = None
+book_named (Some file) (Some point) = Some (Some (file, point))
+
+abbrev pub book_asked : List Row → Option (Option (List ℕ × List ℕ))
+book_asked rows = book_named (first_of (codes "book") rows) (first_of (codes "point") rows)
+
+-- `clap` gives a flag the value `true` where it is among the words
+abbrev pub is_set : Option (List ℕ) → Bool
+is_set None = false
+is_set (Some value) = bytes_eq value (codes "true")
 
 -- text where no format is named
 abbrev pub format_asked : Option (List ℕ) → Option Format
 format_asked None = Some Text
 format_asked (Some word) = format_named word
 
-abbrev pub report_of : Option ReportKind → Option Side → Option Format → Option (List ℕ) → Option (List ℕ) → Asked
-report_of None side format file point = mistaken
-report_of (Some kind) None format file point = mistaken
-report_of (Some kind) (Some side) None file point = mistaken
-report_of (Some kind) (Some side) (Some format) file point = over_book (report kind format side) file point
+abbrev pub report_of : Option ReportKind → Option Side → Option Format → Option (Option (List ℕ × List ℕ)) → Asked
+report_of None side format book = mistaken
+report_of (Some kind) None format book = mistaken
+report_of (Some kind) (Some side) None book = mistaken
+report_of (Some kind) (Some side) (Some format) None = mistaken
+report_of (Some kind) (Some side) (Some format) (Some book) = report kind format side book
 
 -- the value of a word, the empty one where there is none
 abbrev pub value_of : List ℕ → List Row → List ℕ
@@ -106,7 +119,7 @@ value_of name rows = unwrap_or (first_of name rows) []
 
 abbrev pub report_asked : List Row → Asked
 report_asked rows =
-    report_of (kind_named (value_of (codes "KIND") rows)) (side_named (value_of (codes "SIDE") rows)) (format_asked (first_of (codes "format") rows)) (first_of (codes "book") rows) (first_of (codes "point") rows)
+    report_of (kind_named (value_of (codes "KIND") rows)) (side_named (value_of (codes "SIDE") rows)) (format_asked (first_of (codes "format") rows)) (book_asked rows)
 
 -- the words of a quantity are those of its portfolios and gas day, of whatever text, its direction, and numbers
 abbrev pub quantity_of : List Row → Direction → ℕ → ℕ → QuantityWords
@@ -129,14 +142,14 @@ abbrev pub quantity_asked : List Row → Option QuantityWords
 quantity_asked rows =
     quantity_named rows (direction_named (value_of (codes "DIRECTION") rows)) (cycle_named (value_of (codes "CYCLE") rows)) (hour_named (value_of (codes "HOUR") rows))
 
-abbrev pub explain_of : Option Side → Option QuantityWords → Option (List ℕ) → Option (List ℕ) → Asked
-explain_of None quantity file point = mistaken
-explain_of (Some side) None file point = mistaken
-explain_of (Some side) (Some quantity) file point = over_book (explain side quantity) file point
+abbrev pub explain_of : Option Side → Option QuantityWords → Option (Option (List ℕ × List ℕ)) → Asked
+explain_of None quantity book = mistaken
+explain_of (Some side) None book = mistaken
+explain_of (Some side) (Some quantity) None = mistaken
+explain_of (Some side) (Some quantity) (Some book) = explain side quantity book
 
 abbrev pub explain_asked : List Row → Asked
-explain_asked rows =
-    explain_of (side_named (value_of (codes "SIDE") rows)) (quantity_asked rows) (first_of (codes "book") rows) (first_of (codes "point") rows)
+explain_asked rows = explain_of (side_named (value_of (codes "SIDE") rows)) (quantity_asked rows) (book_asked rows)
 
 abbrev pub audit_asked : List Row → Asked
 audit_asked rows = audit (value_of (codes "initiating") rows) (value_of (codes "matching") rows) (value_of (codes "point") rows)
@@ -157,7 +170,7 @@ serve_asked rows = service_of (sessions_asked (first_of (codes "sessions") rows)
 abbrev pub asked_at_once : List ℕ → List Row → Asked
 asked_at_once name rows =
     if bytes_eq name (codes "hours") then hours_asked (first_of (codes "DAY") rows)
-    else (if bytes_eq name (codes "simulate") then simulate
+    else (if bytes_eq name (codes "simulate") then simulate (is_set (first_of (codes "trace") rows))
     else (if bytes_eq name (codes "report") then report_asked rows
     else (if bytes_eq name (codes "explain") then explain_asked rows
     else (if bytes_eq name (codes "audit") then audit_asked rows else match_tables))))

@@ -1,7 +1,7 @@
 -- What holds of all words.
-use Rattle.std.specs.Prelude.{◌≡◌, ℕ, List, [], ◌∷◌, None, codes}
+use Rattle.std.specs.Prelude.{◌≡◌, ℕ, List, [], ◌∷◌, None, true, false, codes}
 use Rattle.clap.specs.declared.error.kind.ErrorKind.TheVariants.{MissingRequiredArgument}
-use Rattle.gi_command_line.specs.Asked.{at_once, hours, match_tables, serve}
+use Rattle.gi_command_line.specs.Asked.{at_once, hours, match_tables, serve, simulate}
 use Rattle.gi_command_line.specs.CommandLine.{MeansHours, MeansMatch, asked, objections}
 use Rattle.gi_command_line.specs.Sessions.{default_sessions}
 
@@ -21,3 +21,14 @@ HoursNeedADay = (program : List ℕ) → objections (program ∷ codes "hours" �
 abbrev pub ServeIsTaken : Type 0
 ServeIsTaken =
     (program : List ℕ) → (objections (program ∷ codes "serve" ∷ []) ≡ []) × (asked (program ∷ codes "serve" ∷ []) ≡ serve default_sessions None)
+
+-- to the program's name with the word `simulate` nothing is objected, and it asks for no trace; with `--trace` behind it, for one
+abbrev pub SimulateIsTaken : Type 0
+SimulateIsTaken =
+    (program : List ℕ) → (objections (program ∷ codes "simulate" ∷ []) ≡ []) × (asked (program ∷ codes "simulate" ∷ []) ≡ at_once (simulate false))
+
+abbrev pub TraceIsTaken : Type 0
+TraceIsTaken =
+    (program : List ℕ)
+    → (objections (program ∷ codes "simulate" ∷ codes "--trace" ∷ []) ≡ [])
+    × (asked (program ∷ codes "simulate" ∷ codes "--trace" ∷ []) ≡ at_once (simulate true))

@@ -7,7 +7,7 @@ mod request;
 mod sessions;
 mod words;
 
-pub use laws::{hours_is_taken, match_is_taken, serve_is_taken};
+pub use laws::{hours_is_taken, match_is_taken, serve_is_taken, simulate_is_taken};
 pub use request::{
     BookFile, BookFiles, Explanation, Format, Mistake, NamedQuantity, Report, ReportKind, Request,
     Service, Task, format_named, kind_named,

@@ -111,8 +111,8 @@ pub enum Request<'a> {
     Match,
     /// The hours and cycles of the day that the word names.
     Hours(&'a str),
-    /// What comes of a script's steps.
-    Simulate,
+    /// What comes of a script's steps; with a trace, also what moved in each.
+    Simulate { trace: bool },
     /// A report.
     Report(Report<'a>),
     /// What a quantity comes from.

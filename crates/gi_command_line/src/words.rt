@@ -2,8 +2,8 @@
 ghost use Rattle.std.specs.Prelude.{◌≡◌, IfOk, codes, false, map, option_map};
 ghost use Rattle.std.specs.Result.{result_ok};
 ghost use Rattle.clap.specs.Words.{FailsBy, app_of, first_of, found_of, rows_of, rule_of, subcommand_rows_of, with_subcommand};
-ghost use Rattle.gi_command_line.specs.Asked.{explain as asks_explanation, meaning, quantity_words, report as asks_report, task_meaning};
-ghost use Rattle.gi_command_line.specs.CommandLine.{asked, asked_at_once, asked_of, audit_asked, explain_asked, format_asked, hours_asked, needed as needed_rule, objections, option as option_rule, over_book, quantity_asked, report_asked, serve_asked, sessions_asked, the_audit, the_explain, the_hours, the_match, the_program, the_report, the_serve, the_simulate, value_of as value_at, word as word_rule};
+ghost use Rattle.gi_command_line.specs.Asked.{book_of as book_words, meaning, quantity_words, task_meaning};
+ghost use Rattle.gi_command_line.specs.CommandLine.{asked, asked_at_once, asked_of, audit_asked, book_asked, explain_asked, format_asked, hours_asked, flag as flag_rule, is_set, needed as needed_rule, objections, option as option_rule, quantity_asked, report_asked, serve_asked, sessions_asked, the_audit, the_explain, the_hours, the_match, the_program, the_report, the_serve, the_simulate, value_of as value_at, word as word_rule};
 
 use crate::numbers::{cycle_named, hour_named};
 use crate::request::{
@@ -11,7 +11,7 @@ use crate::request::{
     Service, Task, format_named, kind_named,
 };
 use crate::sessions::Sessions;
-use clap::{Arg, ArgMatches, Command, Error};
+use clap::{Arg, ArgAction, ArgMatches, Command, Error};
 use gi_pairs::{Direction, Side};
 use std::alloc::{AllocError, Global};
 use std::convert::AsStr;
@@ -26,9 +26,9 @@ not agree, 2 wrong command line, 3 a book that failed or is none, 4 want of memo
 
 Examples: gi_dispatch match < examples/match.txt
           gi_dispatch hours 2026-01-15
-          gi_dispatch simulate < scenarios/plain_exchange.script
-          gi_dispatch report confirmed I < scenarios/plain_exchange.script
-          gi_dispatch explain I A B IM 2026-01-15 35 24 < scenarios/plain_exchange.script
+          gi_dispatch simulate --trace < examples/day.script
+          gi_dispatch report confirmed I < examples/day.script
+          gi_dispatch explain I A B IM 2026-01-15 35 24 < examples/day.script
           gi_dispatch audit --initiating day-I.db --matching day-M.db --point BORDER-1
           gi_dispatch serve < scenarios/serve/plain_exchange.script";
 
@@ -67,7 +67,11 @@ first line is `point CODE`, and each further one, with SIDE `I` or `M`, is one o
   plan SIDE MOVES                                               pass, drop, repeat, hold
 
 Standard output gets a line for each step: the number of the script's line, the side, and what came
-of it. Two lines with what each side holds come last.
+of it. Two lines with what each side holds come last. With --trace, lines that begin with two spaces
+follow a step's: what a carrier did with a message, as `  pass DELORD 2026-01-15 35`, and one for
+each packet that the step let out, as `  -> M DELORD 2026-01-15 35` to the other side or
+`  -> B NOMRES 2026-01-15 35 A IM 24: 7` to a portfolio, with its counterparty, direction, first hour
+and quantities in kWh/h.
 
 Faults, the first of: Read, TooLarge (over 67,108,864 bytes), Point (no first line `point CODE`),
 `line N: Unreadable`, before any step; then Write. Where memory runs out in a step, the lines of
@@ -149,6 +153,16 @@ fn needed<'a>(alloc: Global, name: &'a str, value: &'a str, help: &'a str) -> Ar
     option(alloc, name, value, help).required(true)
 }
 
+fn flag<'a>(alloc: Global, name: &'a str, help: &'a str) -> Arg<'a>
+    ensures rule { rule_of result ≡ flag_rule name.entry.now }
+    ensures local { result.global ≡ false }
+{
+    Arg::new(alloc, name)
+        .long(name)
+        .action(ArgAction::SetTrue)
+        .help(help)
+}
+
 fn with_match<'a>(alloc: Global, program: Command<'a>) -> Result<Command<'a>, AllocError>
     ensures { IfOk result (λ with. app_of with ≡ with_subcommand (app_of program.entry) the_match.top) }
 {
@@ -173,7 +187,8 @@ fn with_simulate<'a>(alloc: Global, program: Command<'a>) -> Result<Command<'a>,
 {
     let command = Command::new(alloc, "simulate")
         .about("Makes the steps of a script at both operators' desks")
-        .after_help(SIMULATE_HELP);
+        .after_help(SIMULATE_HELP)
+        .arg(flag(alloc, "trace", "Tells also what moved in each step"))?;
     program.subcommand(command)
 }
 
@@ -288,46 +303,21 @@ fn hours_of<'a>(matches: &ArgMatches<'a>) -> Request<'a>
     }
 }
 
-fn report_over<'a>(
-    kind: ReportKind,
-    format: Format,
-    side: Side,
-    file: Option<&'a str>,
-    point: Option<&'a str>,
-) -> Request<'a>
-    ensures { meaning result ≡ over_book (asks_report kind format side) (option_map (λ s. s.now) file.entry) (option_map (λ s. s.now) point.entry) }
+/// The book that is named, if any; `None` where one of its file and its point is missing.
+fn book_of<'a>(matches: &ArgMatches<'a>) -> Option<Option<BookFile<'a>>>
+    ensures { option_map book_words result ≡ book_asked (rows_of (found_of matches.now)) }
 {
-    let book = match (file, point) {
-        (None, None) => None,
-        (Some(file), Some(point)) => Some(BookFile { file, point }),
-        _ => return Request::Mistaken(Mistake::Unpaired),
-    };
-    Request::Report(Report {
-        kind,
-        format,
-        side,
-        book,
-    })
+    match (value_of(matches, "book"), value_of(matches, "point")) {
+        (None, None) => Some(None),
+        (Some(file), Some(point)) => Some(Some(BookFile { file, point })),
+        _ => None,
+    }
 }
 
-fn explanation_over<'a>(
-    side: Side,
-    quantity: NamedQuantity<'a>,
-    file: Option<&'a str>,
-    point: Option<&'a str>,
-) -> Request<'a>
-    ensures { meaning result ≡ over_book (asks_explanation side (quantity_words quantity.entry)) (option_map (λ s. s.now) file.entry) (option_map (λ s. s.now) point.entry) }
+fn is_traced(matches: &ArgMatches<'_>) -> bool
+    ensures { result ≡ is_set (first_of (codes "trace") (rows_of (found_of matches.now))) }
 {
-    let book = match (file, point) {
-        (None, None) => None,
-        (Some(file), Some(point)) => Some(BookFile { file, point }),
-        _ => return Request::Mistaken(Mistake::Unpaired),
-    };
-    Request::Explain(Explanation {
-        side,
-        quantity,
-        book,
-    })
+    value_of(matches, "trace") == Some("true")
 }
 
 fn word_of<'a>(matches: &ArgMatches<'a>, name: &str) -> &'a str
@@ -363,13 +353,15 @@ fn report_of<'a>(matches: &ArgMatches<'a>) -> Request<'a>
     let Some(format) = format_of(format_word) else {
         return Request::Mistaken(Mistake::Format(format_word.unwrap_or("")));
     };
-    report_over(
+    let Some(book) = book_of(matches) else {
+        return Request::Mistaken(Mistake::Unpaired);
+    };
+    Request::Report(Report {
         kind,
         format,
         side,
-        value_of(matches, "book"),
-        value_of(matches, "point"),
-    )
+        book,
+    })
 }
 
 /// The quantity that the words name, or the first word that is no direction, cycle or hour.
@@ -405,15 +397,18 @@ fn explanation_of<'a>(matches: &ArgMatches<'a>) -> Request<'a>
     let Ok(side) = side_word.parse::<Side>() else {
         return Request::Mistaken(Mistake::Side(side_word));
     };
-    match quantity_of(matches) {
-        Ok(quantity) => explanation_over(
-            side,
-            quantity,
-            value_of(matches, "book"),
-            value_of(matches, "point"),
-        ),
-        Err(mistake) => Request::Mistaken(mistake),
-    }
+    let quantity = match quantity_of(matches) {
+        Ok(quantity) => quantity,
+        Err(mistake) => return Request::Mistaken(mistake),
+    };
+    let Some(book) = book_of(matches) else {
+        return Request::Mistaken(Mistake::Unpaired);
+    };
+    Request::Explain(Explanation {
+        side,
+        quantity,
+        book,
+    })
 }
 
 fn audit_of<'a>(matches: &ArgMatches<'a>) -> Request<'a>
@@ -453,7 +448,9 @@ fn request_of<'a>(name: &str, entered: &ArgMatches<'a>) -> Request<'a>
 {
     match name {
         "hours" => hours_of(entered),
-        "simulate" => Request::Simulate,
+        "simulate" => Request::Simulate {
+            trace: is_traced(entered),
+        },
         "report" => report_of(entered),
         "explain" => explanation_of(entered),
         "audit" => audit_of(entered),

@@ -1,5 +1,5 @@
 -- What a command does, and its faults: what the definition of each says.
-use Rattle.std.specs.Prelude.{◌≡◌, ◌⊎◌, ℕ, List, Option, None, Some}
+use Rattle.std.specs.Prelude.{◌≡◌, ◌⊎◌, ℕ, Bool, List, Option, None, Some}
 use Rattle.std.specs.Option.{IfSome}
 use Rattle.std.specs.Io.KnownBytes.{Keeps}
 use Rattle.gi_pairs.specs.Code.{IsCode}
@@ -43,7 +43,7 @@ HasNoPoint (Some book) = ¬ (IsCode book.1)
 abbrev pub Does : Asked → Option (List ℕ) → Option (List ℕ) → Option (List ℕ) → Type 0
 Does match_tables remaining old new = IfSome remaining (λ input. Answers input old new)
 Does (hours day) remaining old new = TellsHours day old new
-Does simulate remaining old new = IfSome remaining (λ input. Simulates input old new)
+Does (simulate trace) remaining old new = IfSome remaining (λ input. Simulates trace input old new)
 Does (report kind format side book) remaining old new = TellsDesk (Listed kind format) side book remaining old new
 Does (explain side words book) remaining old new =
     (question : Question) × Asks words question × TellsDesk (Explanation question) side book remaining old new
@@ -54,7 +54,7 @@ Does mistaken remaining old new = ⊥
 abbrev pub IsFaultOf : Asked → Option (List ℕ) → Fault → Type 0
 IsFaultOf match_tables remaining why = IfSome remaining (λ input. IsFirstFault input why)
 IsFaultOf (hours day) remaining why = IsFirstHoursFault day why
-IsFaultOf simulate remaining why = IfSome remaining (λ input. IsFirstScriptFault HasScript input why)
+IsFaultOf (simulate trace) remaining why = IfSome remaining (λ input. IsFirstScriptFault HasScript input why)
 IsFaultOf (report kind format side book) remaining why = IsDeskFault (Listed kind format) side book remaining why
 IsFaultOf (explain side words book) remaining why =
     (why ≡ fault.OutOfMemory) ⊎ IsQuestionFault words why
@@ -68,15 +68,15 @@ LeavesNothing old new fault.Write = Unit {0}
 LeavesNothing old new _ = Keeps old new
 
 -- of a script, where memory ran out, the lines of the first steps may be
-abbrev pub LeavesFront : Option (List ℕ) → Option (List ℕ) → Option (List ℕ) → Fault → Type 0
-LeavesFront remaining old new fault.Write = Unit {0}
-LeavesFront remaining old new fault.OutOfMemory = IfSome remaining (λ input. CutsShort input old new)
-LeavesFront remaining old new _ = Keeps old new
+abbrev pub LeavesFront : Bool → Option (List ℕ) → Option (List ℕ) → Option (List ℕ) → Fault → Type 0
+LeavesFront trace remaining old new fault.Write = Unit {0}
+LeavesFront trace remaining old new fault.OutOfMemory = IfSome remaining (λ input. CutsShort trace input old new)
+LeavesFront trace remaining old new _ = Keeps old new
 
 abbrev pub Leaves : Asked → Option (List ℕ) → Option (List ℕ) → Option (List ℕ) → Fault → Type 0
 Leaves match_tables remaining old new why = LeavesNothing old new why
 Leaves (hours day) remaining old new why = LeavesNothing old new why
-Leaves simulate remaining old new why = LeavesFront remaining old new why
+Leaves (simulate trace) remaining old new why = LeavesFront trace remaining old new why
 Leaves (report kind format side book) remaining old new why = LeavesNothing old new why
 Leaves (explain side words book) remaining old new why = LeavesNothing old new why
 Leaves (audit initiating matching point) remaining old new why = LeavesAudit point old new why
@@ -86,7 +86,7 @@ Leaves mistaken remaining old new why = LeavesNothing old new why
 abbrev pub MayRead : Asked → Option (List ℕ) → Option (List ℕ) → Type 0
 MayRead match_tables old new = Unit {0}
 MayRead (hours day) old new = Keeps old new
-MayRead simulate old new = Unit {0}
+MayRead (simulate trace) old new = Unit {0}
 MayRead (report kind format side book) old new = ReadsUnlessBook book old new
 MayRead (explain side words book) old new = ReadsUnlessBook book old new
 MayRead (audit initiating matching point) old new = Keeps old new
@@ -96,7 +96,7 @@ MayRead mistaken old new = Keeps old new
 abbrev pub HasNoCode : Asked → Type 0
 HasNoCode match_tables = ⊥
 HasNoCode (hours day) = ⊥
-HasNoCode simulate = ⊥
+HasNoCode (simulate trace) = ⊥
 HasNoCode (report kind format side book) = HasNoPoint book
 HasNoCode (explain side words book) = NamesNoCodes words ⊎ ((question : Question) × Asks words question × HasNoPoint book)
 HasNoCode (audit initiating matching point) = ¬ (IsCode point)

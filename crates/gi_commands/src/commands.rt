@@ -64,17 +64,18 @@ fn write_text<W: Write>(text: &[u8], output: &mut W) -> Result<(), Fault>
 
 fn simulate_script<R: Read, W: Write>(
     alloc: Global,
+    trace: bool,
     input: &mut R,
     output: &mut W,
 ) -> Result<(), Fault>
     ensures done { OnOk result (IfSome (R.remaining input.old) (λ bytes.
-        Simulates bytes (W.contents output.old) (W.contents output.new))) }
-    ensures leaves { IfErr result (LeavesFront (R.remaining input.old) (W.contents output.old) (W.contents output.new)) }
+        Simulates trace bytes (W.contents output.old) (W.contents output.new))) }
+    ensures leaves { IfErr result (LeavesFront trace (R.remaining input.old) (W.contents output.old) (W.contents output.new)) }
     ensures first { IfErr result (λ fault. IfSome (R.remaining input.old) (λ bytes.
         IsFirstScriptFault HasScript bytes fault)) }
 {
     let bytes = read_input(alloc, input, &mut Calls::none())?;
-    let written = simulated(alloc, bytes.as_slice())?;
+    let written = simulated(alloc, bytes, trace)?;
     write_text(written.text.as_bytes(), output)?;
     if written.complete {
         Ok(())
@@ -201,7 +202,7 @@ pub fn perform<R: Read, W: Write>(
     match request {
         Request::Match => match_tables(threads, alloc, input, output),
         Request::Hours(day) => tell_hours(alloc, day, output),
-        Request::Simulate => simulate_script(alloc, input, output),
+        Request::Simulate { trace } => simulate_script(alloc, trace, input, output),
         Request::Report(wanted) => {
             let kind = DeskReport::Listed(wanted.kind, wanted.format);
             tell_desk(rt, kind, wanted.side, wanted.book, input, output)

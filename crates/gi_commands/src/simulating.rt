@@ -35,17 +35,19 @@ fn add_counts(alloc: Global, text: &mut String, simulation: &Simulation) -> Resu
     text.push_str(counts.as_str())
 }
 
-/// What `simulate` writes for an input: a line of each step of the script, and two of what the
-/// sides then hold. The fault is the script's. Where memory runs out in a step, or for its line, the
-/// lines of those before it are written.
-pub fn simulated(alloc: Global, input: &[u8]) -> Result<Written, Fault>
-    ensures text { IfOk result (λ written. written.complete ≡ true → IsSimulation input.now (string_bytes written.text)) }
-    ensures cut { IfOk result (λ written. written.complete ≡ false → IsCutShort input.now (string_bytes written.text)) }
-    ensures script { IfOk result (λ written. HasScript input.now) }
-    ensures fault { IfErr result (IsNoScript input.now) }
+/// What `simulate` writes for an input: a line of each step of the script, with a trace also lines of
+/// what moved in it, and two of what the sides then hold. The fault is the script's. Where memory runs
+/// out in a step, or for its lines, the lines of those before it are written. The input's memory is
+/// given back once the script is read.
+pub fn simulated(alloc: Global, input: Vec<u8>, trace: bool) -> Result<Written, Fault>
+    ensures text { IfOk result (λ written. written.complete ≡ true → IsSimulation trace input.items (string_bytes written.text)) }
+    ensures cut { IfOk result (λ written. written.complete ≡ false → IsCutShort trace input.items (string_bytes written.text)) }
+    ensures script { IfOk result (λ written. HasScript input.items) }
+    ensures fault { IfErr result (IsNoScript input.items) }
 {
-    let script = read_script(alloc, input)?;
-    let made = simulate(alloc, &script)?;
+    let script = read_script(alloc, &input)?;
+    drop(input);
+    let made = simulate(alloc, &script, trace)?;
     let mut text = made.text;
     if !made.complete {
         return Ok(Written {

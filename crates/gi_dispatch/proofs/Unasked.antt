@@ -29,7 +29,7 @@ if_some (Some input) P all = all input
 pub may_want : (wanted : Wanted) (remaining : Option (List ℕ)) → IsTaskFault wanted remaining (Command fault.OutOfMemory)
 may_want (at_once match_tables) remaining = if_some remaining (λ input. IsFirstFault input fault.OutOfMemory) (λ input. tt)
 may_want (at_once (hours day)) remaining = tt
-may_want (at_once simulate) remaining = if_some remaining (λ input. IsFirstScriptFault HasScript input fault.OutOfMemory) (λ input. tt)
+may_want (at_once (simulate trace)) remaining = if_some remaining (λ input. IsFirstScriptFault HasScript input fault.OutOfMemory) (λ input. tt)
 may_want (at_once (report kind format side None)) remaining =
     if_some remaining (λ input. IsFirstScriptFault (HasReport (Listed kind format) side) input fault.OutOfMemory) (λ input. tt)
 may_want (at_once (report kind format side (Some book))) remaining = tt
@@ -46,7 +46,7 @@ keeps_same (Some input) = refl
 pub may_leave : (wanted : Wanted) (remaining : Option (List ℕ)) → MayReadTask wanted remaining remaining
 may_leave (at_once match_tables) remaining = tt
 may_leave (at_once (hours day)) remaining = keeps_same remaining
-may_leave (at_once simulate) remaining = tt
+may_leave (at_once (simulate trace)) remaining = tt
 may_leave (at_once (report kind format side None)) remaining = tt
 may_leave (at_once (report kind format side (Some book))) remaining = keeps_same remaining
 may_leave (at_once (explain side words None)) remaining = tt
@@ -59,7 +59,7 @@ may_leave (serve sessions books) remaining = tt
 pub may_keep : (wanted : Wanted) (remaining old new : Option (List ℕ)) → Keeps old new → LeavesTask wanted remaining old new (Command fault.OutOfMemory)
 may_keep (at_once match_tables) remaining old new kept = kept
 may_keep (at_once (hours day)) remaining old new kept = kept
-may_keep (at_once simulate) remaining old new kept = if_some remaining (λ input. CutsShort input old new) (λ input. inl kept)
+may_keep (at_once (simulate trace)) remaining old new kept = if_some remaining (λ input. CutsShort trace input old new) (λ input. inl kept)
 may_keep (at_once (report kind format side book)) remaining old new kept = kept
 may_keep (at_once (explain side words book)) remaining old new kept = kept
 may_keep (at_once (audit initiating matching point)) remaining old new kept = kept

@@ -1,5 +1,5 @@
 -- The last fact that is so records what stands.
-use Rattle.std.proofs.Common.{arith, ◌≡◌, ◌<◌, ◌≤◌, ◌+◌, ◌-◌, ℕ, zero, suc, List, [], ◌∷◌, ◌++◌, length, drop, reverse, find, filter_map, Bool, true, false, cond, Option, Some, None, refl, sym, ap, ◌∙◌, subst, append-nil, unwrap_or}
+use Rattle.std.proofs.Common.{arith, ◌≡◌, ◌<◌, ◌≤◌, ◌+◌, ◌-◌, ℕ, zero, suc, List, [], ◌∷◌, ◌++◌, length, drop, reverse, find, filter_map, Bool, true, false, cond, ◌||◌, Option, Some, None, refl, sym, ap, ◌∙◌, subst, append-nil, unwrap_or}
 use Rattle.std.specs.Prelude.{IfSome, slice_get}
 use Rattle.std.specs.Borrow.{Bor}
 use Rattle.std.specs.List.{cons_option, list_any}
@@ -26,6 +26,7 @@ use Rattle.gi_desk.specs.Queries.{fact_at}
 use Rattle.gi_desk.proofs.Confirmed.{a_peer, peer_later, peer_none}
 use Rattle.gi_desk.proofs.Legality.{legal-front, legal-sound}
 use Rattle.gi_explanations.specs.Basis.{counted_capacity, counted_documents, standing_contract, standing_nomination, standing_notice}
+use Rattle.gi_explanations.specs.Laws.{NamesTheFacts}
 use Rattle.gi_explanations.specs.Numbers.{counting, first_number, is_contract, is_nomination, is_notice, last_number, numbers, own}
 use Rattle.gi_explanations.specs.declared.numbers.Numbers.{Numbers}
 use Rattle.gi_explanations.specs.declared.question.Question.{Question}
@@ -193,3 +194,40 @@ unfolding numbers first_number number_of
 peer-found side facts q n number found n_is number_is found_is =
     found_is ∙ ap (λ m. option_and_then (peer_in q.id) (fact_at facts m)) (number_is ∙ ap (λ (m : Numbers). unwrap_or m.meeting 0) n_is)
     ∙ peer-by q.id facts (list_any (is_meeting q.id) facts) refl
+
+-- ---- the closing
+
+-- the first fact that is so is so
+there : (is : Test) (facts : List Fact) → list_any is facts ≡ true → option_map_or is (slice_get facts (skipped is facts)) false ≡ true
+there is [] any = absurd cc
+there is (fact ∷ facts) any =
+    ap (λ n. option_map_or is (slice_get (fact ∷ facts) n) false) (skipped-cons is fact facts) ∙ by (is fact) refl any (there is facts)
+  where
+    by : (b : Bool) → is fact ≡ b → (b || list_any is facts) ≡ true
+        → (list_any is facts ≡ true → option_map_or is (slice_get facts (skipped is facts)) false ≡ true)
+        → option_map_or is (slice_get (fact ∷ facts) (cond b 0 (suc (skipped is facts)))) false ≡ true
+    by true e any rest = e
+    by false e any rest = rest any
+
+closing-by : (id : CycleId) (facts : List Fact) (any : Bool) → list_any (is_closing id) facts ≡ any
+    → IfSome (cond any (Some (skipped (is_closing id) facts + 1)) None) (λ number. option_map_or (is_closing id) (fact_at facts number) false ≡ true)
+closing-by id facts true any =
+    ap (λ (o : Option Fact). option_map_or (is_closing id) o false) (numbered facts (skipped (is_closing id) facts)) ∙ there (is_closing id) facts any
+closing-by id facts false any = tt
+
+meeting-by : (id : CycleId) (facts : List Fact) (any : Bool) → list_any (is_meeting id) facts ≡ any
+    → IfSome (cond any (Some (skipped (is_meeting id) facts + 1)) None) (λ number. option_and_then (peer_in id) (fact_at facts number) ≡ peer_of id facts)
+meeting-by id facts true any = peer-by id facts true any
+meeting-by id facts false any = tt
+
+pub names-facts : (side : Side) (facts : List Fact) (q : Question) → NamesTheFacts side facts q (numbers side facts q)
+unfolding numbers first_number number_of
+names-facts side facts q =
+    let n = numbers side facts q in
+    record {
+      nomination = nomination-found side facts q n (option_and_then document_in (fact_at facts n.nomination)) refl refl;
+      contract = contract-found side facts q n (option_and_then contract_in (fact_at facts n.contract)) refl refl;
+      notice = notice-found side facts q n (option_and_then notice_in (fact_at facts n.notice)) refl refl;
+      closing = closing-by q.id facts (list_any (is_closing q.id) facts) refl;
+      meeting = meeting-by q.id facts (list_any (is_meeting q.id) facts) refl;
+    }

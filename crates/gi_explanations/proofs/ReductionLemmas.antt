@@ -102,6 +102,19 @@ unfolding processed_quantity
 processed-outside side facts q covered =
     ap (λ (b : Bool). cond b (processed_line_quantity side facts q (nominated_line side q (standing_nomination side facts q))) 0) (sym covered)
 
+-- ---- what is shown
+
+pub processed-shown : (side : Side) (facts : List Fact) (q : Question) (line : Line) → is_covered q ≡ true → nominated_line side q (standing_nomination side facts q) ≡ Some line
+    → processed_quantity side facts q ≡ reduced (amounts side facts q) (quantity_at (q.hour - 1) line)
+processed-shown side facts q line covered line_is =
+    sym (processed-found side facts q (amounts side facts q) (quantity_at (q.hour - 1) line) (reduced (amounts side facts q) (quantity_at (q.hour - 1) line)) line covered (sym line_is) refl refl refl)
+
+pub available-shown : (side : Side) (facts : List Fact) (q : Question) (contract : Contract) → standing_contract side facts q ≡ Some contract
+    → available_quantity side facts q ≡ parts contract (left_under (standing_notice facts q)).firm (left_under (standing_notice facts q)).interruptible
+available-shown side facts q contract contract_is =
+    let notice = standing_notice facts q in
+    sym (left-parts contract notice ∙ available-is side facts q (Some contract) notice (left_of (Some contract) notice) refl (sym contract_is) refl)
+
 -- ---- the sums
 
 pub amounts-made : (side : Side) (q : Question) (n : ℕ) (lines : List Line) (code : List ℕ) (before up_to all : ℕ) → code ≡ counterparty side q

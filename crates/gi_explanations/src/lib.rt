@@ -20,5 +20,7 @@ mod reduction;
 mod wanted;
 
 pub use explaining::explanation;
-pub use laws::{explains_the_confirmed, explains_the_frozen};
+pub use laws::{
+    explains_by_facts, explains_the_confirmed, explains_the_frozen, explains_the_reduction,
+};
 pub use question::Question;

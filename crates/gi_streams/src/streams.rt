@@ -141,7 +141,7 @@ fn tells_that_a_reader_fails(rt: HostRuntime) -> Result<(), Fail> {
     let tables = format!(in rt.alloc(); "{ORDER}\n{OWN}\n")?;
     for (request, text) in [
         (Request::Match, tables.as_str()),
-        (Request::Simulate, SCRIPT),
+        (Request::Simulate { trace: false }, SCRIPT),
         (REPORT, SCRIPT),
     ] {
         let (result, output) = told(&rt, &rt, request, &mut text.as_bytes().chain(Broken));
@@ -161,7 +161,7 @@ fn tells_that_a_reader_fails(rt: HostRuntime) -> Result<(), Fail> {
 fn takes_input_up_to_the_limit(rt: HostRuntime) {
     for (request, fault) in [
         (Request::Match, Fault::Lines),
-        (Request::Simulate, Fault::Script(ScriptFault::Point)),
+        (Request::Simulate { trace: false }, Fault::Script(ScriptFault::Point)),
         (REPORT, Fault::Script(ScriptFault::Point)),
     ] {
         let (result, output) = told(&rt, &rt, request, &mut Long { left: 67_108_864 });
@@ -179,7 +179,7 @@ fn tells_that_a_writer_fails(rt: HostRuntime) -> Result<(), Fail> {
     for (request, text, part) in [
         (Request::Match, tables.as_str(), 100),
         (Request::Hours("2026-01-15"), "", 100),
-        (Request::Simulate, SCRIPT, 10),
+        (Request::Simulate { trace: false }, SCRIPT, 10),
         (REPORT, SCRIPT, 10),
     ] {
         for room in [0, part] {

@@ -7,7 +7,7 @@ use Rattle.gi_commands.proofs.simulating.simulated.Goals as goal
 pub returns-then-not-made-clause-cut : goal.returns-then-not-made-clause-cut
 returns-then-not-made-clause-cut c =
     let short : c.in_ok-made.made.complete ≡ false = search rules in
-    λ is. cut_run _ _ c.in_ok-script.script _ c.in_ok-script.ensures.found (c.in_ok-made.ensures.cut short)
+    λ is. cut_run c.args.trace _ _ c.in_ok-script.script _ c.in_ok-script.ensures.found (c.in_ok-made.ensures.cut short)
 
 pub returns-in-Ok-clause-text : goal.returns-in-Ok-clause-text
 returns-in-Ok-clause-text c =
@@ -21,4 +21,4 @@ returns-in-Ok-clause-text c =
 pub returns-clause-cut : goal.returns-clause-cut
 returns-clause-cut c =
     let whole : c.in_ok-made.made.complete ≡ true = search rules in
-    λ is. cut_after _ _ c.in_ok-script.script c.in_ok-script.ensures.found (c.in-Err.ensures.kept ∙ c.in_ok-made.ensures.text whole)
+    λ is. cut_after c.args.trace _ _ c.in_ok-script.script c.in_ok-script.ensures.found (c.in-Err.ensures.kept ∙ c.in_ok-made.ensures.text whole)

@@ -1,0 +1,104 @@
+-- Where a table that a side met and the one that its peer wrote differ first.
+use Rattle.std.specs.Prelude.{ℕ, ◌-◌, List, [], ◌++◌, find, Bool, not, nat_eq, if◌then◌else◌, Option, None, Some, option_map, slice_get, codes}
+use Rattle.std.specs.Fmt.{decimal}
+use Rattle.std.specs.List.{range_with_len}
+use Rattle.std.specs.Ordering.{is_lt}
+use Rattle.gi_pairs.specs.Direction.{direction_text}
+use Rattle.gi_pairs.specs.Key.{key_cmp}
+use Rattle.gi_pairs.specs.Limits.{last_hour}
+use Rattle.gi_pairs.specs.Row.{key_of}
+use Rattle.gi_pairs.specs.Table.{TableContents, reading}
+use Rattle.gi_pairs.specs.declared.key.Key.{Key}
+use Rattle.gi_pairs.specs.declared.row.Row.{Row}
+use Rattle.gi_pairs.specs.declared.side.Side.{Side}
+use Rattle.gi_pairs.specs.declared.side.Side.TheVariants.{I, M}
+use Rattle.gi_pairs.specs.declared.cycle_id.CycleId.{CycleId}
+use Rattle.gi_desk.specs.Deciding.{difference}
+use Rattle.gi_desk.specs.History.{peer_of}
+use Rattle.gi_desk.specs.Machine.{DeskState}
+use Rattle.gi_audit.specs.Sent.{sent_table}
+use Rattle.gi_audit.specs.declared.difference.Difference.{Difference}
+use Rattle.gi_audit.specs.declared.finding.Finding.{Finding}
+use Rattle.gi_audit.specs.declared.finding.Finding.TheVariants.{Agreed, OpenAtInitiating, OpenAtBoth, Differs}
+use Rattle.gi_audit.specs.declared.place.HourDifference.{HourDifference}
+use Rattle.gi_audit.specs.declared.place.Place.{Place}
+
+-- What a row at which two tables differ is for: rows stand in table order, so the lower one is missing in the other table.
+abbrev pub lower_key : Option Row → Option Row → Option Key
+lower_key (Some met) (Some written) = Some (if is_lt (key_cmp (key_of written) (key_of met)) then key_of written else key_of met)
+lower_key (Some met) None = Some (key_of met)
+lower_key None (Some written) = Some (key_of written)
+lower_key None None = None
+
+-- row number n of both, from 1
+abbrev pub key_by : TableContents → TableContents → Option ℕ → Option Key
+key_by met written None = None
+key_by met written (Some n) = lower_key (slice_get met.rows (n - 1)) (slice_get written.rows (n - 1))
+
+-- what the first row that differs is for
+abbrev pub key_at : TableContents → TableContents → Option Key
+key_at met written = key_by met written (difference met.rows written.rows)
+
+-- the tables read another quantity there
+abbrev pub differs_in : TableContents → TableContents → Key → ℕ → Bool
+differs_in met written key hour = not (nat_eq (reading met key.pair key.direction hour) (reading written key.pair key.direction hour))
+
+-- the first such hour of the longest gas day, and what both tables read in it
+abbrev pub differing_hour : TableContents → TableContents → Key → Option ℕ
+differing_hour met written key = find (differs_in met written key) (range_with_len 1 last_hour)
+
+abbrev pub read_in : TableContents → TableContents → Key → ℕ → HourDifference
+read_in met written key hour =
+    record { hour = hour; met = reading met key.pair key.direction hour; written = reading written key.pair key.direction hour }
+
+abbrev pub hour_at : TableContents → TableContents → Key → Option HourDifference
+hour_at met written key = option_map (read_in met written key) (differing_hour met written key)
+
+abbrev pub place_at : TableContents → TableContents → Key → Place
+place_at met written key = record { key = key; hour = hour_at met written key }
+
+-- the first row in which two tables differ, and there the first hour
+abbrev pub first_place : TableContents → TableContents → Option Place
+first_place met written = option_map (place_at met written) (key_at met written)
+
+-- ---- of a cycle
+
+abbrev pub place_of : Option TableContents → Option TableContents → Option Place
+place_of None written = None
+place_of (Some met) None = None
+place_of (Some met) (Some written) = first_place met written
+
+-- where the table that a side met of a cycle differs from the one that its peer, the other side, has written
+unfoldable pub place_between : Side → DeskState → DeskState → CycleId → Option Place
+place_between other s peer id = place_of (peer_of id s.facts) (sent_table other peer id)
+
+abbrev pub place_met_by : Side → DeskState → DeskState → CycleId → Option Place
+place_met_by I initiating matching id = place_between M initiating matching id
+place_met_by M initiating matching id = place_between I matching initiating id
+
+-- where what is found differs
+abbrev pub place_found : Finding → DeskState → DeskState → CycleId → Option Place
+place_found (Differs difference) initiating matching id = place_met_by difference.side initiating matching id
+place_found (Agreed im mi) initiating matching id = None
+place_found OpenAtInitiating initiating matching id = None
+place_found OpenAtBoth initiating matching id = None
+
+-- ---- in words
+
+-- ` 24 met 8 written 10`
+abbrev pub hour_text : HourDifference → List ℕ
+hour_text differs = codes " " ++ (decimal differs.hour ++ (codes " met " ++ (decimal differs.met ++ (codes " written " ++ decimal differs.written))))
+
+abbrev pub any_hour_text : Option HourDifference → List ℕ
+any_hour_text None = []
+any_hour_text (Some differs) = hour_text differs
+
+-- ` at A B IM`, and the hour
+abbrev pub place_text : Place → List ℕ
+place_text place =
+    codes " at " ++ (place.key.pair.initiating ++ (codes " " ++ (place.key.pair.matching ++ (codes " "
+    ++ (direction_text place.key.direction ++ any_hour_text place.hour)))))
+
+abbrev pub any_place_text : Option Place → List ℕ
+any_place_text None = []
+any_place_text (Some place) = place_text place
