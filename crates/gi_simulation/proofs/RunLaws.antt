@@ -1,5 +1,5 @@
 -- Runs one after the other.
-use Rattle.std.proofs.Common.{◌≡◌, ◌<◌, ◌+◌, ◌-◌, ◌⊎◌, ℕ, suc, List, [], ◌∷◌, ◌++◌, append_assoc, append-nil, replicate, Bool, Result, Ok, Err, OnErr, OnOk, is_ok, true, arith, refl, sym, ap, subst, ◌∙◌}
+use Rattle.std.proofs.Common.{◌≡◌, ◌<◌, ◌+◌, ◌-◌, ◌⊎◌, ℕ, suc, List, [], ◌∷◌, ◌++◌, append_assoc, append-nil, replicate, Bool, Result, Ok, Err, OnErr, OnOk, is_ok, false, true, arith, refl, sym, ap, subst, ◌∙◌}
 use Rattle.std.proofs.lemmas.Grind.{flat_map-append}
 use Rattle.std.proofs.lemmas.List.{replicate_more, replicate-append-replicate}
 use Rattle.gi_script.specs.declared.line.Line.{Line}
@@ -95,6 +95,17 @@ pub told_in : {T E : Type 0} (trace : Bool) (r : Result T E) (s first end : Simu
 told_in trace (Ok x) s first end given all old text shown ok made first_is given_is old_is shown_is =
     shown_is ∙ made.notes ∙ (λ t. noted (telling trace) (old_is t) (first_is t) (turns (given_is t))) ∙ gathered-is (printed trace) [] s (turns all)
 told_in trace (Err e) s first end given all old text shown ok made first_is given_is old_is shown_is = absurd cc
+
+-- and of one that is cut off
+pub cut_in : {T E : Type 0} (trace : Bool) (r : Result T E) (s first end : SimulationState) (given all : List Line) (old text shown : List ℕ) → is_ok r ≡ false
+    → OnErr r (IsCutOff (telling trace) first (turns given) old text end) → first ≡ s → given ≡ all → old ≡ [] → shown ≡ text
+    → IsCutOff (telling trace) s (turns all) [] shown end
+cut_in trace (Ok x) s first end given all old text shown failed cut first_is given_is old_is shown_is = absurd cc
+cut_in trace (Err e) s first end given all old text shown failed cut first_is given_is old_is shown_is =
+    subst (λ (x : SimulationState). IsCutOff (telling trace) x (turns all) [] shown end) first_is
+    (subst (λ (x : List Line). IsCutOff (telling trace) first (turns x) [] shown end) given_is
+    (subst (λ (x : List ℕ). IsCutOff (telling trace) first (turns given) x shown end) old_is
+    (subst (λ (x : List ℕ). IsCutOff (telling trace) first (turns given) old x end) (sym shown_is) cut)))
 
 -- the refused submissions of a run
 recorded : (old : RefusedState) (s : SimulationState) (lines : List Line)
