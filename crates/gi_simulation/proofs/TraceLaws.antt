@@ -31,5 +31,5 @@ lines_more peer link all i packet waiting next old line new below is was told jo
     let here : line ≡ packet_line peer (length (with_packets link made).carrier.waiting) packet = told ∙ ap (λ (n : ℕ). packet_line peer n packet) was.1 in (
       joined ∙ (λ t. was.0 t ++ here t) ∙ sym (packet_lines-push peer link made packet) ∙ ap (packet_lines peer link) (sym more),
       sym on_way ∙ ap (λ (l : LinkState). length l.carrier.waiting) (sym (with_packets-push link made packet))
-      ∙ ap (λ (xs : List Packet). length (with_packets link xs).carrier.waiting) (sym more),
+          ∙ ap (λ (xs : List Packet). length (with_packets link xs).carrier.waiting) (sym more),
     )

@@ -117,11 +117,7 @@ impl Link {
     }
 
     /// The lines that tell of packets, of which those for the peer come to this way.
-    pub(crate) fn packet_lines(
-        &self,
-        peer: Side,
-        packets: &[Packet],
-    ) -> Result<String, AllocError>
+    pub(crate) fn packet_lines(&self, peer: Side, packets: &[Packet]) -> Result<String, AllocError>
         ensures { IfOk result (λ text. string_bytes text ≡ packet_lines_of peer self.now packets.now) }
     {
         let mut text = String::new(self.alloc);

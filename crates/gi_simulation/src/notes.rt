@@ -14,12 +14,7 @@ pub(crate) trait Notes {
 
     /// Notes what came of a line, with the lines that its trace tells. Where memory runs out nothing
     /// is noted.
-    fn note(
-        &mut self,
-        line: &Line,
-        outcome: Option<Outcome>,
-        lines: &str,
-    ) -> Result<(), AllocError>
+    fn note(&mut self, line: &Line, outcome: Option<Outcome>, lines: &str) -> Result<(), AllocError>
         ensures noted { OnOk result (self.new ≡ noting self.old line.now outcome lines.now) }
         ensures kept { OnErr result (self.new ≡ self.old) };
 }

@@ -43,11 +43,7 @@ fn step_line(alloc: Global, line: &Line, outcome: Outcome) -> Result<String, All
     format!(in alloc; "{number} {side} {outcome}\n")
 }
 
-fn outcome_line(
-    alloc: Global,
-    line: &Line,
-    outcome: Option<Outcome>,
-) -> Result<String, AllocError>
+fn outcome_line(alloc: Global, line: &Line, outcome: Option<Outcome>) -> Result<String, AllocError>
     ensures { IfOk result (λ text. string_bytes text ≡ text_of line.now outcome) }
 {
     match outcome {
