@@ -5,3 +5,4 @@ mod SimulationLaws
 mod TraceLaws
 mod OnItsWay
 mod SoundSimulation
+mod Indented

@@ -4,3 +4,4 @@ pub mod Trace
 pub mod Runs
 pub mod Refused
 pub mod OnItsWay
+pub mod Laws

@@ -27,7 +27,7 @@ mod simulation;
 mod text;
 mod trace;
 
-pub use laws::what_is_carried_is_delivered;
+pub use laws::{a_trace_follows_its_step, what_is_carried_is_delivered};
 pub use link::Link;
 pub use outcome::Outcome;
 pub use refused::{portfolio_of, refused_submissions};
