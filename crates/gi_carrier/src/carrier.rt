@@ -1,5 +1,5 @@
-ghost use Rattle.std.specs.Prelude.{◌≡◌, ◌<◌, ◌≤◌, All, Contains, Err, IfErr, IfOk, OnErr, OnOk, length};
-ghost use Rattle.std.specs.Option.{IfSome, option_map};
+ghost use Rattle.std.specs.Prelude.{◌≡◌, ◌<◌, ◌≤◌, All, Contains, Err, IfErr, IfOk, OnErr, OnOk, length, slice_get};
+ghost use Rattle.std.specs.Option.{IfSome, option_copied, option_map};
 ghost use Rattle.gi_carrier.specs.Carrier.{after_next, after_send, given as given_of, move_at, new_carrier};
 ghost use Rattle.gi_carrier.specs.Kept.{bytes_of};
 ghost use Rattle.gi_carrier.specs.Limits.{most_waiting};
@@ -7,6 +7,7 @@ ghost use Rattle.gi_carrier.specs.declared.moves.Move.TheVariants.{Repeat};
 ghost use Rattle.gi_carrier.specs.declared.send_fault.SendFault.TheVariants.{Full, OutOfMemory};
 
 use crate::making::make;
+use crate::moves::Move;
 use crate::plan::Plan;
 use crate::send_fault::SendFault;
 use std::alloc::{AllocError, Global};
@@ -46,6 +47,31 @@ impl Carrier {
             waiting: VecDeque::new(alloc),
             position: 0,
         }
+    }
+
+    /// How many messages wait: at most 4,096.
+    pub fn len(&self) -> usize
+        ensures value { result ≡ length self.now.waiting }
+        ensures few { result ≤ most_waiting }
+    {
+        self.waiting.len()
+    }
+
+    /// The message that waits first, if one waits.
+    pub fn first(&self) -> Option<&[u8]>
+        ensures { option_copied result ≡ slice_get self.now.waiting 0 }
+    {
+        match self.waiting.front() {
+            Some(first) => Some(first.as_slice()),
+            None => None,
+        }
+    }
+
+    /// The plan's move at this position: the one that `next` makes where something waits.
+    pub fn coming_move(&self, plan: &Plan) -> Move
+        ensures { result ≡ move_at plan.now self.now.position }
+    {
+        plan.move_at(self.position)
     }
 
     /// The message waits behind the others. `Full` where 4,096 wait, then `OutOfMemory`; after

@@ -2,7 +2,7 @@
 use Rattle.std.proofs.Common.{◌≡◌, ℕ, List, [], ◌∷◌, ◌++◌, map, ap, sym, ◌∙◌, refl}
 use Rattle.gi_carrier.specs.declared.moves.Move.{Move}
 use Rattle.gi_script.specs.Grammar.{SaysMoves}
-use Rattle.gi_script.specs.Verb.{move_text}
+use Rattle.gi_carrier.specs.Moves.{move_text}
 
 -- one move more
 pub texts_push : (moves : List Move) (next : Move) (words : List (List ℕ)) (word : List ℕ) (rest : List (List ℕ)) (all : List (List ℕ))

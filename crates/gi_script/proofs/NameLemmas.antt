@@ -12,7 +12,8 @@ use Rattle.gi_pairs.specs.declared.direction.Direction.TheVariants.{IM, MI}
 use Rattle.gi_pairs.specs.declared.side.Side.{Side}
 use Rattle.gi_pairs.specs.declared.side.Side.TheVariants.{I, M}
 use Rattle.gi_script.specs.Reading.{Finds}
-use Rattle.gi_script.specs.Verb.{verb_text, verbs, verb_named, move_text, move_named}
+use Rattle.gi_carrier.specs.Moves.{move_text}
+use Rattle.gi_script.specs.Verb.{verb_text, verbs, verb_named, move_named}
 use Rattle.gi_script.specs.declared.verb.Verb.{Verb}
 use Rattle.gi_script.specs.declared.verb.Verb.TheVariants as verb
 

@@ -17,7 +17,8 @@ use Rattle.gi_processing.specs.declared.notice.Notice.{Notice}
 use Rattle.gi_desk.specs.declared.call.Call.TheVariants as calls
 use Rattle.gi_carrier.specs.declared.moves.Move.{Move}
 use Rattle.gi_script.specs.Numbers.{IsNumber}
-use Rattle.gi_script.specs.Verb.{move_text, verb_text}
+use Rattle.gi_carrier.specs.Moves.{move_text}
+use Rattle.gi_script.specs.Verb.{verb_text}
 use Rattle.gi_script.specs.Words.{space, words_of}
 use Rattle.gi_script.specs.Grammar.{IsDayWord, IsDirectionWord, Says, SaysContract, SaysNotice, SaysCycle, SaysCount, SaysNumber, SaysMoves, SaysCommand, SaysPlan, SpellsPoint}
 use Rattle.gi_script.specs.Laws.{IsOneInstruction}

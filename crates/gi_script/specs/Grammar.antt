@@ -14,9 +14,10 @@ use Rattle.gi_processing.specs.declared.contract.Contract.{Contract}
 use Rattle.gi_processing.specs.declared.notice.Notice.{Notice}
 use Rattle.gi_desk.specs.declared.call.Call.TheVariants as calls
 use Rattle.gi_carrier.specs.Carrier.{IsPlan}
+use Rattle.gi_carrier.specs.Moves.{move_text}
 use Rattle.gi_carrier.specs.declared.moves.Move.{Move}
 use Rattle.gi_script.specs.Numbers.{IsNumber, IsCount, most_byte, most_permille, most_number}
-use Rattle.gi_script.specs.Verb.{move_text, verb_text}
+use Rattle.gi_script.specs.Verb.{verb_text}
 use Rattle.gi_script.specs.Words.{words_of}
 use Rattle.gi_script.specs.declared.instruction.Instruction.{Instruction}
 use Rattle.gi_script.specs.declared.instruction.Instruction.TheVariants as instructions

@@ -1,6 +1,7 @@
 -- The words that say what a line asks of a side.
 use Rattle.std.specs.Prelude.{ℕ, List, [], ◌∷◌, codes, find, Option}
 use Rattle.std.specs.Str.{bytes_eq}
+use Rattle.gi_carrier.specs.Moves.{move_text}
 use Rattle.gi_carrier.specs.declared.moves.Move.{Move}
 use Rattle.gi_carrier.specs.declared.moves.Move.TheVariants as moves
 use Rattle.gi_script.specs.declared.verb.Verb.{Verb}
@@ -24,12 +25,6 @@ verbs = Contract ∷ Notice ∷ Submit ∷ Close ∷ Resend ∷ Halt ∷ Save �
 -- the verb of that text
 unfoldable pub verb_named : List ℕ → Option Verb
 verb_named text = find (λ verb. bytes_eq text (verb_text verb)) verbs
-
-abbrev pub move_text : Move → List ℕ
-move_text moves.Pass = codes "pass"
-move_text moves.Drop = codes "drop"
-move_text moves.Repeat = codes "repeat"
-move_text moves.Hold = codes "hold"
 
 -- the move of that text
 unfoldable pub move_named : List ℕ → Option Move

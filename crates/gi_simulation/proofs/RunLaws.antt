@@ -1,17 +1,16 @@
 -- Runs one after the other.
-use Rattle.std.proofs.Common.{◌≡◌, ◌<◌, ◌+◌, ◌-◌, ◌⊎◌, ℕ, suc, List, [], ◌∷◌, ◌++◌, append_assoc, append-nil, replicate, Option, Result, Ok, Err, OnErr, OnOk, is_ok, true, arith, refl, sym, ap, subst, ◌∙◌}
+use Rattle.std.proofs.Common.{◌≡◌, ◌<◌, ◌+◌, ◌-◌, ◌⊎◌, ℕ, suc, List, [], ◌∷◌, ◌++◌, append_assoc, append-nil, replicate, Bool, Result, Ok, Err, OnErr, OnOk, is_ok, false, true, arith, refl, sym, ap, subst, ◌∙◌}
 use Rattle.std.proofs.lemmas.Grind.{flat_map-append}
 use Rattle.std.proofs.lemmas.List.{replicate_more, replicate-append-replicate}
 use Rattle.gi_script.specs.declared.line.Line.{Line}
-use Rattle.gi_simulation.specs.Runs.{IsCutOff, IsRun, gathered, noted, run, telling, text_of, turns, turns_of}
+use Rattle.gi_simulation.specs.Runs.{IsCutOff, IsRun, gathered, noted, printed, run, telling, turns, turns_of}
 use Rattle.gi_pairs.specs.declared.side.Side.{Side}
 use Rattle.gi_simulation.specs.Refused.{RefusedState, recording, refused_by}
-use Rattle.gi_simulation.specs.Simulation.{SimulationState, after, outcome_of}
-use Rattle.gi_simulation.specs.declared.outcome.Outcome.{Outcome}
+use Rattle.gi_simulation.specs.Simulation.{SimulationState, after}
 
 -- the type of what notes a turn
 abbrev pub Note : Type 0 → Type 0
-Note N = N → Line → Option Outcome → N
+Note N = N → SimulationState → Line → N
 
 pub run-append : (s : SimulationState) (front back : List Line) → run s (front ++ back) ≡ run (run s front) back
 run-append s [] back = refl
@@ -20,7 +19,7 @@ run-append s (line ∷ front) back = run-append (after s line.instruction) front
 pub noted-append : {N : Type 0} (note : Note N) (old : N) (s : SimulationState) (front back : List Line)
     → noted note old s (front ++ back) ≡ noted note (noted note old s front) (run s front) back
 noted-append note old s [] back = refl
-noted-append note old s (line ∷ front) back = noted-append note (note old line (outcome_of s line.instruction)) (after s line.instruction) front back
+noted-append note old s (line ∷ front) back = noted-append note (note old s line) (after s line.instruction) front back
 
 -- a run, and then another
 pub run-then : {N : Type 0} (note : Note N) (s mid end : SimulationState) (front back : List Line) (old middle new : N) → IsRun note s front old middle mid → IsRun note mid back middle new end
@@ -84,27 +83,37 @@ cut-line note s mid end before later all line old middle new is first second =
     cut-then note s mid end (turns before) (turns_of line) (turns later) (turns all) old middle new first second joined
 
 -- notes that are pieces of a list, one after the other
-pub gathered-is : {X : Type 0} (piece : Line → Option Outcome → List X) (old : List X) (s : SimulationState) (lines : List Line)
-    → noted (λ so_far line outcome. so_far ++ piece line outcome) old s lines ≡ old ++ gathered piece s lines
+pub gathered-is : {X : Type 0} (piece : SimulationState → Line → List X) (old : List X) (s : SimulationState) (lines : List Line)
+    → noted (λ so_far s line. so_far ++ piece s line) old s lines ≡ old ++ gathered piece s lines
 gathered-is piece old s [] = sym (append-nil old)
 gathered-is piece old s (line ∷ lines) =
-    gathered-is piece (old ++ piece line (outcome_of s line.instruction)) (after s line.instruction) lines
-    ∙ append_assoc old (piece line (outcome_of s line.instruction)) (gathered piece (after s line.instruction) lines)
+    gathered-is piece (old ++ piece s line) (after s line.instruction) lines ∙ append_assoc old (piece s line) (gathered piece (after s line.instruction) lines)
 
 -- the text of a run that is made whole
-pub told_in : {T E : Type 0} (r : Result T E) (s first end : SimulationState) (given all : List Line) (old text shown : List ℕ) → is_ok r ≡ true
-    → OnOk r (IsRun telling first (turns given) old text end) → first ≡ s → given ≡ all → old ≡ [] → shown ≡ text → shown ≡ gathered text_of s (turns all)
-told_in (Ok x) s first end given all old text shown ok made first_is given_is old_is shown_is =
-    shown_is ∙ made.notes ∙ (λ t. noted telling (old_is t) (first_is t) (turns (given_is t))) ∙ gathered-is text_of [] s (turns all)
-told_in (Err e) s first end given all old text shown ok made first_is given_is old_is shown_is = absurd cc
+pub told_in : {T E : Type 0} (trace : Bool) (r : Result T E) (s first end : SimulationState) (given all : List Line) (old text shown : List ℕ) → is_ok r ≡ true
+    → OnOk r (IsRun (telling trace) first (turns given) old text end) → first ≡ s → given ≡ all → old ≡ [] → shown ≡ text → shown ≡ gathered (printed trace) s (turns all)
+told_in trace (Ok x) s first end given all old text shown ok made first_is given_is old_is shown_is =
+    shown_is ∙ made.notes ∙ (λ t. noted (telling trace) (old_is t) (first_is t) (turns (given_is t))) ∙ gathered-is (printed trace) [] s (turns all)
+told_in trace (Err e) s first end given all old text shown ok made first_is given_is old_is shown_is = absurd cc
+
+-- and of one that is cut off
+pub cut_in : {T E : Type 0} (trace : Bool) (r : Result T E) (s first end : SimulationState) (given all : List Line) (old text shown : List ℕ) → is_ok r ≡ false
+    → OnErr r (IsCutOff (telling trace) first (turns given) old text end) → first ≡ s → given ≡ all → old ≡ [] → shown ≡ text
+    → IsCutOff (telling trace) s (turns all) [] shown end
+cut_in trace (Ok x) s first end given all old text shown failed cut first_is given_is old_is shown_is = absurd cc
+cut_in trace (Err e) s first end given all old text shown failed cut first_is given_is old_is shown_is =
+    subst (λ (x : SimulationState). IsCutOff (telling trace) x (turns all) [] shown end) first_is
+    (subst (λ (x : List Line). IsCutOff (telling trace) first (turns x) [] shown end) given_is
+    (subst (λ (x : List ℕ). IsCutOff (telling trace) first (turns given) x shown end) old_is
+    (subst (λ (x : List ℕ). IsCutOff (telling trace) first (turns given) old x end) (sym shown_is) cut)))
 
 -- the refused submissions of a run
 recorded : (old : RefusedState) (s : SimulationState) (lines : List Line)
     → noted recording old s lines ≡ record { side = old.side; portfolios = old.portfolios ++ gathered (refused_by old.side) s lines }
 recorded old s [] = λ t. record { side = old.side; portfolios = sym (append-nil old.portfolios) t }
 recorded old s (line ∷ lines) =
-    let first = refused_by old.side line (outcome_of s line.instruction) in
-    recorded (recording old line (outcome_of s line.instruction)) (after s line.instruction) lines
+    let first = refused_by old.side s line in
+    recorded (recording old s line) (after s line.instruction) lines
     ∙ (λ t. record { side = old.side; portfolios = append_assoc old.portfolios first (gathered (refused_by old.side) (after s line.instruction) lines) t })
 
 pub recorded_in : (side : Side) (s first end : SimulationState) (given all : List Line) (old got : RefusedState) → IsRun recording first (turns given) old got end

@@ -1,5 +1,5 @@
 -- The submissions that a side refuses.
-use Rattle.std.specs.Prelude.{ℕ, List, [], ◌∷◌, ◌++◌, Option, Some, None, Result, Ok, Err}
+use Rattle.std.specs.Prelude.{ℕ, List, [], ◌∷◌, ◌++◌, Option, Some, None, Result, Ok}
 use Rattle.gi_desk.specs.declared.call.Call.{Call}
 use Rattle.gi_desk.specs.declared.call.Call.TheVariants as calls
 use Rattle.gi_messages.specs.Decoding.{decoded}
@@ -11,6 +11,7 @@ use Rattle.gi_pairs.specs.declared.side.Side.TheVariants.{I, M}
 use Rattle.gi_script.specs.declared.instruction.Instruction.{Instruction}
 use Rattle.gi_script.specs.declared.instruction.Instruction.TheVariants as instructions
 use Rattle.gi_script.specs.declared.line.Line.{Line}
+use Rattle.gi_simulation.specs.Simulation.{SimulationState, outcome_of}
 use Rattle.gi_simulation.specs.declared.outcome.Outcome.{Outcome}
 use Rattle.gi_simulation.specs.declared.outcome.Outcome.TheVariants.{Refused}
 
@@ -41,13 +42,18 @@ where_refused (Some (Refused refusal)) found = found
 where_refused _ found = []
 
 -- the portfolio of a line's submission, where the side refused it
-abbrev pub refused_by : Side → Line → Option Outcome → List (Option (List ℕ))
-refused_by side line outcome = where_refused outcome (submitted side line.instruction)
+abbrev pub refused_by : Side → SimulationState → Line → List (Option (List ℕ))
+refused_by side s line = where_refused (outcome_of s line.instruction) (submitted side line.instruction)
 
 -- the portfolios of a side's refused submissions
 pub record RefusedState : Type 0 where
   pub side : Side
   pub portfolios : List (Option (List ℕ))
 
-abbrev pub recording : RefusedState → Line → Option Outcome → RefusedState
-recording so_far line outcome = record { side = so_far.side; portfolios = so_far.portfolios ++ refused_by so_far.side line outcome }
+abbrev pub recording : RefusedState → SimulationState → Line → RefusedState
+recording so_far s line = record { side = so_far.side; portfolios = so_far.portfolios ++ refused_by so_far.side s line }
+
+-- the same by the turn's outcome
+abbrev pub recording_outcome : RefusedState → Line → Option Outcome → List ℕ → RefusedState
+recording_outcome so_far line outcome lines =
+    record { side = so_far.side; portfolios = so_far.portfolios ++ where_refused outcome (submitted so_far.side line.instruction) }

@@ -1,5 +1,5 @@
 -- What the lines of a script make of a simulation, and what is noted of them.
-use Rattle.std.specs.Prelude.{◌≡◌, ◌⊎◌, ℕ, List, [], ◌∷◌, ◌++◌, replicate, Option, Some, None, codes}
+use Rattle.std.specs.Prelude.{◌≡◌, ◌⊎◌, ℕ, List, [], ◌∷◌, ◌++◌, replicate, Bool, Option, Some, None, codes}
 use Rattle.std.specs.Fmt.{decimal}
 use Rattle.std.specs.List.{flat_map}
 use Rattle.gi_pairs.specs.Side.{side_text}
@@ -9,6 +9,7 @@ use Rattle.gi_script.specs.declared.instruction.Instruction.TheVariants.{Call, S
 use Rattle.gi_script.specs.declared.line.Line.{Line}
 use Rattle.gi_simulation.specs.OutcomeText.{outcome_text}
 use Rattle.gi_simulation.specs.Simulation.{SimulationState, after, outcome_of}
+use Rattle.gi_simulation.specs.Trace.{trace_of, where_asked}
 use Rattle.gi_simulation.specs.declared.outcome.Outcome.{Outcome}
 
 -- how often an instruction is made: `save COUNT` COUNT times, any other once
@@ -28,24 +29,28 @@ abbrev pub run : SimulationState → List Line → SimulationState
 run s [] = s
 run s (line ∷ lines) = run (after s line.instruction) lines
 
--- what is noted of the turns, one after the other
-abbrev pub noted : {N : Type 0} → (N → Line → Option Outcome → N) → N → SimulationState → List Line → N
+-- what is noted of the turns, one after the other, each by the simulation before it
+abbrev pub noted : {N : Type 0} → (N → SimulationState → Line → N) → N → SimulationState → List Line → N
 noted note so_far s [] = so_far
-noted note so_far s (line ∷ lines) = noted note (note so_far line (outcome_of s line.instruction)) (after s line.instruction) lines
+noted note so_far s (line ∷ lines) = noted note (note so_far s line) (after s line.instruction) lines
 
 -- the same of pieces of a list, one after the other
-abbrev pub gathered : {X : Type 0} → (Line → Option Outcome → List X) → SimulationState → List Line → List X
+abbrev pub gathered : {X : Type 0} → (SimulationState → Line → List X) → SimulationState → List Line → List X
 gathered piece s [] = []
-gathered piece s (line ∷ lines) = piece line (outcome_of s line.instruction) ++ gathered piece (after s line.instruction) lines
+gathered piece s (line ∷ lines) = piece s line ++ gathered piece (after s line.instruction) lines
+
+-- what is noted of a turn by its outcome, and by the lines of its trace where that is asked for
+abbrev pub noting_turn : {N : Type 0} → (N → Line → Option Outcome → List ℕ → N) → Bool → N → SimulationState → Line → N
+noting_turn note trace so_far s line = note so_far line (outcome_of s line.instruction) (where_asked trace (trace_of s line.instruction))
 
 -- all turns are made, and noted
-pub record IsRun {N : Type 0} (note : N → Line → Option Outcome → N) (start : SimulationState) (turns : List Line) (old new : N) (end : SimulationState) : Type 0 where
+pub record IsRun {N : Type 0} (note : N → SimulationState → Line → N) (start : SimulationState) (turns : List Line) (old new : N) (end : SimulationState) : Type 0 where
   pub notes : new ≡ noted note old start turns
   pub simulation : end ≡ run start turns
 
 -- Memory ran out in a turn. Those before it are made, and noted; the world is as they left it, or as this turn did where
 -- its step was made, and only what it sent or the note of it was refused.
-pub record IsCutOff {N : Type 0} (note : N → Line → Option Outcome → N) (start : SimulationState) (turns : List Line) (old new : N) (end : SimulationState) : Type 0 where
+pub record IsCutOff {N : Type 0} (note : N → SimulationState → Line → N) (start : SimulationState) (turns : List Line) (old new : N) (end : SimulationState) : Type 0 where
   pub made : List Line
   pub next : Line
   pub left : List Line
@@ -74,6 +79,14 @@ abbrev pub text_of : Line → Option Outcome → List ℕ
 text_of line None = []
 text_of line (Some outcome) = step_text line outcome
 
--- the text with that of a line, which comes to its end
-abbrev pub telling : List ℕ → Line → Option Outcome → List ℕ
-telling text line outcome = text ++ text_of line outcome
+-- a turn's text, with the lines of its trace where that is asked for
+abbrev pub printed : Bool → SimulationState → Line → List ℕ
+printed trace s line = text_of line (outcome_of s line.instruction) ++ where_asked trace (trace_of s line.instruction)
+
+-- the text with that of a turn, which comes to its end
+abbrev pub telling : Bool → List ℕ → SimulationState → Line → List ℕ
+telling trace text s line = text ++ printed trace s line
+
+-- the same by the turn's outcome and those lines
+abbrev pub telling_lines : List ℕ → Line → Option Outcome → List ℕ → List ℕ
+telling_lines text line outcome lines = text ++ (text_of line outcome ++ lines)

@@ -6,13 +6,14 @@
 //!
 //! ```text
 //! let script = read_script(alloc, bytes)?;
-//! let made = simulate(alloc, &script)?;
+//! let made = simulate(alloc, &script, false)?;
 //! print(made.text);                                   // a line for each step
 //! let desk = made.simulation.world().initiating();    // the offices after them
 //! ```
 //!
-//! [`simulate`] makes a script and tells what came of each step, [`refused_submissions`] makes it
-//! and counts; [`Simulation::make`] makes one instruction, for who has no script.
+//! [`simulate`] makes a script and tells what came of each step, and where it is asked for, which
+//! messages moved in it: its trace. [`refused_submissions`] makes a script and counts;
+//! [`Simulation::make`] makes one instruction, for who has no script.
 #![tactic(auto)]
 
 mod laws;
@@ -24,8 +25,9 @@ mod run;
 mod simulated;
 mod simulation;
 mod text;
+mod trace;
 
-pub use laws::what_is_carried_is_delivered;
+pub use laws::{a_trace_follows_its_step, what_is_carried_is_delivered};
 pub use link::Link;
 pub use outcome::Outcome;
 pub use refused::{portfolio_of, refused_submissions};

@@ -1,11 +1,14 @@
-ghost use Rattle.std.specs.Prelude.{◌≡◌, IfOk, OnErr, OnOk, option_map};
+ghost use Rattle.std.specs.Prelude.{◌≡◌, IfOk, OnErr, OnOk, length, option_map, string_bytes};
 ghost use Rattle.gi_carrier.specs.Carrier.{IsPlan, given};
 ghost use Rattle.gi_carrier.specs.Kept.{bytes_of};
 ghost use Rattle.gi_simulation.specs.OnItsWay.{WaitedOrCame};
-ghost use Rattle.gi_simulation.specs.Simulation.{moved_on, new_link, with_message, with_packet, with_packets};
+ghost use Rattle.gi_simulation.specs.Simulation.{LinkState, moved_on, new_link, with_message, with_packet, with_packets};
+ghost use Rattle.gi_simulation.specs.Trace.{carried_line as carried_line_of, packet_lines as packet_lines_of};
 
-use gi_carrier::{Carrier, Move, Plan, SendFault};
+use crate::trace::{moved_line, packet_line};
+use gi_carrier::{Carrier, MOST_WAITING, Move, Plan, SendFault};
 use gi_desk::{Packet, Recipient};
+use gi_pairs::Side;
 use std::alloc::{AllocError, Global};
 use std::marker::Model;
 
@@ -31,6 +34,16 @@ fn plan_of(alloc: Global, plan: &[Move]) -> Result<Plan, AllocError>
 {
     let moves = Vec::from_slice(alloc, plan)?;
     Ok(Plan::build(moves).unwrap())
+}
+
+/// How many wait on a way where so many waited before a packet came.
+fn waiting_after(waiting: usize, packet: &Packet) -> usize
+    ensures { (link : LinkState) → length link.carrier.waiting ≡ waiting → length (with_packet link packet.now).carrier.waiting ≡ result }
+{
+    match packet.to {
+        Recipient::Peer if waiting < MOST_WAITING => waiting + 1,
+        _ => waiting,
+    }
 }
 
 impl Link {
@@ -93,5 +106,27 @@ impl Link {
         ensures kept { OnErr result (self.new ≡ self.old) }
     {
         self.carrier.next(&self.plan)
+    }
+
+    /// The line that tells what the carrier does next, with the message that waits first; none where nothing waits.
+    pub(crate) fn carried_line(&self) -> Result<String, AllocError>
+        ensures { IfOk result (λ text. string_bytes text ≡ carried_line_of self.now) }
+    {
+        let next = self.carrier.coming_move(&self.plan);
+        moved_line(self.alloc, next, self.carrier.first())
+    }
+
+    /// The lines that tell of packets, of which those for the peer come to this way.
+    pub(crate) fn packet_lines(&self, peer: Side, packets: &[Packet]) -> Result<String, AllocError>
+        ensures { IfOk result (λ text. string_bytes text ≡ packet_lines_of peer self.now packets.now) }
+    {
+        let mut text = String::new(self.alloc);
+        let mut waiting = self.carrier.len();
+        for packet in packets {
+            let line = packet_line(self.alloc, peer, waiting, packet)?;
+            text.push_str(line.as_str())?;
+            waiting = waiting_after(waiting, packet);
+        }
+        Ok(text)
     }
 }

@@ -6,14 +6,15 @@ use std::alloc::AllocError;
 
 /// What is kept of a run.
 pub(crate) trait Notes {
-    ghost use Rattle.std.specs.Prelude.{Option};
+    ghost use Rattle.std.specs.Prelude.{List, Option, ℕ};
     ghost use Rattle.gi_script.specs.declared.line.Line.{Line};
     ghost use Rattle.gi_simulation.specs.declared.outcome.Outcome.{Outcome};
 
-    ghost noting: { Self → Line → Option Outcome → Self };
+    ghost noting: { Self → Line → Option Outcome → List ℕ → Self };
 
-    /// Notes what came of a line. Where memory runs out nothing is noted.
-    fn note(&mut self, line: &Line, outcome: Option<Outcome>) -> Result<(), AllocError>
-        ensures noted { OnOk result (self.new ≡ noting self.old line.now outcome) }
+    /// Notes what came of a line, with the lines that its trace tells. Where memory runs out nothing
+    /// is noted.
+    fn note(&mut self, line: &Line, outcome: Option<Outcome>, lines: &str) -> Result<(), AllocError>
+        ensures noted { OnOk result (self.new ≡ noting self.old line.now outcome lines.now) }
         ensures kept { OnErr result (self.new ≡ self.old) };
 }

@@ -57,11 +57,16 @@ impl Refused {
 }
 
 impl Notes for Refused {
-    ghost use Rattle.gi_simulation.specs.Refused.{recording};
+    ghost use Rattle.gi_simulation.specs.Refused.{recording_outcome};
 
-    ghost noting = { recording };
+    ghost noting = { recording_outcome };
 
-    fn note(&mut self, line: &Line, outcome: Option<Outcome>) -> Result<(), AllocError> {
+    fn note(
+        &mut self,
+        line: &Line,
+        outcome: Option<Outcome>,
+        _lines: &str,
+    ) -> Result<(), AllocError> {
         let Some(Outcome::Refused(_)) = outcome else {
             return Ok(());
         };
@@ -94,6 +99,6 @@ pub fn refused_submissions(
 {
     let mut simulation = Simulation::new(alloc, script.point())?;
     let mut refused = Refused::new(alloc, side);
-    run(&mut simulation, script.lines(), &mut refused)?;
+    run(&mut simulation, script.lines(), &mut refused, false)?;
     Ok((simulation, refused.portfolios))
 }

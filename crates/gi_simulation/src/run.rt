@@ -1,7 +1,7 @@
 //! The lines of a script, one after the other, each as often as it says.
 
 ghost use Rattle.std.specs.Prelude.{◌≡◌, ◌∷◌, [], OnErr, OnOk};
-ghost use Rattle.gi_simulation.specs.Runs.{IsCutOff, IsRun, times as times_of, turns, turns_of};
+ghost use Rattle.gi_simulation.specs.Runs.{IsCutOff, IsRun, noting_turn, times as times_of, turns, turns_of};
 
 use crate::notes::Notes;
 use crate::simulation::Simulation;
@@ -21,24 +21,26 @@ fn make_once<N: Notes>(
     simulation: &mut Simulation,
     line: &Line,
     notes: &mut N,
+    trace: bool,
 ) -> Result<(), AllocError>
-    ensures made { OnOk result (IsRun N.noting simulation.old (line.now ∷ []) notes.old notes.new simulation.new) }
-    ensures cut { OnErr result (IsCutOff N.noting simulation.old (line.now ∷ []) notes.old notes.new simulation.new) }
+    ensures made { OnOk result (IsRun (noting_turn N.noting trace) simulation.old (line.now ∷ []) notes.old notes.new simulation.new) }
+    ensures cut { OnErr result (IsCutOff (noting_turn N.noting trace) simulation.old (line.now ∷ []) notes.old notes.new simulation.new) }
 {
-    let outcome = simulation.make(&line.instruction)?;
-    notes.note(line, outcome)
+    let (outcome, lines) = simulation.make_traced(&line.instruction, trace)?;
+    notes.note(line, outcome, lines.as_str())
 }
 
 fn make_line<N: Notes>(
     simulation: &mut Simulation,
     line: &Line,
     notes: &mut N,
+    trace: bool,
 ) -> Result<(), AllocError>
-    ensures made { OnOk result (IsRun N.noting simulation.old (turns_of line.now) notes.old notes.new simulation.new) }
-    ensures cut { OnErr result (IsCutOff N.noting simulation.old (turns_of line.now) notes.old notes.new simulation.new) }
+    ensures made { OnOk result (IsRun (noting_turn N.noting trace) simulation.old (turns_of line.now) notes.old notes.new simulation.new) }
+    ensures cut { OnErr result (IsCutOff (noting_turn N.noting trace) simulation.old (turns_of line.now) notes.old notes.new simulation.new) }
 {
     for _ in 0..times(&line.instruction) {
-        make_once(simulation, line, notes)?;
+        make_once(simulation, line, notes, trace)?;
     }
     Ok(())
 }
@@ -47,12 +49,13 @@ pub(crate) fn run<N: Notes>(
     simulation: &mut Simulation,
     lines: &[Line],
     notes: &mut N,
+    trace: bool,
 ) -> Result<(), AllocError>
-    ensures made { OnOk result (IsRun N.noting simulation.old (turns lines.now) notes.old notes.new simulation.new) }
-    ensures cut { OnErr result (IsCutOff N.noting simulation.old (turns lines.now) notes.old notes.new simulation.new) }
+    ensures made { OnOk result (IsRun (noting_turn N.noting trace) simulation.old (turns lines.now) notes.old notes.new simulation.new) }
+    ensures cut { OnErr result (IsCutOff (noting_turn N.noting trace) simulation.old (turns lines.now) notes.old notes.new simulation.new) }
 {
     for line in lines {
-        make_line(simulation, line, notes)?;
+        make_line(simulation, line, notes, trace)?;
     }
     Ok(())
 }

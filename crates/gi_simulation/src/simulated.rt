@@ -1,6 +1,6 @@
 ghost use Rattle.std.specs.Prelude.{◌≡◌, [], IfErr, IfOk, false, string_bytes, true};
 ghost use Rattle.gi_simulation.specs.OnItsWay.{AllIsDelivered, OnlySentWaits};
-ghost use Rattle.gi_simulation.specs.Runs.{IsCutOff, gathered, run as run_of, telling, text_of, turns};
+ghost use Rattle.gi_simulation.specs.Runs.{IsCutOff, gathered, printed, run as run_of, telling, turns};
 ghost use Rattle.gi_simulation.specs.Simulation.{new_simulation};
 ghost use Rattle.gi_world.specs.Headline.{OneConfirmedQuantity};
 ghost use Rattle.gi_world.specs.Histories.{held};
@@ -18,31 +18,31 @@ use std::alloc::Global;
 pub struct Simulated {
     /// Both offices after these steps; where memory ran out, perhaps after one step more.
     pub simulation: Simulation,
-    /// A line for each step, in order.
+    /// A line for each step, in order, each with the lines of its trace where that was asked for.
     pub text: String,
     /// Whether all of the script is made; else memory ran out.
     pub complete: bool,
 }
 
 /// Makes the lines of a script, from two desks without facts and nothing on its way, and writes a
-/// line `N SIDE OUTCOME` of each step. A refused step is an outcome, and the run goes on; only want
-/// of memory ends it before the last line. `OutOfMemory` comes before the first step, and no other
-/// refusal.
-pub fn simulate(alloc: Global, script: &Script) -> Result<Simulated, StartFault>
+/// line `N SIDE OUTCOME` of each step; with `trace` lines follow it that tell which messages moved.
+/// A refused step is an outcome, and the run goes on; only want of memory ends it before the last
+/// line. `OutOfMemory` comes before the first step, and no other refusal.
+pub fn simulate(alloc: Global, script: &Script, trace: bool) -> Result<Simulated, StartFault>
     ensures text { IfOk result (λ it. it.complete ≡ true
-        → string_bytes it.text ≡ gathered text_of (new_simulation script.now.point) (turns script.now.lines)) }
+        → string_bytes it.text ≡ gathered (printed trace) (new_simulation script.now.point) (turns script.now.lines)) }
     ensures simulation { IfOk result (λ it. it.complete ≡ true
         → it.simulation ≡ run_of (new_simulation script.now.point) (turns script.now.lines)) }
     ensures one_quantity { IfOk result (λ it. OneConfirmedQuantity (held it.simulation.world)) }
     ensures waits { IfOk result (λ it. OnlySentWaits it.simulation) }
     ensures delivers { IfOk result (λ it. AllIsDelivered it.simulation) }
     ensures cut { IfOk result (λ it. it.complete ≡ false
-        → IsCutOff telling (new_simulation script.now.point) (turns script.now.lines) [] (string_bytes it.text) it.simulation) }
+        → IsCutOff (telling trace) (new_simulation script.now.point) (turns script.now.lines) [] (string_bytes it.text) it.simulation) }
     ensures refused { IfErr result (λ fault. fault ≡ OutOfMemory) }
 {
     let mut simulation = Simulation::new(alloc, script.point())?;
     let mut text = Text::new(alloc);
-    let complete = run(&mut simulation, script.lines(), &mut text).is_ok();
+    let complete = run(&mut simulation, script.lines(), &mut text, trace).is_ok();
     simulation.known();
     Ok(Simulated {
         simulation,

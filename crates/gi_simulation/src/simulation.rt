@@ -1,9 +1,10 @@
-ghost use Rattle.std.specs.Prelude.{◌≡◌, ◌⊎◌, IfErr, IfOk, OnErr, OnOk, option_map};
+ghost use Rattle.std.specs.Prelude.{◌≡◌, ◌⊎◌, IfErr, IfOk, OnErr, OnOk, Some, option_map, string_bytes};
 ghost use Rattle.gi_carrier.specs.Carrier.{given};
 ghost use Rattle.gi_carrier.specs.Kept.{bytes_of};
 ghost use Rattle.gi_desk.specs.Queries.{unsaved};
 ghost use Rattle.gi_simulation.specs.OnItsWay.{AllIsDelivered, IsSound, OnlySentWaits, WereLetOut};
 ghost use Rattle.gi_simulation.specs.Simulation.{after, after_step, answered, link_to, marking, moved_on, new_simulation, number_of as number_in, outcome_of, outcome_without, prepared, shown, side_of_step, step_of, with_link, with_packets};
+ghost use Rattle.gi_simulation.specs.Trace.{carried_by, let_out, packet_lines, trace_of, where_asked};
 ghost use Rattle.gi_world.specs.Headline.{OneConfirmedQuantity};
 ghost use Rattle.gi_world.specs.Histories.{held};
 ghost use Rattle.gi_world.specs.World.{after as world_after, outcome as world_outcome, other, station_of};
@@ -24,6 +25,7 @@ use std::marker::Model;
 /// Both offices, and the carriers between them.
 #[derive(Drop)]
 pub struct Simulation {
+    alloc: Global,
     world: World,
     to_initiating: Link,
     to_matching: Link,
@@ -90,6 +92,7 @@ impl Simulation {
         ensures refused { IfErr result (λ fault. fault ≡ OutOfMemory) }
     {
         Ok(Simulation {
+            alloc,
             world: World::new(alloc, point)?,
             to_initiating: Link::new(alloc)?,
             to_matching: Link::new(alloc)?,
@@ -204,20 +207,84 @@ impl Simulation {
         })
     }
 
-    fn step(&mut self, step: &Step) -> Result<Outcome, AllocError>
-        ensures outcome { IfOk result (λ outcome. outcome ≡ shown (world_outcome self.old.world step.now)) }
+    fn way_to(&self, side: Side) -> &Link
+        ensures { result.now ≡ link_to side self.now }
+    {
+        match side {
+            Side::I => &self.to_initiating,
+            Side::M => &self.to_matching,
+        }
+    }
+
+    fn carried_line(&self, instruction: &Instruction) -> Result<String, AllocError>
+        ensures { IfOk result (λ text. string_bytes text ≡ carried_by self.now instruction.now) }
+    {
+        match instruction {
+            Instruction::Carry { side } => self.way_to(*side).carried_line(),
+            _ => Ok(String::new(self.alloc)),
+        }
+    }
+
+    fn carried(&self, instruction: &Instruction, trace: bool) -> Result<String, AllocError>
+        ensures { IfOk result (λ text. string_bytes text ≡ where_asked trace (carried_by self.now instruction.now)) }
+    {
+        if !trace {
+            return Ok(String::new(self.alloc));
+        }
+        self.carried_line(instruction)
+    }
+
+    fn told(&self, peer: Side, packets: &[Packet], trace: bool) -> Result<String, AllocError>
+        ensures { IfOk result (λ text. string_bytes text ≡ where_asked trace (packet_lines peer (link_to peer self.now) packets.now)) }
+    {
+        if !trace {
+            return Ok(String::new(self.alloc));
+        }
+        self.way_to(peer).packet_lines(peer, packets)
+    }
+
+    fn step(&mut self, step: &Step, trace: bool) -> Result<(Outcome, String), AllocError>
+        ensures outcome { IfOk result (λ it. it.0 ≡ shown (world_outcome self.old.world step.now)) }
+        ensures lines { IfOk result (λ it. string_bytes it.1 ≡ where_asked trace (let_out self.old (Some step.now))) }
         ensures next { OnOk result (self.new ≡ after_step self.old step.now) }
         ensures world { OnErr result ((self.new.world ≡ self.old.world) ⊎ (self.new.world ≡ world_after self.old.world step.now)) }
     {
         let reply = match self.world.step(step) {
             Ok(WorldReply::Desk(reply)) => reply,
-            Ok(WorldReply::Restarted { saved }) => return Ok(Outcome::Restarted(saved)),
+            Ok(WorldReply::Restarted { saved }) => {
+                return Ok((Outcome::Restarted(saved), String::new(self.alloc)));
+            }
             Err(WorldFault::OutOfMemory) => return Err(AllocError),
-            Err(fault) => return Ok(Outcome::NotMade(fault)),
+            Err(fault) => return Ok((Outcome::NotMade(fault), String::new(self.alloc))),
         };
         let outcome = outcome(&reply);
-        self.send(side_of(step).other(), reply.out.into_vec())?;
-        Ok(outcome)
+        let peer = side_of(step).other();
+        let lines = self.told(peer, reply.out.as_slice(), trace)?;
+        self.send(peer, reply.out.into_vec())?;
+        Ok((outcome, lines))
+    }
+
+    /// Makes an instruction's step as `make` does, and answers with what comes of it and, where `trace`, with
+    /// the lines that tell which messages moved; else with none.
+    pub fn make_traced(
+        &mut self,
+        instruction: &Instruction,
+        trace: bool,
+    ) -> Result<(Option<Outcome>, String), AllocError>
+        ensures outcome { IfOk result (λ it. it.0 ≡ outcome_of self.old instruction.now) }
+        ensures lines { IfOk result (λ it. string_bytes it.1 ≡ where_asked trace (trace_of self.old instruction.now)) }
+        ensures next { OnOk result (self.new ≡ after self.old instruction.now) }
+        ensures delivers { AllIsDelivered self.old }
+        ensures world { OnErr result ((self.new.world ≡ self.old.world) ⊎ (self.new.world ≡ (after self.old instruction.now).world)) }
+    {
+        self.known();
+        let mut lines = self.carried(instruction, trace)?;
+        let Some(step) = self.prepare(instruction)? else {
+            return Ok((without_step(instruction), lines));
+        };
+        let (outcome, out) = self.step(&step, trace)?;
+        lines.push_str(out.as_str())?;
+        Ok((Some(outcome), lines))
     }
 
     /// Makes an instruction's step once; of `save`, one mark. What comes of it, and nothing of a plan
@@ -230,10 +297,7 @@ impl Simulation {
         ensures delivers { AllIsDelivered self.old }
         ensures world { OnErr result ((self.new.world ≡ self.old.world) ⊎ (self.new.world ≡ (after self.old instruction.now).world)) }
     {
-        self.known();
-        let Some(step) = self.prepare(instruction)? else {
-            return Ok(without_step(instruction));
-        };
-        Ok(Some(self.step(&step)?))
+        let (outcome, _) = self.make_traced(instruction, false)?;
+        Ok(outcome)
     }
 }

@@ -1,5 +1,5 @@
-ghost use Rattle.std.specs.Prelude.{◌≡◌, [], IfOk, string_bytes};
-ghost use Rattle.gi_simulation.specs.Runs.{side_of as side_of_instruction, step_text};
+ghost use Rattle.std.specs.Prelude.{◌≡◌, ◌++◌, [], IfOk, string_bytes};
+ghost use Rattle.gi_simulation.specs.Runs.{side_of as side_of_instruction, step_text, text_of};
 
 use crate::notes::Notes;
 use crate::outcome::Outcome;
@@ -43,6 +43,15 @@ fn step_line(alloc: Global, line: &Line, outcome: Outcome) -> Result<String, All
     format!(in alloc; "{number} {side} {outcome}\n")
 }
 
+fn outcome_line(alloc: Global, line: &Line, outcome: Option<Outcome>) -> Result<String, AllocError>
+    ensures { IfOk result (λ text. string_bytes text ≡ text_of line.now outcome) }
+{
+    match outcome {
+        None => Ok(String::new(alloc)),
+        Some(outcome) => step_line(alloc, line, outcome),
+    }
+}
+
 impl Text {
     pub(crate) fn new(alloc: Global) -> Text
         ensures { result ≡ [] }
@@ -61,15 +70,18 @@ impl Text {
 }
 
 impl Notes for Text {
-    ghost use Rattle.gi_simulation.specs.Runs.{telling};
+    ghost use Rattle.gi_simulation.specs.Runs.{telling_lines};
 
-    ghost noting = { telling };
+    ghost noting = { telling_lines };
 
-    fn note(&mut self, line: &Line, outcome: Option<Outcome>) -> Result<(), AllocError> {
-        let Some(outcome) = outcome else {
-            return Ok(());
-        };
-        let text = step_line(self.alloc, line, outcome)?;
+    fn note(
+        &mut self,
+        line: &Line,
+        outcome: Option<Outcome>,
+        lines: &str,
+    ) -> Result<(), AllocError> {
+        let mut text = outcome_line(self.alloc, line, outcome)?;
+        text.push_str(lines)?;
         self.text.push_str(text.as_str())
     }
 }

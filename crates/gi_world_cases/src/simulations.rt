@@ -84,11 +84,25 @@ fn make_line(
     }
 }
 
-/// Adds the lines that begin with a number from `first` on.
+/// The number and whether the trace is wanted, of `[NUMBER] [--trace]`.
+fn asked(mut words: Words<'_>) -> (u32, bool) {
+    let first = words.next();
+    let last = if first == "--trace" {
+        first
+    } else {
+        words.next()
+    };
+    (first.parse::<u32>().unwrap_or(0), last == "--trace")
+}
+
+/// Adds the lines from the first on that begins with a number of at least `first`; the lines of a
+/// trace begin with none.
 fn add_from(lines: &str, first: u32, text: &mut String) -> Result<(), AllocError> {
+    let mut wanted = false;
     for line in lines.lines() {
         let number = Words::of(line).number();
-        if number.is_some_and(|number| number >= first) {
+        wanted = wanted || number.is_some_and(|number| number >= first);
+        if wanted {
             write!(text, "{line}\n")?;
         }
     }
@@ -151,14 +165,14 @@ impl Simulations {
     }
 
     /// Simulates the script; its offices are those that are asked from then on. With a number only
-    /// what the lines from that one on printed is added.
+    /// what the lines from that one on printed is added, and with `--trace` their traces too.
     fn simulate(
         &mut self,
         alloc: Global,
-        mut words: Words<'_>,
+        words: Words<'_>,
         text: &mut String,
     ) -> Result<bool, Fault> {
-        let first = words.number().unwrap_or(0);
+        let (first, trace) = asked(words);
         let script = match read_script(alloc, self.script.as_bytes()) {
             Ok(script) => script,
             Err(fault) => {
@@ -166,7 +180,7 @@ impl Simulations {
                 return Ok(true);
             }
         };
-        match simulate(alloc, &script) {
+        match simulate(alloc, &script, trace) {
             Ok(simulated) => {
                 let added = add_simulated(&simulated, first, text);
                 self.take(simulated.simulation);

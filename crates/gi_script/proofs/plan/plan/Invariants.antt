@@ -1,6 +1,6 @@
 use Rattle.std.proofs.Common.{◌≡◌, ◌++◌, ◌≤◌, map, length}
 use Rattle.gi_carrier.specs.Limits.{most_moves}
-use Rattle.gi_script.specs.Verb.{move_text}
+use Rattle.gi_carrier.specs.Moves.{move_text}
 use Rattle.gi_script.proofs.plan.plan.Given as goal
 
 -- the moves read so far are the first words

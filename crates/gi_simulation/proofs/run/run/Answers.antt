@@ -2,6 +2,7 @@ use Rattle.std.proofs.Common.{◌≡◌, ◌+◌, List, [], ◌∷◌, ◌++◌,
 use Rattle.std.proofs.lemmas.List.{take-append-drop}
 use Rattle.gi_desk.proofs.HistoryLaws.{one_more}
 use Rattle.gi_script.specs.declared.line.Line.{Line}
+use Rattle.gi_simulation.specs.Runs.{noting_turn}
 use Rattle.gi_simulation.proofs.RunLaws.{cut-line, on_err, run-line}
 use Rattle.gi_simulation.proofs.run.run.Goals as goal
 
@@ -15,7 +16,7 @@ returns-in_err-make_line-clause-cut g c =
     let all : lines ≡ (take at.line-index lines ++ line ∷ []) ++ later =
     sym (take-append-drop (at.line-index + 1) lines) ∙ ap (λ (front : List Line). front ++ later) more in
     on_err c.from_residual.result
-    (cut-line g.N.Notes.noting c.args.simulation.now at.simulation c.make_line.new.simulation (take at.line-index lines) later lines line c.args.notes.now at.notes
+    (cut-line (noting_turn g.N.Notes.noting c.args.trace) c.args.simulation.now at.simulation c.make_line.new.simulation (take at.line-index lines) later lines line c.args.notes.now at.notes
     c.make_line.new.notes all at.invariant c.in_err-make_line.ensures.cut)
 
 pub loop-line-preserved : goal.loop-line-preserved
@@ -23,5 +24,5 @@ loop-line-preserved g c =
     let at = c.loop-line in
     let lines = c.args.lines.now in
     let line = c.line-item.result in
-    run-line g.N.Notes.noting c.args.simulation.now at.simulation c.make_line.new.simulation (take at.line-index lines) (take (at.line-index + 1) lines) line c.args.notes.now
+    run-line (noting_turn g.N.Notes.noting c.args.trace) c.args.simulation.now at.simulation c.make_line.new.simulation (take at.line-index lines) (take (at.line-index + 1) lines) line c.args.notes.now
     at.notes c.make_line.new.notes (one_more lines at.line-index line c.loop-line-test.true c.line-item.is) at.invariant c.in_ok-make_line.ensures.made

@@ -21,5 +21,5 @@ send-requires c =
     let reply = c.in-Ok-Desk.reply in
     let is : c.step.result ≡ Ok (Desk reply) = search rules in
     let out = reply_let_out c.self.inside.world c.step.new.self c.args.step.now reply c.step.result c.step.ensures.meaning is in
-    let_out_to c.other.result c.side_of.result (side_of_step c.args.step.now) c.step.new.self reply.out c.into_vec.result.items c.other.ensures c.side_of.ensures
+    let_out_to c.other-peer.result c.side_of.result (side_of_step c.args.step.now) c.step.new.self reply.out c.into_vec.result.items c.other-peer.ensures c.side_of.ensures
     c.into_vec.ensures out
