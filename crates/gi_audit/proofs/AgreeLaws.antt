@@ -21,8 +21,10 @@ use Rattle.gi_world.proofs.Fronts.{front-frozen, front-met, saved-front}
 use Rattle.gi_audit.specs.Agreeing.{Agree, world_of}
 use Rattle.gi_audit.specs.Audit.{first_difference}
 use Rattle.gi_audit.specs.Cycles.{AreClosedAtEither}
-use Rattle.gi_audit.specs.Finding.{differs}
-use Rattle.gi_audit.specs.Laws.{AgreeingDesksConfirmOneQuantity, TheMatchingSideConfirmsFirst, WorldsAgree}
+use Rattle.gi_audit.specs.Finding.{difference, differs, finding, found_by, undisputed}
+use Rattle.gi_audit.specs.declared.difference.Difference.{Difference}
+use Rattle.gi_audit.specs.declared.finding.Finding.TheVariants.{OpenAtBoth}
+use Rattle.gi_audit.specs.Laws.{AgreeingDesksConfirmOneQuantity, OpenAtBothIsOpen, TheMatchingSideConfirmsFirst, WorldsAgree}
 use Rattle.gi_audit.proofs.FindingLemmas.{AgreeAt, agrees-at, no-difference}
 
 -- ---- all cycles
@@ -103,6 +105,23 @@ confirms-first s t id table none e =
     let (peer, saved) = confirmed_from I s id table e in
     let written = (no-difference I M s t id).0 none peer (front-met (saved_facts s) s.facts id peer (saved-front s) saved) in
     confirmed_some M t id written.sent
+
+open_by : (first second : Option Difference) (ours theirs : Option TableContents) → found_by first second (undisputed ours theirs) ≡ OpenAtBoth → (second ≡ None) × (theirs ≡ None)
+open_by None None ours None e = (refl, refl)
+open_by None None None (Some theirs) e = absurd cc
+open_by None None (Some ours) (Some theirs) e = absurd cc
+open_by None (Some d) ours theirs e = absurd cc
+open_by (Some d) second ours theirs e = absurd cc
+
+unconfirmed : (ours theirs : Option TableContents) → ((table : TableContents) → ours ≡ Some table → is_some theirs ≡ true) → theirs ≡ None → ours ≡ None
+unconfirmed None theirs first none = refl
+unconfirmed (Some table) theirs first none = absurd (true≢false (sym (first table refl) ∙ ap is_some none))
+
+pub open-is-open : OpenAtBothIsOpen
+unfolding finding
+open-is-open s t id e =
+    let parts = open_by (difference M I t s id) (difference I M s t id) (confirmed I s id) (confirmed M t id) e in
+    (unconfirmed (confirmed I s id) (confirmed M t id) (λ table is. confirms-first s t id table parts.0 is) parts.1, parts.1)
 
 have_met : (s t : DeskState) → IsLegal I s → IsLegal M t → Agree s t → HaveMetFrozen (world_of s t)
 have_met s t ours theirs agree = record { legal = legal; met = met }

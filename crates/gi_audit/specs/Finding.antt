@@ -62,7 +62,8 @@ row_total direction row = if nat_eq (place_of row.direction) (place_of direction
 abbrev pub total : Direction → TableContents → ℕ
 total direction table = sum_by (row_total direction) table.rows
 
--- the state of a cycle where nothing differs, by what both have confirmed of it: the matching side confirms first
+-- The state of a cycle where nothing differs, by what both have confirmed of it. The matching side confirms first, so where it
+-- has not, the initiating side has not either.
 abbrev pub undisputed : Option TableContents → Option TableContents → Finding
 undisputed (Some ours) (Some theirs) = Agreed (total IM ours) (total MI ours)
 undisputed None (Some theirs) = OpenAtInitiating

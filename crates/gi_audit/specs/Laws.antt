@@ -9,7 +9,8 @@ use Rattle.gi_desk.specs.Writable.{FitsDesk}
 use Rattle.gi_world.specs.Agreement.{IsLegal, IsSound}
 use Rattle.gi_world.specs.World.{WorldState}
 use Rattle.gi_audit.specs.Agreeing.{Agree, ConfirmOneQuantity}
-use Rattle.gi_audit.specs.Finding.{difference}
+use Rattle.gi_audit.specs.Finding.{difference, finding}
+use Rattle.gi_audit.specs.declared.finding.Finding.TheVariants.{OpenAtBoth}
 
 -- Of two desks that agree every quantity that either has confirmed is the lower of the two that both froze. Each holds
 -- facts that it would record in turn, and can be written: so do all desks.
@@ -24,6 +25,12 @@ abbrev pub TheMatchingSideConfirmsFirst : Type 0
 TheMatchingSideConfirmsFirst =
     (initiating matching : DeskState) (id : CycleId) (table : TableContents) → difference I M initiating matching id ≡ None → confirmed I initiating id ≡ Some table
     → is_some (confirmed M matching id) ≡ true
+
+-- What is found to be open at both neither side has confirmed.
+abbrev pub OpenAtBothIsOpen : Type 0
+OpenAtBothIsOpen =
+    (initiating matching : DeskState) (id : CycleId) → finding initiating matching id ≡ OpenAtBoth
+    → (confirmed I initiating id ≡ None) × (confirmed M matching id ≡ None)
 
 -- The two desks of a world agree, whatever steps led to it, and so do the desks that start again from what is saved
 -- there.

@@ -21,7 +21,8 @@ use Rattle.gi_audit.specs.declared.finding.Finding.TheVariants.{Agreed, OpenAtIn
 use Rattle.gi_audit.specs.declared.place.HourDifference.{HourDifference}
 use Rattle.gi_audit.specs.declared.place.Place.{Place}
 
--- What a row at which two tables differ is for: rows stand in table order, so the lower one is missing in the other table.
+-- What a row at which two tables differ is for. Of two rows for other keys the lower one is missing in the other table, since
+-- rows stand in table order; where the keys are equal, the quantities differ.
 abbrev pub lower_key : Option Row → Option Row → Option Key
 lower_key (Some met) (Some written) = Some (if is_lt (key_cmp (key_of written) (key_of met)) then key_of written else key_of met)
 lower_key (Some met) None = Some (key_of met)
@@ -67,14 +68,14 @@ first_place met written = option_map (place_at met written) (key_at met written)
 
 -- ---- of a cycle
 
-abbrev pub place_of : Option TableContents → Option TableContents → Option Place
-place_of None written = None
-place_of (Some met) None = None
-place_of (Some met) (Some written) = first_place met written
+abbrev pub place_in_tables : Option TableContents → Option TableContents → Option Place
+place_in_tables None written = None
+place_in_tables (Some met) None = None
+place_in_tables (Some met) (Some written) = first_place met written
 
 -- where the table that a side met of a cycle differs from the one that its peer, the other side, has written
 unfoldable pub place_between : Side → DeskState → DeskState → CycleId → Option Place
-place_between other s peer id = place_of (peer_of id s.facts) (sent_table other peer id)
+place_between other s peer id = place_in_tables (peer_of id s.facts) (sent_table other peer id)
 
 abbrev pub place_met_by : Side → DeskState → DeskState → CycleId → Option Place
 place_met_by I initiating matching id = place_between M initiating matching id

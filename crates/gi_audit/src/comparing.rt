@@ -3,7 +3,7 @@
 ghost use Rattle.std.specs.Prelude.{◌≡◌, IfOk, false};
 ghost use Rattle.std.specs.Option.{option_copied};
 ghost use Rattle.gi_audit.specs.Finding.{against as against_of, difference as difference_of, finding as finding_of, undisputed as undisputed_of};
-ghost use Rattle.gi_audit.specs.Place.{place_between as place_between_of, place_found as place_found_of, place_met_by};
+ghost use Rattle.gi_audit.specs.Place.{place_between as place_between_of, place_found as place_found_of};
 
 use crate::difference::{Against, Difference};
 use crate::finding::Finding;

@@ -1,7 +1,7 @@
 //! What holds of all desks that agree, and of those of all worlds. These functions do nothing;
 //! their clauses are the laws.
 
-ghost use Rattle.gi_audit.specs.Laws.{AgreeingDesksConfirmOneQuantity, TheMatchingSideConfirmsFirst, WorldsAgree};
+ghost use Rattle.gi_audit.specs.Laws.{AgreeingDesksConfirmOneQuantity, OpenAtBothIsOpen, TheMatchingSideConfirmsFirst, WorldsAgree};
 
 /// Of two desks that agree every quantity that either has confirmed is the lower of the two that
 /// both froze; what the initiating side has confirmed, the matching side has; and what both have
@@ -11,9 +11,11 @@ pub fn agreeing_desks_confirm_one_quantity()
 {}
 
 /// Where nothing that the initiating side met of a cycle differs, and it has confirmed the cycle, the
-/// matching side has: no cycle is open at the matching side alone.
+/// matching side has: no cycle is open at the matching side alone. What is found to be open at both
+/// neither side has confirmed.
 pub fn the_matching_side_confirms_first()
-    ensures { TheMatchingSideConfirmsFirst }
+    ensures first { TheMatchingSideConfirmsFirst }
+    ensures open_at_both { OpenAtBothIsOpen }
 {}
 
 /// The two desks of a world agree, whatever steps led to it, and so do the desks that start again

@@ -72,10 +72,10 @@ fn key_at(met: &Table, written: &Table) -> Option<Key>
     ensures { result ≡ key_at_of met.now written.now }
 {
     let (rows, others) = (met.rows(), written.rows());
-    let Some(place) = difference(rows, others) else {
+    let Some(number) = difference(rows, others) else {
         return None;
     };
-    let before = place.saturating_sub(1) as usize;
+    let before = number.saturating_sub(1) as usize;
     lower_key(rows.get(before), others.get(before))
 }
 

@@ -7,8 +7,8 @@ ghost use Rattle.gi_command_line.specs.CommandLine.{asked, asked_at_once, asked_
 
 use crate::numbers::{cycle_named, hour_named};
 use crate::request::{
-    BookFile, BookFiles, Explanation, Format, Mistake, NamedQuantity, Report, ReportKind, Request,
-    Service, Task, format_named, kind_named,
+    BookFile, BookFiles, Explanation, Format, Mistake, NamedQuantity, Report, Request, Service,
+    Task, format_named, kind_named,
 };
 use crate::sessions::Sessions;
 use clap::{Arg, ArgAction, ArgMatches, Command, Error};
@@ -105,9 +105,9 @@ const AUDIT_HELP: &str = "\
 Compares the books of both operators, as an outsider would: it trusts neither, and makes each
 side's desk from its facts. The books have to be of one moment, when no office runs. Standard output
 gets a line for each cycle that either has closed: agreed, with the sum of its confirmed quantities
-by direction in kWh; open at I or at both; or what differs, with the numbers of the facts. The last
-line is `agreed` (exit status 0), or `differs at DAY CYCLE` for the first cycle that differs (exit
-status 1). Standard input is not read.
+by direction in kWh; open at I or at both; or what differs, with the numbers of the facts, the first
+row and hour, and both quantities. The last line is `agreed` (exit status 0), or `differs at DAY
+CYCLE` for the first cycle that differs (exit status 1). Standard input is not read.
 
 Faults, the first of: CodeText (CODE is no code); Version, Gap N, Damaged N or Store, as for
 `report`, of the initiating operator's book, then of the matching one's; BadFact N of the one, then

@@ -1,5 +1,5 @@
 -- The last fact that is so records what stands.
-use Rattle.std.proofs.Common.{arith, ◌≡◌, ◌<◌, ◌≤◌, ◌+◌, ◌-◌, ℕ, zero, suc, List, [], ◌∷◌, ◌++◌, length, drop, reverse, find, filter_map, Bool, true, false, cond, ◌||◌, Option, Some, None, refl, sym, ap, ◌∙◌, subst, append-nil, unwrap_or}
+use Rattle.std.proofs.Common.{arith, ◌≡◌, ◌<◌, ◌≤◌, ◌+◌, ◌-◌, ℕ, zero, suc, List, [], ◌∷◌, ◌++◌, length, drop, reverse, find, filter_map, Bool, true, false, cond, ◌||◌, Option, Some, None, is_some, refl, sym, ap, ◌∙◌, subst, append-nil, unwrap_or}
 use Rattle.std.specs.Prelude.{IfSome, slice_get}
 use Rattle.std.specs.Borrow.{Bor}
 use Rattle.std.specs.List.{cons_option, list_any}
@@ -20,7 +20,7 @@ use Rattle.gi_processing.specs.Processing.{AreSound}
 use Rattle.gi_processing.specs.declared.contract.Contract.{Contract}
 use Rattle.gi_processing.specs.declared.notice.Notice.{Notice}
 use Rattle.gi_facts.specs.declared.fact.Fact.{Fact}
-use Rattle.gi_desk.specs.History.{capacity_of, contract_in, document_in, documents_of, facts_before, is_closing, is_meeting, notice_in, number_of, peer_in, peer_of}
+use Rattle.gi_desk.specs.History.{capacity_of, contract_in, document_in, documents_of, facts_before, is_closed, is_closing, is_meeting, notice_in, number_of, peer_in, peer_of}
 use Rattle.gi_desk.specs.Machine.{bad_fact}
 use Rattle.gi_desk.specs.Queries.{fact_at}
 use Rattle.gi_desk.proofs.Confirmed.{a_peer, peer_later, peer_none}
@@ -220,14 +220,29 @@ meeting-by : (id : CycleId) (facts : List Fact) (any : Bool) → list_any (is_me
 meeting-by id facts true any = peer-by id facts true any
 meeting-by id facts false any = tt
 
+meets-any : (id : CycleId) (facts : List Fact) → list_any (is_meeting id) facts ≡ is_some (peer_of id facts)
+meets-any id [] = ap is_some (sym (peer_none id))
+meets-any id (fact ∷ facts) = by (is_meeting id fact) refl (meets-any id facts)
+  where
+    by : (b : Bool) → is_meeting id fact ≡ b → list_any (is_meeting id) facts ≡ is_some (peer_of id facts)
+        → (b || list_any (is_meeting id) facts) ≡ is_some (peer_of id (fact ∷ facts))
+    by true e rest = ap is_some (sym (peer-here id fact facts e ∙ (a_peer id fact e).1))
+    by false e rest = rest ∙ ap is_some (sym (peer_later id fact facts e))
+
+some_by : (b : Bool) (n : ℕ) → is_some (cond b (Some n) None) ≡ b
+some_by true n = refl
+some_by false n = refl
+
 pub names-facts : (side : Side) (facts : List Fact) (q : Question) → NamesTheFacts side facts q (numbers side facts q)
-unfolding numbers first_number number_of
+unfolding numbers first_number number_of is_closed
 names-facts side facts q =
     let n = numbers side facts q in
     record {
       nomination = nomination-found side facts q n (option_and_then document_in (fact_at facts n.nomination)) refl refl;
       contract = contract-found side facts q n (option_and_then contract_in (fact_at facts n.contract)) refl refl;
       notice = notice-found side facts q n (option_and_then notice_in (fact_at facts n.notice)) refl refl;
+      closed = some_by (list_any (is_closing q.id) facts) (skipped (is_closing q.id) facts + 1);
       closing = closing-by q.id facts (list_any (is_closing q.id) facts) refl;
+      met = some_by (list_any (is_meeting q.id) facts) (skipped (is_meeting q.id) facts + 1) ∙ meets-any q.id facts;
       meeting = meeting-by q.id facts (list_any (is_meeting q.id) facts) refl;
     }

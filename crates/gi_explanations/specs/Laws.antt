@@ -1,5 +1,6 @@
--- What holds of every explanation that a desk gives. Each desk has facts that are legal and can be written.
-use Rattle.std.specs.Prelude.{◌≡◌, ℕ, ◌+◌, ◌-◌, ◌*◌, ◌/◌, min, IfSome, List, true, false, None, Some}
+-- What holds of every explanation that a desk gives. The first two laws ask for facts that are legal and can be written, as
+-- every desk's are.
+use Rattle.std.specs.Prelude.{◌≡◌, ℕ, ◌+◌, ◌-◌, ◌*◌, ◌/◌, min, IfSome, List, true, false, None, Some, is_some}
 use Rattle.std.specs.Option.{option_and_then, option_map_or}
 use Rattle.gi_pairs.specs.Table.{TableContents}
 use Rattle.gi_pairs.specs.declared.side.Side.{Side}
@@ -48,12 +49,14 @@ ExplainsTheProcessed =
     → processed_quantity side facts q ≡ reduced (amounts side facts q) (quantity_at (q.hour - 1) line)
 
 -- The numbers that are shown are those of the facts that say it: the nomination, the contract and the notice that stand, the
--- closing, and the meeting with the peer's table.
+-- closing where the cycle is closed, and the meeting where it has met the peer's table.
 pub record NamesTheFacts (side : Side) (facts : List Fact) (q : Question) (n : Numbers) : Type 0 where
   pub nomination : option_and_then document_in (fact_at facts n.nomination) ≡ standing_nomination side facts q
   pub contract : option_and_then contract_in (fact_at facts n.contract) ≡ standing_contract side facts q
   pub notice : option_and_then notice_in (fact_at facts n.notice) ≡ standing_notice facts q
+  pub closed : is_some n.closing ≡ is_closed q.id facts
   pub closing : IfSome n.closing (λ number. option_map_or (is_closing q.id) (fact_at facts number) false ≡ true)
+  pub met : is_some n.meeting ≡ is_some (peer_of q.id facts)
   pub meeting : IfSome n.meeting (λ number. option_and_then (peer_in q.id) (fact_at facts number) ≡ peer_of q.id facts)
 
 abbrev pub ExplainsByFacts : Type 0

@@ -1,4 +1,5 @@
-use Rattle.std.proofs.Common.{◌≡◌, ◌∙◌, ◌++◌, ap₂, rules, true, false, List, ℕ}
+use Rattle.std.proofs.Common.{◌≡◌, ◌∙◌, ◌++◌, ap₂, rules, subst, true, false, List, ℕ}
+use Rattle.gi_script.specs.Script.{IsScript}
 use Rattle.gi_simulation.specs.Simulation.{SimulationState}
 use Rattle.gi_commands.specs.Simulating.{counts_of}
 use Rattle.gi_commands.proofs.SimulatingLemmas.{cut_after, cut_run}
@@ -7,18 +8,20 @@ use Rattle.gi_commands.proofs.simulating.simulated.Goals as goal
 pub returns-then-not-made-clause-cut : goal.returns-then-not-made-clause-cut
 returns-then-not-made-clause-cut c =
     let short : c.in_ok-made.made.complete ≡ false = search rules in
-    λ is. cut_run c.args.trace _ _ c.in_ok-script.script _ c.in_ok-script.ensures.found (c.in_ok-made.ensures.cut short)
+    let spelled = subst (λ (input : List ℕ). IsScript input c.in_ok-script.script) c.deref.ensures.value c.in_ok-script.ensures.found in
+    λ is. cut_run c.args.trace _ _ c.in_ok-script.script _ spelled (c.in_ok-made.ensures.cut short)
 
 pub returns-in-Ok-clause-text : goal.returns-in-Ok-clause-text
 returns-in-Ok-clause-text c =
     let whole : c.in_ok-made.made.complete ≡ true = search rules in
     λ is. record {
       script = c.in_ok-script.script;
-      spelled = c.in_ok-script.ensures.found;
+      spelled = subst (λ (input : List ℕ). IsScript input c.in_ok-script.script) c.deref.ensures.value c.in_ok-script.ensures.found;
       written = c.in-Ok.ensures.added ∙ ap₂ (λ (text : List ℕ) (s : SimulationState). text ++ counts_of s) (c.in_ok-made.ensures.text whole) (c.in_ok-made.ensures.simulation whole);
     }
 
 pub returns-clause-cut : goal.returns-clause-cut
 returns-clause-cut c =
     let whole : c.in_ok-made.made.complete ≡ true = search rules in
-    λ is. cut_after c.args.trace _ _ c.in_ok-script.script c.in_ok-script.ensures.found (c.in-Err.ensures.kept ∙ c.in_ok-made.ensures.text whole)
+    let spelled = subst (λ (input : List ℕ). IsScript input c.in_ok-script.script) c.deref.ensures.value c.in_ok-script.ensures.found in
+    λ is. cut_after c.args.trace _ _ c.in_ok-script.script spelled (c.in-Err.ensures.kept ∙ c.in_ok-made.ensures.text whole)
