@@ -161,7 +161,10 @@ fn tells_that_a_reader_fails(rt: HostRuntime) -> Result<(), Fail> {
 fn takes_input_up_to_the_limit(rt: HostRuntime) {
     for (request, fault) in [
         (Request::Match, Fault::Lines),
-        (Request::Simulate { trace: false }, Fault::Script(ScriptFault::Point)),
+        (
+            Request::Simulate { trace: false },
+            Fault::Script(ScriptFault::Point),
+        ),
         (REPORT, Fault::Script(ScriptFault::Point)),
     ] {
         let (result, output) = told(&rt, &rt, request, &mut Long { left: 67_108_864 });
