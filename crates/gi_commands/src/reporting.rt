@@ -116,7 +116,7 @@ pub fn script_report(
     ensures fault { IfErr result (IsNoScript input.now) }
 {
     let script = read_script(alloc, input)?;
-    let (simulation, submissions) = refused_submissions(alloc, side, &script)?;
+    let (simulation, submissions) = refused_submissions(alloc, side, script)?;
     match side_report(alloc, kind, side, simulation.world(), &submissions) {
         Ok(text) => Ok(text),
         Err(_) => Err(Fault::OutOfMemory),

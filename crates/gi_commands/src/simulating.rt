@@ -47,7 +47,7 @@ pub fn simulated(alloc: Global, input: Vec<u8>, trace: bool) -> Result<Written, 
 {
     let script = read_script(alloc, &input)?;
     drop(input);
-    let made = simulate(alloc, &script, trace)?;
+    let made = simulate(alloc, script, trace)?;
     let mut text = made.text;
     if !made.complete {
         return Ok(Written {

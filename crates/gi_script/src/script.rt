@@ -39,4 +39,11 @@ impl Script {
     {
         &self.lines
     }
+
+    /// The lines, in order, with the memory that they were read into.
+    pub fn into_lines(self) -> Vec<Line>
+        ensures { result.items ≡ self.lines }
+    {
+        self.lines
+    }
 }

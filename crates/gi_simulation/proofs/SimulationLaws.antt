@@ -12,6 +12,6 @@ one_packet link next all later packets packet start front is was =
 pub no_packet : (link : LinkState) (all packets : List Packet) (start : LinkState) → all ≡ [] → with_packets link all ≡ with_packets start packets → link ≡ with_packets start packets
 no_packet link all packets start none was = ap (with_packets link) (sym none) ∙ was
 
-pub nothing_left : (packets : List Packet) → length packets ≡ 0 → packets ≡ []
+pub nothing_left : {X : Type 0} (xs : List X) → length xs ≡ 0 → xs ≡ []
 nothing_left [] e = refl
-nothing_left (packet ∷ packets) e = absurd (omega arith)
+nothing_left (x ∷ xs) e = absurd (omega arith)

@@ -6,7 +6,7 @@
 //!
 //! ```text
 //! let script = read_script(alloc, bytes)?;
-//! let made = simulate(alloc, &script, false)?;
+//! let made = simulate(alloc, script, false)?;
 //! print(made.text);                                   // a line for each step
 //! let desk = made.simulation.world().initiating();    // the offices after them
 //! ```

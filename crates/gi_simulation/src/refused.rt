@@ -91,14 +91,14 @@ impl Notes for Refused {
 pub fn refused_submissions(
     alloc: Global,
     side: Side,
-    script: &Script,
+    script: Script,
 ) -> Result<(Simulation, Vec<Option<Code>>), StartFault>
-    ensures portfolios { IfOk result (λ it. it.1.items ≡ gathered (refused_by side) (new_simulation script.now.point) (turns script.now.lines)) }
-    ensures simulation { IfOk result (λ it. it.0 ≡ run_of (new_simulation script.now.point) (turns script.now.lines)) }
+    ensures portfolios { IfOk result (λ it. it.1.items ≡ gathered (refused_by side) (new_simulation script.point) (turns script.lines)) }
+    ensures simulation { IfOk result (λ it. it.0 ≡ run_of (new_simulation script.point) (turns script.lines)) }
     ensures refused { IfErr result (λ fault. fault ≡ OutOfMemory) }
 {
     let mut simulation = Simulation::new(alloc, script.point())?;
     let mut refused = Refused::new(alloc, side);
-    run(&mut simulation, script.lines(), &mut refused, false)?;
+    run(&mut simulation, script.into_lines(), &mut refused, false)?;
     Ok((simulation, refused.portfolios))
 }

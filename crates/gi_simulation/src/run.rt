@@ -45,17 +45,30 @@ fn make_line<N: Notes>(
     Ok(())
 }
 
-pub(crate) fn run<N: Notes>(
+/// Makes a line as `make_line` does, and gives its memory back.
+fn take_line<N: Notes>(
     simulation: &mut Simulation,
-    lines: &[Line],
+    line: Line,
     notes: &mut N,
     trace: bool,
 ) -> Result<(), AllocError>
-    ensures made { OnOk result (IsRun (noting_turn N.noting trace) simulation.old (turns lines.now) notes.old notes.new simulation.new) }
-    ensures cut { OnErr result (IsCutOff (noting_turn N.noting trace) simulation.old (turns lines.now) notes.old notes.new simulation.new) }
+    ensures made { OnOk result (IsRun (noting_turn N.noting trace) simulation.old (turns_of line) notes.old notes.new simulation.new) }
+    ensures cut { OnErr result (IsCutOff (noting_turn N.noting trace) simulation.old (turns_of line) notes.old notes.new simulation.new) }
+{
+    make_line(simulation, &line, notes, trace)
+}
+
+pub(crate) fn run<N: Notes>(
+    simulation: &mut Simulation,
+    lines: Vec<Line>,
+    notes: &mut N,
+    trace: bool,
+) -> Result<(), AllocError>
+    ensures made { OnOk result (IsRun (noting_turn N.noting trace) simulation.old (turns lines.items) notes.old notes.new simulation.new) }
+    ensures cut { OnErr result (IsCutOff (noting_turn N.noting trace) simulation.old (turns lines.items) notes.old notes.new simulation.new) }
 {
     for line in lines {
-        make_line(simulation, line, notes, trace)?;
+        take_line(simulation, line, notes, trace)?;
     }
     Ok(())
 }

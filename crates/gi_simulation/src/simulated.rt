@@ -28,21 +28,21 @@ pub struct Simulated {
 /// line `N SIDE OUTCOME` of each step; with `trace` lines follow it that tell which messages moved.
 /// A refused step is an outcome, and the run goes on; only want of memory ends it before the last
 /// line. `OutOfMemory` comes before the first step, and no other refusal.
-pub fn simulate(alloc: Global, script: &Script, trace: bool) -> Result<Simulated, StartFault>
+pub fn simulate(alloc: Global, script: Script, trace: bool) -> Result<Simulated, StartFault>
     ensures text { IfOk result (λ it. it.complete ≡ true
-        → string_bytes it.text ≡ gathered (printed trace) (new_simulation script.now.point) (turns script.now.lines)) }
+        → string_bytes it.text ≡ gathered (printed trace) (new_simulation script.point) (turns script.lines)) }
     ensures simulation { IfOk result (λ it. it.complete ≡ true
-        → it.simulation ≡ run_of (new_simulation script.now.point) (turns script.now.lines)) }
+        → it.simulation ≡ run_of (new_simulation script.point) (turns script.lines)) }
     ensures one_quantity { IfOk result (λ it. OneConfirmedQuantity (held it.simulation.world)) }
     ensures waits { IfOk result (λ it. OnlySentWaits it.simulation) }
     ensures delivers { IfOk result (λ it. AllIsDelivered it.simulation) }
     ensures cut { IfOk result (λ it. it.complete ≡ false
-        → IsCutOff (telling trace) (new_simulation script.now.point) (turns script.now.lines) [] (string_bytes it.text) it.simulation) }
+        → IsCutOff (telling trace) (new_simulation script.point) (turns script.lines) [] (string_bytes it.text) it.simulation) }
     ensures refused { IfErr result (λ fault. fault ≡ OutOfMemory) }
 {
     let mut simulation = Simulation::new(alloc, script.point())?;
     let mut text = Text::new(alloc);
-    let complete = run(&mut simulation, script.lines(), &mut text, trace).is_ok();
+    let complete = run(&mut simulation, script.into_lines(), &mut text, trace).is_ok();
     simulation.known();
     Ok(Simulated {
         simulation,

@@ -180,7 +180,7 @@ impl Simulations {
                 return Ok(true);
             }
         };
-        match simulate(alloc, &script, trace) {
+        match simulate(alloc, script, trace) {
             Ok(simulated) => {
                 let added = add_simulated(&simulated, first, text);
                 self.take(simulated.simulation);
@@ -200,7 +200,7 @@ impl Simulations {
                 return Ok(true);
             }
         };
-        match refused_submissions(alloc, side, &script) {
+        match refused_submissions(alloc, side, script) {
             Ok((simulation, portfolios)) => {
                 self.take(simulation);
                 write!(text, "{portfolios:?}\n")?;
