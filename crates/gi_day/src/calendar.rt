@@ -44,23 +44,24 @@ const ZONE_TEXT: &str = "CET-1CEST,M3.5.0,M10.5.0/3";
 /// The clock by which gas days start, 06:00 of Central European time.
 #[derive(Debug, Drop)]
 pub struct Calendar {
-    zone: TimeZone<'static>,
+    zone: jiff_tz::TimeZone<'static>,
 }
 
 impl Model for Calendar {
     ghost use Rattle.std.specs.Prelude.{⊤};
     ghost use Rattle.jiff.specs.Placed.{IsPosixZone};
-    ghost use Rattle.jiff.specs.ZoneView.{plain_zone};
     ghost use Rattle.gi_day.specs.Zone.{zone_text};
 
     ghost Value = { ⊤ };
 
     ghost view = { λ _. tt };
 
-    ghost invariant = { λ c. IsPosixZone zone_text (plain_zone c.zone) };
+    ghost invariant = { λ c. IsPosixZone zone_text c.zone };
 }
 
 impl Calendar {
+    ghost use Rattle.jiff.specs.Placed.{IsPosixZone};
+    ghost use Rattle.jiff.specs.ZoneView.{plain_zone};
     ghost use Rattle.gi_day.specs.Day.{IsClose};
     ghost use Rattle.jiff_core.specs.Calendar.{IsBetween};
 
@@ -70,7 +71,9 @@ impl Calendar {
         ensures instants { GivesInstants zone_text instant_at }
     {
         match TimeZone::posix(ZONE_TEXT) {
-            Ok(zone) => Ok(Calendar { zone }),
+            Ok(zone) => Ok(Calendar {
+                zone: zone.to_plain(),
+            }),
             Err(_) => Err(CalendarFault::ZoneRefused),
         }
     }
@@ -82,12 +85,18 @@ impl Calendar {
         Ok(Calendar { zone: self.zone })
     }
 
+    fn zone(&self) -> TimeZone<'static>
+        ensures { IsPosixZone zone_text (plain_zone result) }
+    {
+        TimeZone::from_plain(self.zone)
+    }
+
     fn instant(&self, date: Date, hour: i8) -> Result<i64, CalendarFault>
         requires close { IsClose date }
         requires hour { IsBetween (pos 0) (pos 23) hour }
         ensures { result ≡ Ok (instant_at (epoch_day date) (unsigned_abs hour)) }
     {
-        match self.zone.to_timestamp(date.at(hour, 0, 0, 0)) {
+        match self.zone().to_timestamp(date.at(hour, 0, 0, 0)) {
             Ok(instant) => Ok(instant.as_second()),
             Err(_) => Err(CalendarFault::DayLength),
         }

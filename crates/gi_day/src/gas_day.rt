@@ -3,6 +3,7 @@ ghost use Rattle.gi_day.specs.Day.{IsDayText, IsGasYear, IsNoDay};
 
 use jiff::civil::Date;
 use jiff::fmt::temporal::DateTimePrinter;
+use jiff_core::civil;
 use std::error::Error;
 use std::fmt;
 use std::marker::Model;
@@ -35,7 +36,7 @@ impl Error for DayFault {}
 /// ordered as their dates, and printed as they are read.
 #[derive(Clone, Copy, Debug, PartialEq, Eq, PartialOrd, Ord)]
 pub struct GasDay {
-    date: Date,
+    date: civil::Date,
 }
 
 impl Model for GasDay {
@@ -57,7 +58,7 @@ fn is_gas_year(year: i16) -> bool
     2000 <= year && year <= 2199
 }
 
-fn date_of(text: &str) -> Option<Date>
+fn date_of(text: &str) -> Option<civil::Date>
     ensures { MatchOption result (IsNoDay text.now) (λ date. IsDayText date text.now) }
 {
     let Ok(date) = text.parse::<Date>() else {
@@ -67,7 +68,8 @@ fn date_of(text: &str) -> Option<Date>
         return None;
     }
     // The parser also takes other forms of a date, and a date with a time.
-    let written = DateTimePrinter::new().date_text(date.to_plain());
+    let date = date.to_plain();
+    let written = DateTimePrinter::new().date_text(date);
     if written.as_str() != text {
         return None;
     }
@@ -89,7 +91,7 @@ impl GasDay {
         let Some(date) = date_of(text) else {
             return Err(DayFault::DayText);
         };
-        if is_gas_year(date.year()) {
+        if is_gas_year(date.year) {
             Ok(GasDay { date })
         } else {
             Err(DayFault::DayRange)
@@ -100,7 +102,7 @@ impl GasDay {
         ensures date { result ≡ self }
         ensures year { IsGasYear result.year }
     {
-        self.date
+        Date::from_plain(self.date)
     }
 
     /// Every gas day lies in the years 2000 to 2199.
@@ -115,7 +117,7 @@ impl fmt::Display for GasDay {
     ghost output = { λ d. Some (day_text d) };
 
     fn fmt<W: fmt::Write>(&self, f: &mut fmt::Formatter<W>) -> fmt::Result {
-        let date = self.date;
+        let date = self.date();
         write!(f, "{date}")
     }
 }

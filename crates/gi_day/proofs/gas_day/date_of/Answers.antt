@@ -17,11 +17,11 @@ pub returns-then-ne : goal.returns-then-ne
 returns-then-ne c date is =
     let same = same_text c.args.text.now c.in-Ok.date date c.in-Ok.ensures.value is.1 in
     differ_from_ne c.as_str.result.now c.args.text.now (sym c.ne.ensures ∙ c.if-ne.true)
-    (c.as_str.ensures.value ∙ c.date_text-written.ensures ∙ ap date_text c.to_plain.ensures ∙ same)
+    (c.as_str.ensures.value ∙ c.date_text-written.ensures ∙ ap date_text c.to_plain-date.ensures ∙ same)
 
 pub returns : goal.returns
 returns c =
     let same = same_from_ne c.as_str.result.now c.args.text.now (sym c.ne.ensures ∙ c.if-ne.false) in (
       grind (arith, ints, c.year.ensures, c.if-year-lt0.false),
-      sym same ∙ c.as_str.ensures.value ∙ c.date_text-written.ensures ∙ ap date_text c.to_plain.ensures,
+      sym same ∙ c.as_str.ensures.value ∙ c.date_text-written.ensures,
     )

@@ -12,7 +12,7 @@ returns-in-Ok c =
     let hour : ℕ = unsigned_abs c.args.hour in
     let full : IsFullHour hour c.at.result = (omega (arith, signed_arith, c.requires.hour), omega (arith, signed_arith, c.requires.hour, c.at.ensures.time)) in
     let instant : ℤ = instant_at (epoch_day c.args.date) hour in
-    let picked = hours_at _ c.self.invariant c.at.result hour full in
+    let picked = hours_at _ c.zone.ensures c.at.result hour full in
     let nanos = c.in-Ok.ensures.value ∙ picked ∙ ap (λ date. nanos_of_seconds (instant_at (epoch_day date) hour)) c.at.ensures.date in
     let seconds = c.as_second.ensures ∙ seconds_of c.in-Ok.instant.nanosecond instant nanos in
     let range = close_instant c.args.date hour c.requires.close (omega (arith, signed_arith, c.requires.hour)) in
@@ -24,7 +24,7 @@ returns-in-Err c =
     let hour : ℕ = unsigned_abs c.args.hour in
     let full : IsFullHour hour c.at.result = (omega (arith, signed_arith, c.requires.hour), omega (arith, signed_arith, c.requires.hour, c.at.ensures.time)) in
     let instant : ℤ = instant_at (epoch_day c.args.date) hour in
-    let picked = hours_at _ c.self.invariant c.at.result hour full ∙ ap (λ date. nanos_of_seconds (instant_at (epoch_day date) hour)) c.at.ensures.date in
+    let picked = hours_at _ c.zone.ensures c.at.result hour full ∙ ap (λ date. nanos_of_seconds (instant_at (epoch_day date) hour)) c.at.ensures.date in
     let range = close_instant c.args.date hour c.requires.close (omega (arith, signed_arith, c.requires.hour)) in
     let no : false ≡ true = c.in-Err.ensures.succeeds.1 (in_range _ instant picked range) in
     absurd (cc)

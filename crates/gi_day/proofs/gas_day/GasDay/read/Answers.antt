@@ -12,7 +12,7 @@ returns-else-is_gas_year-clause-exact c = (
   c.in-Some.date,
   c.in-Some.ensures,
   λ range.
-      let bad : IsTrue false = c.if-is_gas_year.ensures.1 (grind (arith, ints, c.year.ensures), grind (arith, ints, c.year.ensures)) in cc,
+      let bad : IsTrue false = c.if-is_gas_year.ensures.1 (grind (arith, ints), grind (arith, ints)) in cc,
 )
 
 pub returns-else-is_gas_year-clause-again : goal.returns-else-is_gas_year-clause-again
