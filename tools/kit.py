@@ -1,5 +1,6 @@
 """What the tools here take of the Rattle kit's own scripts, its command rt and the module rtlib below it: the repository's crates,
-their libraries, the words of a check, and the sum of all that a verdict on a crate stands on."""
+their libraries and the words of a check. And the sum of all that a verdict on a crate stands on."""
+import hashlib
 import importlib.machinery
 import importlib.util
 import os
@@ -7,6 +8,7 @@ import re
 import shutil
 import sys
 import tempfile
+import threading
 from concurrent.futures import FIRST_COMPLETED, ThreadPoolExecutor, wait
 
 TOP = os.path.dirname(os.path.dirname(os.path.realpath(__file__)))
@@ -27,6 +29,37 @@ def load():
 
 rt = load()
 rtlib = rt.rtlib
+
+
+def stamps_once(stamp):
+    """The kit's sum of all that a library is made from, made once for each crate below within one call: the kit's own makes that of a
+    crate anew for each way that leads down to it."""
+    call = threading.local()
+
+    def once(crate):
+        if not hasattr(call, "made"):
+            call.made = {}
+            try:
+                return once(crate)
+            finally:
+                del call.made
+        if crate not in call.made:
+            call.made[crate] = stamp(crate)
+        return call.made[crate]
+
+    return once
+
+
+if hasattr(rtlib.Crate, "stamp"):
+    rtlib.Crate.stamp = stamps_once(rtlib.Crate.stamp)
+
+
+def stamp_of(crate):
+    """A sum of all that a verdict on the crate stands on: the kit, and the files and libraries of the crate and of those below."""
+    whole = [*crate.below(), crate]
+    libraries = [(it.name, it.of_kit, [dep.name for dep in it.deps]) for it in whole]
+    files = [(os.path.relpath(file, it.folder), rtlib.sum_of(file)) for it in whole for file in rtlib.files_of(it.folder)]
+    return hashlib.sha256(repr((rtlib.text_of(f"{rtlib.KIT}/KIT-ID"), libraries, files)).encode()).hexdigest()
 
 
 def crates():

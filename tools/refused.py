@@ -13,7 +13,7 @@ DAYS = 60
 
 
 def name_of(edit, stamp):
-    """The entry's name, where the crate's files have this sum."""
+    """The entry's name, where the crate's files and those below have this sum."""
     made_from = [stamp, edit.name, *(kit.rtlib.sum_of(it) for it in [edit.file, *TOOLS])]
     return hashlib.sha256(repr(made_from).encode()).hexdigest()
 
@@ -22,7 +22,8 @@ class Refused:
     """Which edits an earlier run refused. With is_anew it knows none, and keeps what this run refuses all the same."""
 
     def __init__(self, edits, is_anew):
-        self.names = {it: name_of(it, kit.rt.stamp_of(it.crate, {})) for it in edits}
+        stamps = {it: kit.stamp_of(it) for it in {edit.crate for edit in edits}}
+        self.names = {it: name_of(it, stamps[it.crate]) for it in edits}
         self.known = set() if is_anew else {it for it in edits if self.touched(it)}
 
     def touched(self, edit):
@@ -36,7 +37,7 @@ class Refused:
     def keep(self, edit):
         """Keeps that the edit is refused, where no file that this stands on has changed since it was looked at."""
         try:
-            if name_of(edit, kit.rt.stamp_of(edit.crate, {})) == self.names[edit]:
+            if name_of(edit, kit.stamp_of(edit.crate)) == self.names[edit]:
                 os.makedirs(STORE, 0o700, exist_ok=True)
                 open(f"{STORE}/{self.names[edit]}", "w", encoding="utf-8").close()
         except OSError:
