@@ -80,12 +80,12 @@ def owner_of(crate, path, owner):
 class Edit:
     """A wrong body: in each place the file, where its text starts and ends, and the new text; the functions whose contracts have to
     refuse it; whether it reaches outside of their bodies, where it could break other functions too, and so is tried alone; and whether
-    what these functions call is to be proved in its trial."""
+    one of these functions has waited for another edit's, so that it was not judged."""
 
     def __init__(self, crate, folder, name):
         self.crate, self.name, self.changes, self.functions = crate, name.removesuffix(".edit"), [], {}
         self.file = f"{folder}/{name}"
-        self.is_alone, self.is_whole, by, path, old, text = False, False, None, "", "", ""
+        self.is_alone, self.has_waited, by, path, old, text = False, False, None, "", "", ""
         for line in text_of(self.file).split("\n"):
             word, _, rest = line.partition(":")
             rest = rest.removeprefix(" ")

@@ -10,6 +10,10 @@ import kit
 from edits import functions_of, placed, text_of
 
 
+# What a check that takes holes says of a function that is proved under the contracts of what it calls.
+PROVED_OVER_HOLES = re.compile(r"^(fn \S+: )(no holes|depends on a hole in .*?)(, may wait)?$", re.M)
+
+
 class Trial:
     """A copy of a crate in which edits are put in place and checked by so many jobs."""
 
@@ -17,11 +21,11 @@ class Trial:
         self.crate, self.room, self.jobs = crate, room, jobs
         self.parts = {it.name: it.parts for it in functions_of(crate) if not it.is_of_trait}
 
-    def said(self, changes, functions, copies=(), is_whole=True):
+    def said(self, changes, functions, copies=(), has_holes=True):
         """What a check of these functions says where the crate has these changes, and for the functions of which there is a copy
         also a copy of what helps to prove them: each function's verdict, or None where the check did not come to any, and what it
-        printed. Where it is not whole all others have an empty proof, so that what these call costs nothing: they see its contract
-        alone, but the check may leave goals untried of a function that calls what is not proved."""
+        printed. With holes all other functions have one in the place of their proof, so that what these call costs nothing, and a
+        function is proved where it is under the contracts of what it calls."""
         for part in kit.rtlib.PARTS:
             shutil.rmtree(f"{self.room}/{part}", ignore_errors=True)
             if os.path.isdir(f"{self.crate.folder}/{part}"):
@@ -32,22 +36,30 @@ class Trial:
                 file.write(text)
         for parts, name in copies:
             self.copy_proof(parts, name)
-        others = {} if is_whole else {name: parts for name, parts in self.parts.items() if name not in functions}
-        folders = ["/".join(["proofs", *it, ""]) for it in others.values()]
-        for it in folders:
-            os.makedirs(f"{self.room}/{it}", exist_ok=True)
-            for file in os.listdir(f"{self.room}/{it}"):
-                if file in ("Answers.antt", "Invariants.antt"):
-                    os.remove(f"{self.room}/{it}{file}")
-            open(f"{self.room}/{it}Proof.antt", "w").close()
+        others = {name: parts for name, parts in self.parts.items() if name not in functions} if has_holes else {}
+        for parts in others.values():
+            self.put_hole(parts)
         only = [word for it in sorted(functions) for word in ("--only", it)]
         words = [kit.rtlib.RATTLE, "check", *self.crate.words(["--jobs", str(self.jobs)], keeps=False)]
-        printed = self.printed([*kit.rtlib.guarded(), *words, *only])
-        printed = "\n".join(it for it in printed.split("\n") if not it.removeprefix("./").startswith(tuple(f"{at}Proof.antt" for at in folders)))
+        printed = self.printed([*kit.rtlib.guarded(), *words, *only, *(["--allow-holes"] if has_holes else [])])
+        folders = tuple(f"{'/'.join(['proofs', *it])}/Proof.antt" for it in others.values())
+        printed = "\n".join(it for it in printed.split("\n") if not it.removeprefix("./").startswith(folders))
         # without that last line the check did not reach the proofs
-        if not re.search(r"^only=\d+ proved=\d+$", printed, re.M) or kit.rtlib.STALE.search(printed):
+        if not re.search(r"^only=\d+ (proved|holes)=\d+$", printed, re.M) or kit.rtlib.STALE.search(printed):
             return None, printed
+        printed = PROVED_OVER_HOLES.sub(r"\1proved\3", printed)
         return {name: verdict for name, verdict in re.findall(r"^fn (\S+): (.*)", printed, re.M) if name not in others}, printed
+
+    def put_hole(self, parts):
+        """Puts a hole in the place of a function's proof."""
+        folder, path, name = f"{self.room}/{'/'.join(['proofs', *parts])}", ".".join(parts), parts[-1]
+        os.makedirs(folder, exist_ok=True)
+        for file in os.listdir(folder):
+            if file in ("Answers.antt", "Invariants.antt"):
+                os.remove(f"{folder}/{file}")
+        with open(f"{folder}/Proof.antt", "w", encoding="utf-8") as file:
+            file.write(f"use Rattle.{self.crate.name}.proofs.{path}.Statement.{{statement}}\n\n")
+            file.write(f"pub {name}_spec : {{M : Type 1}} → statement M\n{name}_spec 𝓤 𝓛 𝓜 𝓡 w = ?\n")
 
     def printed(self, words):
         """What the check prints. Where a function is not proved the checker would run once more, about as long as the proofs took, to
