@@ -79,13 +79,13 @@ def owner_of(crate, path, owner):
 
 class Edit:
     """A wrong body: in each place the file, where its text starts and ends, and the new text; the functions whose contracts have to
-    refuse it; whether it reaches outside of their bodies, where it could break other functions too, and so is tried alone; and whether
-    one of these functions has waited for another edit's, so that it was not judged."""
+    refuse it; whether it reaches outside of their bodies, where it could break other functions too, and so is tried alone; whether
+    one of these functions has waited for another edit's, so that it was not judged; and whether it is tried with all proofs."""
 
     def __init__(self, crate, folder, name):
         self.crate, self.name, self.changes, self.functions = crate, name.removesuffix(".edit"), [], {}
         self.file = f"{folder}/{name}"
-        self.is_alone, self.has_waited, by, path, old, text = False, False, None, "", "", ""
+        self.is_alone, self.has_waited, self.is_whole, by, path, old, text = False, False, False, None, "", "", ""
         for line in text_of(self.file).split("\n"):
             word, _, rest = line.partition(":")
             rest = rest.removeprefix(" ")
