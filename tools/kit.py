@@ -37,20 +37,21 @@ def stamps_once(stamp):
     call = threading.local()
 
     def once(crate):
-        if not hasattr(call, "made"):
+        is_outermost = not hasattr(call, "made")
+        if is_outermost:
             call.made = {}
-            try:
-                return once(crate)
-            finally:
+        try:
+            if crate not in call.made:
+                call.made[crate] = stamp(crate)
+            return call.made[crate]
+        finally:
+            if is_outermost:
                 del call.made
-        if crate not in call.made:
-            call.made[crate] = stamp(crate)
-        return call.made[crate]
 
     return once
 
 
-if hasattr(rtlib.Crate, "stamp"):
+if hasattr(rtlib.Crate, "stamp"):  # (another kit may have none)
     rtlib.Crate.stamp = stamps_once(rtlib.Crate.stamp)
 
 
@@ -58,8 +59,9 @@ def stamp_of(crate):
     """A sum of all that a verdict on the crate stands on: the kit, and the files and libraries of the crate and of those below."""
     whole = [*crate.below(), crate]
     libraries = [(it.name, it.of_kit, [dep.name for dep in it.deps]) for it in whole]
-    files = [(os.path.relpath(file, it.folder), rtlib.sum_of(file)) for it in whole for file in rtlib.files_of(it.folder)]
-    return hashlib.sha256(repr((rtlib.text_of(f"{rtlib.KIT}/KIT-ID"), libraries, files)).encode()).hexdigest()
+    files = [(it.name, os.path.relpath(file, it.folder), rtlib.sum_of(file)) for it in whole for file in rtlib.files_of(it.folder)]
+    with open(f"{rtlib.KIT}/KIT-ID", encoding="utf-8") as kit_id:
+        return hashlib.sha256(repr((kit_id.read(), libraries, files)).encode()).hexdigest()
 
 
 def crates():

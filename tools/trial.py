@@ -10,8 +10,8 @@ import kit
 from edits import functions_of, placed, text_of
 
 
-# What a check that takes holes says of a function that is proved under the contracts of what it calls.
-PROVED_OVER_HOLES = re.compile(r"^(fn \S+: )(no holes|depends on a hole in .*?)(, may wait)?$", re.M)
+# What a check that takes holes says of a function that is proved under the contracts of what it calls: no other function has a hole.
+PROVED_OVER_HOLES = re.compile(r"^(fn \S+: )(no holes|depends on a hole in [^;\n]*?)(, may wait)?$", re.M)
 
 
 class Trial:
@@ -21,7 +21,7 @@ class Trial:
         self.crate, self.room, self.jobs = crate, room, jobs
         self.parts = {it.name: it.parts for it in functions_of(crate) if not it.is_of_trait}
 
-    def said(self, changes, functions, copies=(), has_holes=True):
+    def said(self, changes, functions, has_holes, copies=()):
         """What a check of these functions says where the crate has these changes, and for the functions of which there is a copy
         also a copy of what helps to prove them: each function's verdict, or None where the check did not come to any, and what it
         printed. With holes all other functions have one in the place of their proof, so that what these call costs nothing, and a
@@ -42,8 +42,8 @@ class Trial:
         only = [word for it in sorted(functions) for word in ("--only", it)]
         words = [kit.rtlib.RATTLE, "check", *self.crate.words(["--jobs", str(self.jobs)], keeps=False)]
         printed = self.printed([*kit.rtlib.guarded(), *words, *only, *(["--allow-holes"] if has_holes else [])])
-        folders = tuple(f"{'/'.join(['proofs', *it])}/Proof.antt" for it in others.values())
-        printed = "\n".join(it for it in printed.split("\n") if not it.removeprefix("./").startswith(folders))
+        holes = tuple(f"{'/'.join(['proofs', *it])}/Proof.antt" for it in others.values())
+        printed = "\n".join(it for it in printed.split("\n") if not it.removeprefix("./").startswith(holes))
         # without that last line the check did not reach the proofs
         if not re.search(r"^only=\d+ (proved|holes)=\d+$", printed, re.M) or kit.rtlib.STALE.search(printed):
             return None, printed
@@ -51,7 +51,7 @@ class Trial:
         return {name: verdict for name, verdict in re.findall(r"^fn (\S+): (.*)", printed, re.M) if name not in others}, printed
 
     def put_hole(self, parts):
-        """Puts a hole in the place of a function's proof."""
+        """Puts a hole in the place of a function's proof: what the checker's --start writes for one that it does not cover."""
         folder, path, name = f"{self.room}/{'/'.join(['proofs', *parts])}", ".".join(parts), parts[-1]
         os.makedirs(folder, exist_ok=True)
         for file in os.listdir(folder):
