@@ -19,9 +19,9 @@ def module_of(path):
 
 
 class Function:
-    """A function of a crate's file: its name as a check prints it, and where in the file it starts and ends. A copy of it can stand
-    under it, with its lines `#[tactic(..)]`, where it is no trait's and has no other attribute, since what is proved of it is then of
-    its own text alone."""
+    """A function of a crate's file: its name as a check prints it, where in the file it starts and ends, and the lines of its body. A
+    copy of it can stand under it, with its lines `#[tactic(..)]`, where it is no trait's and has no other attribute, since what is
+    proved of it is then of its own text alone."""
 
     def __init__(self, crate, path, text, at):
         lines = text[:at].split("\n")
@@ -37,12 +37,16 @@ class Function:
         self.name = "::".join([crate.name, *self.parts])
         first = next(it for it in range(row, -1, -1) if it == 0 or not lines[it - 1].strip().startswith("#[tactic("))
         self.start = sum(len(it) + 1 for it in lines[:first])
-        self.end = text.find(f"\n{found[1]}}}\n", self.start) + len(f"\n{found[1]}}}\n")
+        # the line with which the body begins, or with which the function ends
+        opened = re.compile(rf"^{found[1]}(?! ).*[{{}}]$|;$", re.M).search(text, len("\n".join(lines[:row])))
+        self.body, self.end = None, opened.end() + 1
+        if opened[0].endswith("{"):
+            self.end = text.index(f"\n{found[1]}}}\n", opened.end()) + len(f"\n{found[1]}}}\n")
+            self.body = opened.end() + 1, self.end - len(f"{found[1]}}}\n")
         self.is_of_trait = header is not None and (" for " in header[1] or "trait " in header[0])
         has_attribute = first > 0 and lines[first - 1].strip().startswith("#[")
-        has_one_line = text[len("\n".join(lines[:row])) :].lstrip("\n").split("\n", 1)[0].endswith("}")
         has_own_theorem = os.path.exists(f"{crate.folder}/proofs/{'/'.join(self.parts)}/Proof.antt")
-        self.can_be_copied = not (self.is_of_trait or has_attribute or has_one_line or has_own_theorem)
+        self.can_be_copied = not (self.is_of_trait or has_attribute or has_own_theorem or not self.body)
 
     def copy(self, text, name, changes):
         """What puts a copy of the function of that name and with these changes under it: a change, and the copy's name."""

@@ -19,36 +19,46 @@ class Trial:
 
     def __init__(self, crate, room, jobs=1):
         self.crate, self.room, self.jobs = crate, room, jobs
-        self.parts = {it.name: it.parts for it in functions_of(crate) if not it.is_of_trait}
+        self.functions = {it.name: it for it in functions_of(crate) if not it.is_of_trait}
 
     def said(self, changes, functions, has_holes, copies=()):
         """What a check of these functions says where the crate has these changes, and for the functions of which there is a copy
         also a copy of what helps to prove them: each function's verdict, or None where the check did not come to any, and what it
-        printed. With holes all other functions have one in the place of their proof, so that what these call costs nothing, and a
-        function is proved where it is under the contracts of what it calls."""
+        printed. With holes all other functions have one in the place of their proof and no body, so that what these call costs nothing,
+        and a function is proved where it is under the contracts of what it calls."""
         for part in kit.rtlib.PARTS:
             shutil.rmtree(f"{self.room}/{part}", ignore_errors=True)
             if os.path.isdir(f"{self.crate.folder}/{part}"):
                 shutil.copytree(f"{self.crate.folder}/{part}", f"{self.room}/{part}")
+        others = {name: it for name, it in self.functions.items() if name not in functions} if has_holes else {}
+        changes = [*changes, *(it for other in others.values() for it in self.without_body(other, changes))]
         for path in {it[0] for it in changes}:
             text = placed(text_of(f"{self.crate.folder}/{path}"), [it for it in changes if it[0] == path])
             with open(f"{self.room}/{path}", "w", encoding="utf-8") as file:
                 file.write(text)
         for parts, name in copies:
             self.copy_proof(parts, name)
-        others = {name: parts for name, parts in self.parts.items() if name not in functions} if has_holes else {}
-        for parts in others.values():
-            self.put_hole(parts)
+        for other in others.values():
+            self.put_hole(other.parts)
         only = [word for it in sorted(functions) for word in ("--only", it)]
         words = [kit.rtlib.RATTLE, "check", *self.crate.words(["--jobs", str(self.jobs)], keeps=False)]
         printed = self.printed([*kit.rtlib.guarded(), *words, *only, *(["--allow-holes"] if has_holes else [])])
-        holes = tuple(f"{'/'.join(['proofs', *it])}/Proof.antt" for it in others.values())
+        holes = tuple(f"{'/'.join(['proofs', *it.parts])}/Proof.antt" for it in others.values())
         printed = "\n".join(it for it in printed.split("\n") if not it.removeprefix("./").startswith(holes))
         # without that last line the check did not reach the proofs
         if not re.search(r"^only=\d+ (proved|holes)=\d+$", printed, re.M) or kit.rtlib.STALE.search(printed):
             return None, printed
         printed = PROVED_OVER_HOLES.sub(r"\1proved\3", printed)
         return {name: verdict for name, verdict in re.findall(r"^fn (\S+): (.*)", printed, re.M) if name not in others}, printed
+
+    def without_body(self, function, changes):
+        """The change that leaves nothing of a function's body but a loop without an end, so that nothing is made of its code and it
+        calls nothing; none where another change is in it."""
+        if not function.body:
+            return []
+        start, end = function.body
+        is_free = all(it[0] != function.path or it[2] <= start or it[1] >= end for it in changes)
+        return [(function.path, start, end, "loop {}\n")] if is_free else []
 
     def put_hole(self, parts):
         """Puts a hole in the place of a function's proof: what the checker's --start writes for one that it does not cover."""

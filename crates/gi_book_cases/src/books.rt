@@ -5,11 +5,12 @@ mod desks;
 mod opened;
 mod rows;
 
-use crate::books::batches::fitting_text;
+use crate::books::batches::add_fitting;
 use crate::books::opened::Opened;
-use gi_calls::{Fault, Subject, Words};
+use gi_calls::{Answer, Fault, Subject, Words};
 use gi_store::StoreFault;
 use sqlite::{Connection, File, FileStore, MemStore};
+use std::alloc::Global;
 use std::{fs, io};
 
 /// The database that the calls are made on.
@@ -47,72 +48,64 @@ impl Books {
     }
 
     /// Takes a new database in memory.
-    fn take_memory(&mut self, rt: &HostRuntime) -> Result<&'static str, Fault> {
+    fn take_memory(&mut self, rt: &HostRuntime, text: &mut Answer) -> Result<bool, Fault> {
         let connection = Connection::open_in_memory(rt.alloc())?;
         self.put(Place::Memory(Opened::over(connection)));
-        Ok("ok")
+        text.add("ok");
+        Ok(true)
     }
 
     /// Takes the database in a file, once the one before is let go.
-    fn take_file(&mut self, rt: &HostRuntime, name: &str, text: &mut String) -> Result<(), Fault> {
+    fn take_file(&mut self, rt: &HostRuntime, name: &str, text: &mut Answer) -> bool {
         self.put(Place::Nowhere);
         match Connection::open(rt, name) {
             Ok(connection) => {
                 self.put(Place::File(Opened::over(connection)));
-                text.push_str("ok")?;
+                text.add("ok");
             }
             Err(error) => {
                 let fault = StoreFault::from(error);
-                text.push_str(format!(in rt.alloc(); "{fault}")?.as_str())?;
+                text.show(&fault);
             }
         }
-        Ok(())
+        true
     }
 
-    /// Makes an empty folder; one of that name is removed.
-    fn make_folder(&mut self, rt: &HostRuntime, name: &str) -> &'static str {
-        let _ = self.remove_folder(rt, name);
-        done(fs::create_dir(rt, name))
+    /// Makes an empty folder, once the database is let go; one of that name is removed.
+    fn make_folder(&mut self, rt: &HostRuntime, name: &str, text: &mut Answer) -> bool {
+        self.put(Place::Nowhere);
+        let _ = fs::remove_dir_all(rt, name);
+        text.add(done(fs::create_dir(rt, name)));
+        true
     }
 
     /// Removes a folder with its files, once the database is let go.
-    fn remove_folder(&mut self, rt: &HostRuntime, name: &str) -> &'static str {
+    fn remove_folder(&mut self, rt: &HostRuntime, name: &str, text: &mut Answer) -> bool {
         self.put(Place::Nowhere);
-        done(fs::remove_dir_all(rt, name))
+        text.add(done(fs::remove_dir_all(rt, name)));
+        true
     }
 
-    /// Makes a call on databases, the folders of their files, or facts alone. `false` where it is none.
-    fn is_placed(
-        &mut self,
-        rt: &HostRuntime,
-        call: &str,
-        text: &mut String,
-    ) -> Result<bool, Fault> {
-        let mut words = Words::of(call);
-        match words.next() {
-            "open_in_memory" => text.push_str(self.take_memory(rt)?)?,
-            "open_file" => self.take_file(rt, words.rest(), text)?,
-            "fitting" => match fitting_text(rt.alloc(), words.rest())? {
-                Some(count) => text.push_str(count.as_str())?,
-                None => return Ok(false),
-            },
-            "folder" => text.push_str(self.make_folder(rt, words.rest()))?,
-            "remove_folder" => text.push_str(self.remove_folder(rt, words.rest()))?,
-            _ => return Ok(false),
+    /// Makes a call on the database that was taken. `false` where it is none.
+    fn on_place(&mut self, alloc: Global, call: &str, text: &mut Answer) -> Result<bool, Fault> {
+        match &mut self.place {
+            Place::Nowhere => Ok(false),
+            Place::Memory(opened) => opened.answer(alloc, call, text),
+            Place::File(opened) => opened.answer(alloc, call, text),
         }
-        Ok(true)
     }
 }
 
 impl Subject for Books {
-    fn answer(&mut self, rt: &HostRuntime, call: &str, text: &mut String) -> Result<bool, Fault> {
-        if self.is_placed(rt, call, text)? {
-            return Ok(true);
-        }
-        match &mut self.place {
-            Place::Nowhere => Ok(false),
-            Place::Memory(opened) => opened.answer(rt.alloc(), call, text),
-            Place::File(opened) => opened.answer(rt.alloc(), call, text),
+    fn answer(&mut self, rt: &HostRuntime, call: &str, text: &mut Answer) -> Result<bool, Fault> {
+        let mut words = Words::of(call);
+        match words.next() {
+            "open_in_memory" => self.take_memory(rt, text),
+            "open_file" => Ok(self.take_file(rt, words.rest(), text)),
+            "fitting" => add_fitting(rt.alloc(), words.rest(), text),
+            "folder" => Ok(self.make_folder(rt, words.rest(), text)),
+            "remove_folder" => Ok(self.remove_folder(rt, words.rest(), text)),
+            _ => self.on_place(rt.alloc(), call, text),
         }
     }
 }

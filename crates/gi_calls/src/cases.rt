@@ -1,3 +1,4 @@
+use crate::answer::Answer;
 use crate::fault::Fault;
 use crate::subject::Subject;
 use std::mem::ManuallyDrop;
@@ -7,36 +8,27 @@ fn is_call(line: &str) -> bool {
     !line.is_empty() && !line.starts_with('#') && !line.starts_with("= ")
 }
 
-/// Adds the lines of an answer, each behind `= `.
-fn add_answer(answer: &str, text: &mut String) -> Result<(), Fault> {
-    for line in answer.lines() {
-        text.push_str("= ")?;
-        text.push_str(line)?;
-        text.push_str("\n")?;
-    }
-    Ok(())
-}
-
 /// Adds a line of cases, and the answer to a call. An answer that stands in the file is left out.
 fn add_line<S: Subject>(
     rt: &HostRuntime,
     subject: &mut S,
     line: &str,
-    text: &mut String,
+    text: &mut Answer,
 ) -> Result<(), Fault> {
     if line.starts_with("= ") {
         return Ok(());
     }
-    text.push_str(line)?;
-    text.push_str("\n")?;
+    text.add(line);
+    text.end_line();
     if !is_call(line) {
         return Ok(());
     }
-    let mut answer = String::new(rt.alloc());
+    let mut answer = Answer::new(rt.alloc());
     if !subject.answer(rt, line, &mut answer)? {
-        answer.push_str("no such call")?;
+        answer.add("no such call");
     }
-    add_answer(answer.as_str(), text)
+    text.add_lines_of(&answer);
+    Ok(())
 }
 
 /// The cases, each call with what it answers now.
@@ -46,9 +38,9 @@ fn add_line<S: Subject>(
 pub fn answered<S: Subject>(rt: &HostRuntime, subject: S, cases: &str) -> Result<String, Fault> {
     // `ManuallyDrop::new` asks for a type that may be let go, whose drop is then proved here.
     let mut kept = unsafe { ManuallyDrop::new_unchecked(subject) };
-    let mut text = String::new(rt.alloc());
+    let mut text = Answer::new(rt.alloc());
     for line in cases.lines() {
         add_line(rt, &mut *kept, line, &mut text)?;
     }
-    Ok(text)
+    text.into_text()
 }

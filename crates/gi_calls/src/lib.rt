@@ -2,11 +2,13 @@
 //! What a subject calls is the matter of the crates above.
 #![tactic(auto)]
 
+mod answer;
 mod cases;
 mod fault;
 mod subject;
 mod words;
 
+pub use answer::Answer;
 pub use cases::answered;
 pub use fault::Fault;
 pub use subject::Subject;

@@ -6,13 +6,11 @@ ghost use Rattle.gi_nominations.specs.declared.verdict.Verdict.TheVariants as Ve
 
 use crate::hours_text::add_hours;
 use crate::nomint_text::nomint;
-use gi_calls::{Fault, Subject, Words};
+use gi_calls::{Answer, Fault, Subject, Words};
 use gi_day::Calendar;
 use gi_messages::Nomint;
 use gi_nominations::{Book, MOST_LINES, Setting, Verdict};
-use gi_pairs::Code;
 use std::alloc::{AllocError, Global};
-use std::fmt::Write;
 
 /// The calls of the subject `nominations`: `new POINT`, `judge known|unknown CLOSED NOMINT`, where
 /// CLOSED is the last closed cycle of the gas day or `none`, `take` with the same words, which takes
@@ -49,10 +47,7 @@ fn last_closed(words: &mut Words<'_>) -> Option<Option<u8>> {
 
 /// All words that are left as a nomination and what it is judged by.
 fn read_offer(alloc: Global, mut words: Words<'_>) -> Result<Option<Offer>, Fault> {
-    let Some(known) = known(&mut words) else {
-        return Ok(None);
-    };
-    let Some(last_closed) = last_closed(&mut words) else {
+    let (Some(known), Some(last_closed)) = (known(&mut words), last_closed(&mut words)) else {
         return Ok(None);
     };
     let nomint = nomint(alloc, words.rest())?;
@@ -86,21 +81,23 @@ fn take(book: &mut Book, offer: Offer) -> Result<Verdict, AllocError> {
 }
 
 /// Adds a verdict.
-pub(crate) fn add_verdict(verdict: Verdict, text: &mut String) -> Result<(), AllocError> {
+pub(crate) fn add_verdict(verdict: Verdict, text: &mut Answer) {
     match verdict {
-        Verdict::Refused(fault) => write!(text, "{fault}"),
-        other => write!(text, "{other:?}"),
+        Verdict::Refused(fault) => text.show(&fault),
+        other => text.debug(&other),
     }
 }
 
 /// Adds the version and the lines of a nomination.
-fn add_nomint(nomint: &Nomint, text: &mut String) -> Result<(), AllocError> {
-    write!(text, "version {}", nomint.version)?;
+fn add_nomint(nomint: &Nomint, text: &mut Answer) {
+    text.add("version");
+    text.word(&nomint.version);
     for line in nomint.lines.as_slice() {
-        write!(text, "\n{} {}", line.counterparty, line.direction)?;
-        add_hours(line.hours.as_slice(), text)?;
+        text.end_line();
+        text.show(&line.counterparty);
+        text.word(&line.direction);
+        add_hours(line.hours.as_slice(), text);
     }
-    Ok(())
 }
 
 impl Nominations {
@@ -109,61 +106,61 @@ impl Nominations {
     }
 
     /// Begins a book.
-    fn begin(&mut self, alloc: Global, point: Code, text: &mut String) -> Result<bool, Fault> {
+    fn begin(&mut self, alloc: Global, mut words: Words<'_>, text: &mut Answer) -> bool {
+        let Some(point) = words.code() else {
+            return false;
+        };
         self.book = Some(Book::new(alloc, point));
-        text.push_str("ok")?;
-        Ok(true)
+        text.add("ok");
+        true
     }
 
-    fn judge(&self, alloc: Global, words: Words<'_>, text: &mut String) -> Result<bool, Fault> {
+    fn judge(&self, alloc: Global, words: Words<'_>, text: &mut Answer) -> Result<bool, Fault> {
         let Some(book) = &self.book else {
             return Ok(false);
         };
         let Some(offer) = read_offer(alloc, words)? else {
             return Ok(false);
         };
-        add_verdict(judge(book, &offer), text)?;
+        add_verdict(judge(book, &offer), text);
         Ok(true)
     }
 
-    fn take(&mut self, alloc: Global, words: Words<'_>, text: &mut String) -> Result<bool, Fault> {
+    fn take(&mut self, alloc: Global, words: Words<'_>, text: &mut Answer) -> Result<bool, Fault> {
         let Some(book) = &mut self.book else {
             return Ok(false);
         };
         let Some(offer) = read_offer(alloc, words)? else {
             return Ok(false);
         };
-        add_verdict(take(book, offer)?, text)?;
+        add_verdict(take(book, offer)?, text);
         Ok(true)
     }
 
-    fn in_force(&self, mut words: Words<'_>, text: &mut String) -> Result<bool, Fault> {
+    fn in_force(&self, mut words: Words<'_>, text: &mut Answer) -> bool {
         let (Some(book), Some(portfolio), Some(day)) = (&self.book, words.code(), words.day())
         else {
-            return Ok(false);
+            return false;
         };
         match book.in_force(portfolio, day) {
-            Some(nomint) => add_nomint(nomint, text)?,
-            None => text.push_str("none")?,
+            Some(nomint) => add_nomint(nomint, text),
+            None => text.add("none"),
         }
-        Ok(true)
+        true
     }
 }
 
 impl Subject for Nominations {
-    fn answer(&mut self, rt: &HostRuntime, call: &str, text: &mut String) -> Result<bool, Fault> {
+    fn answer(&mut self, rt: &HostRuntime, call: &str, text: &mut Answer) -> Result<bool, Fault> {
         let alloc = rt.alloc();
         let mut words = Words::of(call);
         match words.next() {
-            "new" => match words.code() {
-                Some(point) => self.begin(alloc, point, text),
-                None => Ok(false),
-            },
+            "new" => Ok(self.begin(alloc, words, text)),
             "judge" => self.judge(alloc, words, text),
             "take" => self.take(alloc, words, text),
-            "in_force" => self.in_force(words, text),
+            "in_force" => Ok(self.in_force(words, text)),
             "most_lines" => {
-                write!(text, "{MOST_LINES}")?;
+                text.show(&MOST_LINES);
                 Ok(true)
             }
             _ => Ok(false),

@@ -6,6 +6,7 @@ use crate::numbers::numbers;
 use gi_calls::Fault;
 use gi_messages::{Message, Nomint, decode};
 use std::alloc::{AllocError, Global};
+use std::fmt::Write;
 
 /// A line that stands for many, in the text around it. The number of each stands between `start`
 /// and `end`.
@@ -43,11 +44,8 @@ fn with_lines(alloc: Global, text: &str) -> Result<String, AllocError> {
     };
     let mut full = String::from_str(alloc, many.before)?;
     for number in many.first..=many.last {
-        if number > many.first {
-            full.push_str(",")?;
-        }
-        let line = format!(in alloc; "{{{}{number}{}}}", many.start, many.end)?;
-        full.push_str(line.as_str())?;
+        let comma = if number > many.first { "," } else { "" };
+        write!(full, "{comma}{{{}{number}{}}}", many.start, many.end)?;
     }
     full.push_str(many.after)?;
     Ok(full)
@@ -68,8 +66,7 @@ fn number_last(text: &str) -> &str {
 /// Adds a quantity so many times, with a comma before each.
 fn add_copies(quantity: &str, count: u8, text: &mut String) -> Result<(), AllocError> {
     for _ in 0..count {
-        text.push_str(",")?;
-        text.push_str(quantity)?;
+        write!(text, ",{quantity}")?;
     }
     Ok(())
 }

@@ -7,16 +7,15 @@ mod records;
 mod reducing;
 
 use crate::hours_text::add_table;
-use gi_calls::{Fault, Subject, Words};
-use gi_pairs::{Code, Table};
+use gi_calls::{Answer, Fault, Subject, Words};
+use gi_pairs::Table;
 use gi_processing::{ContractFault, MOST_PERMILLE, MOST_PORTFOLIOS, NoticeFault};
 use one_by_one::reduce_triples;
 use reading::notice;
 use recorded::answer_recorded;
 use records::{Records, fault};
 use reducing::reduce;
-use std::alloc::{AllocError, Global};
-use std::fmt::Write;
+use std::alloc::Global;
 
 /// The calls of the subject `processing`.
 ///
@@ -38,7 +37,7 @@ fn answer_alone(
     alloc: Global,
     name: &str,
     words: Words<'_>,
-    text: &mut String,
+    text: &mut Answer,
 ) -> Result<bool, Fault> {
     match name {
         "fault" => {
@@ -46,34 +45,35 @@ fn answer_alone(
                 return Ok(false);
             };
             match fault(&notice) {
-                Some(fault) => write!(text, "{fault}")?,
-                None => text.push_str("none")?,
+                Some(fault) => text.show(&fault),
+                None => text.add("none"),
             }
         }
         "reduce" => return reduce(alloc, words, false, text),
         "reduce_mixed" => return reduce(alloc, words, true, text),
         "reduce_triples" => return reduce_triples(alloc, words, text),
-        "most_portfolios" => write!(text, "{MOST_PORTFOLIOS}")?,
-        "most_permille" => write!(text, "{MOST_PERMILLE}")?,
-        "faults" => add_faults(text)?,
+        "most_portfolios" => text.show(&MOST_PORTFOLIOS),
+        "most_permille" => text.show(&MOST_PERMILLE),
+        "faults" => add_faults(text),
         _ => return Ok(false),
     }
     Ok(true)
 }
 
 /// Adds the faults of `set` and of `notice`.
-fn add_faults(text: &mut String) -> Result<(), AllocError> {
+fn add_faults(text: &mut Answer) {
     for fault in [ContractFault::TooManyPortfolios, ContractFault::OutOfMemory] {
-        writeln!(text, "{fault}")?;
+        text.show(&fault);
+        text.end_line();
     }
     for fault in [
         NoticeFault::NoticeRange,
         NoticeFault::PermilleRange,
         NoticeFault::OutOfMemory,
     ] {
-        writeln!(text, "{fault}")?;
+        text.show(&fault);
+        text.end_line();
     }
-    Ok(())
 }
 
 impl Processing {
@@ -85,11 +85,14 @@ impl Processing {
     }
 
     /// Begins a side.
-    fn begin(&mut self, alloc: Global, point: Code, text: &mut String) -> Result<bool, Fault> {
+    fn begin(&mut self, alloc: Global, mut words: Words<'_>, text: &mut Answer) -> bool {
+        let Some(point) = words.code() else {
+            return false;
+        };
         self.records = Some(Records::new(alloc, point));
         self.table = None;
-        text.push_str("ok")?;
-        Ok(true)
+        text.add("ok");
+        true
     }
 
     /// Makes the processed table of a cycle, and adds all of it or how many rows it has.
@@ -98,7 +101,7 @@ impl Processing {
         alloc: Global,
         mut words: Words<'_>,
         whole: bool,
-        text: &mut String,
+        text: &mut Answer,
     ) -> Result<bool, Fault> {
         let Some(records) = &self.records else {
             return Ok(false);
@@ -108,37 +111,38 @@ impl Processing {
         };
         let table = records.processed(alloc, side, day, cycle)?;
         match &table {
-            Ok(table) if whole => add_table(table, text)?,
-            Ok(table) => write!(text, "{}", table.rows().len())?,
-            Err(fault) => write!(text, "{fault}")?,
+            Ok(table) if whole => add_table(table, text),
+            Ok(table) => {
+                let count = table.rows().len();
+                text.show(&count);
+            }
+            Err(fault) => text.show(fault),
         }
         self.table = table.ok();
         Ok(true)
     }
 
     /// Adds what the table reads.
-    fn at(&self, mut words: Words<'_>, text: &mut String) -> Result<bool, Fault> {
+    fn at(&self, mut words: Words<'_>, text: &mut Answer) -> bool {
         let (Some(table), Some(key), Some(hour)) = (&self.table, words.key(), words.byte()) else {
-            return Ok(false);
+            return false;
         };
-        write!(text, "{}", table.at(key.pair, key.direction, hour))?;
-        Ok(true)
+        let quantity = table.at(key.pair, key.direction, hour);
+        text.show(&quantity);
+        true
     }
 }
 
 impl Subject for Processing {
-    fn answer(&mut self, rt: &HostRuntime, call: &str, text: &mut String) -> Result<bool, Fault> {
+    fn answer(&mut self, rt: &HostRuntime, call: &str, text: &mut Answer) -> Result<bool, Fault> {
         let alloc = rt.alloc();
         let mut words = Words::of(call);
         let name = words.next();
         match name {
-            "new" => match words.code() {
-                Some(point) => return self.begin(alloc, point, text),
-                None => return Ok(false),
-            },
+            "new" => return Ok(self.begin(alloc, words, text)),
             "processed" => return self.process(alloc, words, true, text),
             "row_count" => return self.process(alloc, words, false, text),
-            "at" => return self.at(words, text),
+            "at" => return Ok(self.at(words, text)),
             _ => {}
         }
         if let Some(records) = &mut self.records {

@@ -1,7 +1,7 @@
 //! Calls that are made again and again.
 
 use crate::numbers::numbers;
-use gi_calls::{Fault, Subject, Words};
+use gi_calls::{Answer, Fault, Subject, Words};
 use std::alloc::{AllocError, Global};
 use std::fmt::Write;
 
@@ -24,12 +24,15 @@ fn with_number(alloc: Global, call: &str, number: u8) -> Result<String, AllocErr
 }
 
 /// Adds the answer for the numbers from `first` to `last`.
-fn add_run(first: u8, last: u8, answer: &str, text: &mut String) -> Result<(), AllocError> {
-    if first == last {
-        writeln!(text, "{first} {answer}")
-    } else {
-        writeln!(text, "{first}-{last} {answer}")
+fn add_run(first: u8, last: u8, answer: &Answer, text: &mut Answer) {
+    text.show(&first);
+    if first != last {
+        text.add("-");
+        text.show(&last);
     }
+    text.add(" ");
+    text.append(answer);
+    text.end_line();
 }
 
 impl<S: Subject> Repeated<S> {
@@ -43,30 +46,30 @@ impl<S: Subject> Repeated<S> {
         rt: &HostRuntime,
         range: (u8, u8),
         call: &str,
-        text: &mut String,
+        text: &mut Answer,
     ) -> Result<bool, Fault> {
         let alloc = rt.alloc();
         let (first, last) = range;
-        let mut run = (first, String::new(alloc));
+        let mut run = (first, Answer::new(alloc));
         for number in first..=last {
             let call = with_number(alloc, call, number)?;
-            let mut answer = String::new(alloc);
+            let mut answer = Answer::new(alloc);
             if !self.subject.answer(rt, call.as_str(), &mut answer)? {
                 return Ok(false);
             }
             if number > first && answer.as_str() != run.1.as_str() {
-                add_run(run.0, number - 1, run.1.as_str(), text)?;
+                add_run(run.0, number - 1, &run.1, text);
                 run.0 = number;
             }
             run.1 = answer;
         }
-        add_run(run.0, last, run.1.as_str(), text)?;
+        add_run(run.0, last, &run.1, text);
         Ok(true)
     }
 }
 
 impl<S: Subject> Subject for Repeated<S> {
-    fn answer(&mut self, rt: &HostRuntime, call: &str, text: &mut String) -> Result<bool, Fault> {
+    fn answer(&mut self, rt: &HostRuntime, call: &str, text: &mut Answer) -> Result<bool, Fault> {
         let mut words = Words::of(call);
         if words.next() != "each" {
             return self.subject.answer(rt, call, text);

@@ -7,15 +7,14 @@ mod steps;
 pub mod texts;
 
 use facts::{chosen, fact_of};
-use gi_calls::{Fault, Subject, Words};
+use gi_calls::{Answer, Fault, Subject, Words};
 use gi_day::Calendar;
 use gi_desk::{Desk, Fact, ReplayFault, Role};
 use gi_initiator::Initiating;
 use gi_matcher::Matching;
 use gi_pairs::{Code, Side};
 use queries::told;
-use std::alloc::{AllocError, Global};
-use std::fmt::Write;
+use std::alloc::Global;
 use steps::stepped;
 
 /// The desk that the calls are made of.
@@ -50,9 +49,12 @@ fn asked<R: Role>(
     alloc: Global,
     desk: &mut Desk<R>,
     line: &str,
-    text: &mut String,
+    text: &mut Answer,
 ) -> Result<bool, Fault> {
-    Ok(stepped(alloc, desk, line, text)? || told(alloc, desk, line, text)?)
+    if stepped(alloc, desk, line, text)? {
+        return Ok(true);
+    }
+    told(alloc, desk, line, text)
 }
 
 impl Desks {
@@ -63,10 +65,14 @@ impl Desks {
         }
     }
 
-    /// Gives a fact to the replays that follow.
-    fn give(&mut self, fact: Fact) -> Result<(), AllocError> {
+    /// Gives the fact that the text is to the replays that follow.
+    fn give(&mut self, alloc: Global, given: &str, text: &mut Answer) -> Result<bool, Fault> {
+        let Some(fact) = fact_of(alloc, given) else {
+            return Ok(false);
+        };
         self.given.push(fact)?;
-        Ok(())
+        text.add("ok");
+        Ok(true)
     }
 
     /// Puts a side's desk of these facts here, where they make one.
@@ -76,39 +82,37 @@ impl Desks {
         side: Side,
         point: Code,
         facts: Vec<Fact>,
-        text: &mut String,
-    ) -> Result<(), Fault> {
+        text: &mut Answer,
+    ) {
         match seat_of(alloc, side, point, facts) {
             Ok(seat) => {
                 self.seat = seat;
-                text.push_str("ok")?;
+                text.add("ok");
             }
-            Err(fault) => write!(text, "{fault}")?,
+            Err(fault) => text.show(&fault),
         }
-        Ok(())
     }
 
     /// Replays the facts that the words number.
     fn replay(
         &mut self,
         alloc: Global,
-        words: Words<'_>,
-        text: &mut String,
+        mut words: Words<'_>,
+        text: &mut Answer,
     ) -> Result<bool, Fault> {
-        let mut words = words;
         let (Some(side), Some(point)) = (words.side(), words.code()) else {
             return Ok(false);
         };
         let Some(facts) = chosen(alloc, &self.given, words.rest())? else {
             return Ok(false);
         };
-        self.seat(alloc, side, point, facts, text)?;
+        self.seat(alloc, side, point, facts, text);
         Ok(true)
     }
 }
 
 impl Subject for Desks {
-    fn answer(&mut self, rt: &HostRuntime, call: &str, text: &mut String) -> Result<bool, Fault> {
+    fn answer(&mut self, rt: &HostRuntime, call: &str, text: &mut Answer) -> Result<bool, Fault> {
         let alloc = rt.alloc();
         let mut words = Words::of(call);
         match words.next() {
@@ -116,14 +120,7 @@ impl Subject for Desks {
                 self.given.clear();
                 self.replay(alloc, words, text)
             }
-            "fact" if words.rest().starts_with('{') => {
-                let Some(fact) = fact_of(alloc, words.rest()) else {
-                    return Ok(false);
-                };
-                self.give(fact)?;
-                text.push_str("ok")?;
-                Ok(true)
-            }
+            "fact" if words.rest().starts_with('{') => self.give(alloc, words.rest(), text),
             "replay" => self.replay(alloc, words, text),
             _ => match &mut self.seat {
                 Seat::Empty => Ok(false),

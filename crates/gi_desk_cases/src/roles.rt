@@ -8,7 +8,7 @@ mod tables;
 
 use comparing::compared;
 use deciding::decided;
-use gi_calls::{Fault, Subject, Words};
+use gi_calls::{Answer, Fault, Subject, Words};
 use gi_cycles::{Collecting, CycleState};
 use gi_desk::Role;
 use gi_initiator::Initiating;
@@ -16,7 +16,6 @@ use gi_matcher::Matching;
 use gi_pairs::MOST_PROCESSED_ROWS;
 use sending::sent;
 use std::alloc::Global;
-use std::fmt::Write;
 use tables::table_of;
 
 /// The calls of the subject `roles`.
@@ -27,14 +26,14 @@ pub struct Roles {
 }
 
 /// Which side a role is.
-fn side(words: Words<'_>, text: &mut String) -> Result<bool, Fault> {
+fn side(words: Words<'_>, text: &mut Answer) -> bool {
     let side = match words.rest() {
         "Initiating" => Initiating::SIDE,
         "Matching" => Matching::SIDE,
-        _ => return Ok(false),
+        _ => return false,
     };
-    write!(text, "{side}")?;
-    Ok(true)
+    text.show(&side);
+    true
 }
 
 impl Roles {
@@ -48,18 +47,17 @@ impl Roles {
     }
 
     /// The cycle collects nominations.
-    fn collect(&mut self, words: Words<'_>, text: &mut String) -> Result<bool, Fault> {
-        let mut words = words;
+    fn collect(&mut self, mut words: Words<'_>, text: &mut Answer) -> bool {
         let Some(id) = words.cycle() else {
-            return Ok(false);
+            return false;
         };
         self.keep(CycleState::Collecting(Collecting::new(id)));
-        text.push_str("ok")?;
-        Ok(true)
+        text.add("ok");
+        true
     }
 
     /// Closes the cycle with a table.
-    fn close(&mut self, alloc: Global, line: &str, text: &mut String) -> Result<bool, Fault> {
+    fn close(&mut self, alloc: Global, line: &str, text: &mut Answer) -> Result<bool, Fault> {
         let Some(own) = table_of(alloc, line)? else {
             return Ok(false);
         };
@@ -71,12 +69,12 @@ impl Roles {
         }
         let cycle = Collecting::new(cycle.id());
         self.keep(CycleState::Frozen(cycle.close(own)));
-        text.push_str("ok")?;
+        text.add("ok");
         Ok(true)
     }
 
     /// Makes the closed cycle meet a table.
-    fn meet(&mut self, alloc: Global, line: &str, text: &mut String) -> Result<bool, Fault> {
+    fn meet(&mut self, alloc: Global, line: &str, text: &mut Answer) -> Result<bool, Fault> {
         let Some(peer) = table_of(alloc, line)? else {
             return Ok(false);
         };
@@ -89,35 +87,41 @@ impl Roles {
         match cycle.meet(alloc, peer) {
             Ok(cycle) => {
                 self.keep(CycleState::Matched(cycle));
-                text.push_str("ok")?;
+                text.add("ok");
             }
             Err((cycle, fault)) => {
                 self.keep(CycleState::Frozen(cycle));
-                write!(text, "{fault}")?;
+                text.show(&fault);
             }
         }
         Ok(true)
     }
+
+    /// How two tables compare, or what is decided or sent in the state.
+    fn told(&self, alloc: Global, call: &str, text: &mut Answer) -> Result<bool, Fault> {
+        if compared(alloc, call, text)? {
+            return Ok(true);
+        }
+        let Some(state) = &self.state else {
+            return Ok(false);
+        };
+        if decided(alloc, state, call, text)? {
+            return Ok(true);
+        }
+        sent(alloc, state, call, text)
+    }
 }
 
 impl Subject for Roles {
-    fn answer(&mut self, rt: &HostRuntime, call: &str, text: &mut String) -> Result<bool, Fault> {
+    fn answer(&mut self, rt: &HostRuntime, call: &str, text: &mut Answer) -> Result<bool, Fault> {
         let alloc = rt.alloc();
         let mut words = Words::of(call);
         match words.next() {
-            "side" => side(words, text),
-            "collecting" => self.collect(words, text),
+            "side" => Ok(side(words, text)),
+            "collecting" => Ok(self.collect(words, text)),
             "close" => self.close(alloc, words.rest(), text),
             "meet" => self.meet(alloc, words.rest(), text),
-            _ => {
-                if compared(alloc, call, text)? {
-                    return Ok(true);
-                }
-                let Some(state) = &self.state else {
-                    return Ok(false);
-                };
-                Ok(decided(alloc, state, call, text)? || sent(alloc, state, call, text)?)
-            }
+            _ => self.told(alloc, call, text),
         }
     }
 }

@@ -3,7 +3,7 @@
 mod shown;
 
 use crate::json_bytes::{add_written, json_bytes};
-use gi_calls::{Fault, Subject, Words};
+use gi_calls::{Answer, Fault, Subject, Words};
 use gi_facts::{Fact, FactFault, decode_fact, encode_fact};
 use shown::add_fact;
 use std::alloc::Global;
@@ -12,11 +12,6 @@ use std::alloc::Global;
 #[derive(Drop)]
 pub struct Facts {
     fact: Option<Fact>,
-}
-
-/// What is printed for a test's answer.
-fn truth(holds: bool) -> &'static str {
-    if holds { "true" } else { "false" }
 }
 
 /// The fact that the rest of a line is.
@@ -35,80 +30,90 @@ impl Facts {
         alloc: Global,
         form: &str,
         words: Words,
-        text: &mut String,
+        text: &mut Answer,
     ) -> Result<bool, Fault> {
         let Some(bytes) = json_bytes(alloc, form, words)? else {
             return Ok(false);
         };
         match decode_fact(alloc, &bytes) {
             Ok(fact) => {
-                let written = encode_fact(alloc, &fact)?;
-                add_written(form, &bytes, &written, text)?;
-                self.fact = Some(fact);
+                let fact = self.fact.insert(fact);
+                add_written(form, &bytes, &encode_fact(alloc, fact)?, text);
             }
-            Err(fault) => text.push_str(format!(in alloc; "{fault}")?.as_str())?,
+            Err(fault) => text.show(&fault),
         }
         Ok(true)
     }
 
     /// Keeps a copy in the place of the fact. The answer is what is written for it.
-    fn keep_copy(&mut self, alloc: Global, copy: Fact, text: &mut String) -> Result<(), Fault> {
-        let written = encode_fact(alloc, &copy)?;
-        add_written("", &[], &written, text)?;
-        self.fact = Some(copy);
-        Ok(())
+    fn keep_copy(&mut self, alloc: Global, copy: Fact, text: &mut Answer) -> Result<bool, Fault> {
+        let fact = self.fact.insert(copy);
+        add_written("", &[], &encode_fact(alloc, fact)?, text);
+        Ok(true)
+    }
+
+    /// The kind and the fields of the fact.
+    fn fields(&self, text: &mut Answer) -> bool {
+        let Some(fact) = &self.fact else {
+            return false;
+        };
+        add_fact(fact, text);
+        true
     }
 
     /// Copies the fact.
-    fn copy(&mut self, alloc: Global, text: &mut String) -> Result<bool, Fault> {
+    fn copy(&mut self, alloc: Global, text: &mut Answer) -> Result<bool, Fault> {
         let Some(fact) = &self.fact else {
             return Ok(false);
         };
         let copy = fact.copy()?;
-        self.keep_copy(alloc, copy, text)?;
-        Ok(true)
+        self.keep_copy(alloc, copy, text)
     }
 
     /// Copies the nomination of the fact; `none` where it has none.
-    fn copy_nomint(&mut self, alloc: Global, text: &mut String) -> Result<(), Fault> {
+    fn copy_nomint(&mut self, alloc: Global, text: &mut Answer) -> Result<bool, Fault> {
         let Some(Fact::Nominated(nomination)) = &self.fact else {
-            return Ok(text.push_str("none")?);
+            text.add("none");
+            return Ok(true);
         };
         let copy = nomination.copy()?;
         self.keep_copy(alloc, Fact::Nominated(copy), text)
     }
 
     /// Whether the fact is another; `none` where one of them is no fact.
-    fn is(&self, alloc: Global, words: Words) -> &'static str {
-        let (Some(fact), Some(other)) = (&self.fact, fact_of(alloc, words)) else {
-            return "none";
-        };
-        truth(fact.is(&other))
+    fn is(&self, alloc: Global, words: Words, text: &mut Answer) -> bool {
+        match (&self.fact, &fact_of(alloc, words)) {
+            (Some(fact), Some(other)) => text.show(&fact.is(other)),
+            _ => text.add("none"),
+        }
+        true
     }
 
     /// Whether the fact's table is that of another; `none` where one of them has none.
-    fn eq_table(&self, alloc: Global, words: Words) -> &'static str {
-        let (Some(Fact::Met { peer, .. }), Some(Fact::Met { peer: other, .. })) = (
-            &self.fact,
-            &fact_of(alloc, words),
-        ) else {
-            return "none";
-        };
-        truth(peer == other)
+    fn eq_table(&self, alloc: Global, words: Words, text: &mut Answer) -> bool {
+        match (&self.fact, &fact_of(alloc, words)) {
+            (Some(Fact::Met { peer, .. }), Some(Fact::Met { peer: other, .. })) => {
+                text.show(&(peer == other));
+            }
+            _ => text.add("none"),
+        }
+        true
     }
 }
 
 /// The fault of that name.
-fn fault_of(name: &str) -> Option<FactFault> {
-    match name {
-        "NotAFact" => Some(FactFault::NotAFact),
-        "OutOfMemory" => Some(FactFault::OutOfMemory),
-        _ => None,
-    }
+fn fault(name: &str, text: &mut Answer) -> bool {
+    let fault = match name {
+        "NotAFact" => FactFault::NotAFact,
+        "OutOfMemory" => FactFault::OutOfMemory,
+        _ => return false,
+    };
+    text.show(&fault);
+    true
 }
 
 impl Subject for Facts {
-    fn answer(&mut self, rt: &HostRuntime, call: &str, text: &mut String) -> Result<bool, Fault> {
+    fn answer(&mut self, rt: &HostRuntime, call: &str, text: &mut Answer) -> Result<bool, Fault> {
         let alloc = rt.alloc();
         let mut words = Words::of(call);
         let name = words.next();
@@ -116,20 +121,13 @@ impl Subject for Facts {
             return self.decode(alloc, form, words, text);
         }
         match name {
-            "fields" => match &self.fact {
-                Some(fact) => add_fact(alloc, fact, text)?,
-                None => return Ok(false),
-            },
-            "copy" => return self.copy(alloc, text),
-            "copy_nomint" => self.copy_nomint(alloc, text)?,
-            "is" => text.push_str(self.is(alloc, words))?,
-            "eq_table" => text.push_str(self.eq_table(alloc, words))?,
-            "fault" => match fault_of(words.rest()) {
-                Some(fault) => text.push_str(format!(in alloc; "{fault}")?.as_str())?,
-                None => return Ok(false),
-            },
-            _ => return Ok(false),
+            "fields" => Ok(self.fields(text)),
+            "copy" => self.copy(alloc, text),
+            "copy_nomint" => self.copy_nomint(alloc, text),
+            "is" => Ok(self.is(alloc, words, text)),
+            "eq_table" => Ok(self.eq_table(alloc, words, text)),
+            "fault" => Ok(fault(words.rest(), text)),
+            _ => Ok(false),
         }
-        Ok(true)
     }
 }

@@ -1,6 +1,6 @@
 //! The bytes that a call of a decoder names.
 
-use gi_calls::{Fault, Words};
+use gi_calls::{Answer, Fault, Words};
 use std::alloc::Global;
 
 /// A text with a part in place of its one `*`.
@@ -8,20 +8,7 @@ fn filled(alloc: Global, text: &str, part: &str) -> Result<Option<Vec<u8>>, Faul
     let Some((front, back)) = text.split_once('*') else {
         return Ok(None);
     };
-    let mut bytes = Vec::new(alloc);
-    bytes.extend_from_slice(front.as_bytes())?;
-    bytes.extend_from_slice(part.as_bytes())?;
-    bytes.extend_from_slice(back.as_bytes())?;
-    Ok(Some(bytes))
-}
-
-/// So many equal texts, one behind the other.
-fn repeated(alloc: Global, text: &str, count: u32) -> Result<String, Fault> {
-    let mut all = String::new(alloc);
-    for _ in 0..count {
-        all.push_str(text)?;
-    }
-    Ok(all)
+    Ok(Some([front, part, back].concat(alloc)?.into_bytes()))
 }
 
 /// `_bytes HEX HEX ..`: the bytes, each of two hexadecimal digits.
@@ -41,9 +28,11 @@ fn spaced(alloc: Global, mut words: Words) -> Result<Option<Vec<u8>>, Fault> {
     let Ok(byte) = u8::from_str_radix(words.next(), 16) else {
         return Ok(None);
     };
-    let mut bytes = Vec::new(alloc);
-    for old in words.rest().bytes() {
-        bytes.push(if old == b' ' { byte } else { old })?;
+    let mut bytes = Vec::from_slice(alloc, words.rest().as_bytes())?;
+    for old in &mut bytes {
+        if *old == b' ' {
+            *old = byte;
+        }
     }
     Ok(Some(bytes))
 }
@@ -63,8 +52,9 @@ fn nested(alloc: Global, mut words: Words) -> Result<Option<Vec<u8>>, Fault> {
     let Some(count) = words.number() else {
         return Ok(None);
     };
-    let mut arrays = repeated(alloc, "[", count)?;
-    arrays.push_str(repeated(alloc, "]", count)?.as_str())?;
+    let opened = "[".repeat(alloc, count as usize)?;
+    let closed = "]".repeat(alloc, count as usize)?;
+    let arrays = [opened.as_str(), closed.as_str()].concat(alloc)?;
     filled(alloc, words.rest(), arrays.as_str())
 }
 
@@ -77,28 +67,24 @@ fn many(alloc: Global, mut words: Words) -> Result<Option<Vec<u8>>, Fault> {
     let element = words.next();
     let mut elements = String::new(alloc);
     for number in 0..count {
-        if number > 0 {
-            elements.push_str(",")?;
-        }
         add_element(alloc, element, number, &mut elements)?;
     }
     filled(alloc, words.rest(), elements.as_str())
 }
 
-/// Adds an element with its number in place of `#`.
+/// Adds an element with its number in place of `#`, behind a comma where it is not the first.
 fn add_element(
     alloc: Global,
     element: &str,
     number: u32,
     elements: &mut String,
 ) -> Result<(), Fault> {
-    let Some((front, back)) = element.split_once('#') else {
-        elements.push_str(element)?;
-        return Ok(());
+    let comma = if number > 0 { "," } else { "" };
+    let part = match element.split_once('#') {
+        Some((front, back)) => format!(in alloc; "{comma}{front}{number:04}{back}"),
+        None => format!(in alloc; "{comma}{element}"),
     };
-    elements.push_str(front)?;
-    elements.push_str(format!(in alloc; "{number:04}")?.as_str())?;
-    elements.push_str(back)?;
+    elements.push_str(part?.as_str())?;
     Ok(())
 }
 
@@ -122,12 +108,7 @@ pub(crate) fn json_bytes(
 
 /// Adds what is written for something that was read: the written bytes, or in the form of many
 /// elements whether they are the bytes that were read.
-pub(crate) fn add_written(
-    form: &str,
-    read: &[u8],
-    written: &[u8],
-    text: &mut String,
-) -> Result<(), Fault> {
+pub(crate) fn add_written(form: &str, read: &[u8], written: &[u8], text: &mut Answer) {
     let answer = if form == "_many" {
         if written == read {
             "written as read"
@@ -137,6 +118,5 @@ pub(crate) fn add_written(
     } else {
         str::from_utf8(written).unwrap_or("no UTF-8")
     };
-    text.push_str(answer)?;
-    Ok(())
+    text.add(answer);
 }

@@ -4,7 +4,7 @@ mod lines;
 pub mod shown;
 
 use crate::json_bytes::{add_written, json_bytes};
-use gi_calls::{Fault, Subject, Words};
+use gi_calls::{Answer, Fault, Subject, Words};
 use gi_messages::parts::{Span, json, span_of};
 use gi_messages::{Lines, Message, decode, encode};
 use json::Scratch;
@@ -33,91 +33,103 @@ impl Messages {
         alloc: Global,
         form: &str,
         words: Words,
-        text: &mut String,
+        text: &mut Answer,
     ) -> Result<bool, Fault> {
         let Some(bytes) = json_bytes(alloc, form, words)? else {
             return Ok(false);
         };
         match decode(alloc, &bytes) {
             Ok(message) => {
-                let written = encode(alloc, &message)?;
-                add_written(form, &bytes, &written, text)?;
-                self.message = Some(message);
+                let message = self.message.insert(message);
+                add_written(form, &bytes, &encode(alloc, message)?, text);
             }
-            Err(fault) => text.push_str(format!(in alloc; "{fault}")?.as_str())?,
+            Err(fault) => text.show(&fault),
         }
         Ok(true)
     }
 
+    /// The kind and the fields of the message.
+    fn fields(&self, text: &mut Answer) -> bool {
+        let Some(message) = &self.message else {
+            return false;
+        };
+        add_message(message, text);
+        true
+    }
+
     /// Makes lines of a call's words and keeps them.
-    fn from(&mut self, alloc: Global, words: Words, text: &mut String) -> Result<bool, Fault> {
+    fn from(&mut self, alloc: Global, words: Words, text: &mut Answer) -> Result<bool, Fault> {
         let Some(lines) = lines_of(alloc, words)? else {
             return Ok(false);
         };
-        add_lines(alloc, &lines, text)?;
+        add_lines(&lines, text);
         self.lines = Some(lines);
         Ok(true)
     }
 
     /// Copies the lines and keeps the copy in their place.
-    fn copy(&mut self, alloc: Global, text: &mut String) -> Result<bool, Fault> {
+    fn copy(&mut self, text: &mut Answer) -> Result<bool, Fault> {
         let Some(lines) = &self.lines else {
             return Ok(false);
         };
         let copy = lines.copy()?;
-        add_lines(alloc, &copy, text)?;
+        add_lines(&copy, text);
         self.lines = Some(copy);
         Ok(true)
     }
 
     /// Whether the lines are equal to those of a call's words.
-    fn eq(&self, alloc: Global, words: Words, text: &mut String) -> Result<bool, Fault> {
+    fn eq(&self, alloc: Global, words: Words, text: &mut Answer) -> Result<bool, Fault> {
         let (Some(lines), Some(other)) = (&self.lines, lines_of(alloc, words)?) else {
             return Ok(false);
         };
-        text.push_str(if *lines == other { "true" } else { "false" })?;
+        text.add(if *lines == other { "true" } else { "false" });
         Ok(true)
     }
 
     /// Takes the lines apart: their number, and each one.
-    fn into_vec(&mut self, alloc: Global, text: &mut String) -> Result<bool, Fault> {
+    fn into_vec(&mut self, text: &mut Answer) -> bool {
         let Some(lines) = self.lines.take() else {
-            return Ok(false);
+            return false;
         };
         let lines = lines.into_vec();
         let count = lines.len();
-        text.push_str(format!(in alloc; "{count}\n")?.as_str())?;
+        text.show(&count);
+        text.end_line();
         for line in &lines {
-            add_line(alloc, line, text)?;
+            add_line(line, text);
         }
-        Ok(true)
+        true
     }
 }
 
 /// Copies a line.
-fn copy_line(alloc: Global, words: Words, text: &mut String) -> Result<bool, Fault> {
+fn copy_line(alloc: Global, words: Words, text: &mut Answer) -> Result<bool, Fault> {
     let Some(line) = line_of(alloc, words.rest())? else {
         return Ok(false);
     };
-    add_line(alloc, &line.copy()?, text)?;
+    add_line(&line.copy()?, text);
     Ok(true)
 }
 
 /// The hours that an object names, or the first key of the two that is missing or wrong.
-fn span(alloc: Global, words: Words, text: &mut String) -> Result<bool, Fault> {
+fn span(alloc: Global, words: Words, text: &mut Answer) -> Result<bool, Fault> {
     let mut scratch = Scratch::new(alloc);
     let Some(object) = json(alloc, words.rest().as_bytes(), &mut scratch)? else {
         return Ok(false);
     };
     match span_of(&object.root()) {
-        Ok(Span { first, last }) => text.push_str(format!(in alloc; "{first} {last}")?.as_str())?,
-        Err(key) => text.push_str(key.text())?,
+        Ok(Span { first, last }) => {
+            text.show(&first);
+            text.word(&last);
+        }
+        Err(key) => text.add(key.text()),
     }
     Ok(true)
 }
 
 impl Subject for Messages {
-    fn answer(&mut self, rt: &HostRuntime, call: &str, text: &mut String) -> Result<bool, Fault> {
+    fn answer(&mut self, rt: &HostRuntime, call: &str, text: &mut Answer) -> Result<bool, Fault> {
         let alloc = rt.alloc();
         let mut words = Words::of(call);
         let name = words.next();
@@ -125,18 +137,14 @@ impl Subject for Messages {
             return self.decode(alloc, form, words, text);
         }
         match name {
-            "fields" => match &self.message {
-                Some(message) => add_message(alloc, message, text)?,
-                None => return Ok(false),
-            },
-            "from" => return self.from(alloc, words, text),
-            "copy" => return self.copy(alloc, text),
-            "copy_line" => return copy_line(alloc, words, text),
-            "eq" => return self.eq(alloc, words, text),
-            "into_vec" => return self.into_vec(alloc, text),
-            "span_of" => return span(alloc, words, text),
-            _ => return Ok(false),
+            "fields" => Ok(self.fields(text)),
+            "from" => self.from(alloc, words, text),
+            "copy" => self.copy(text),
+            "copy_line" => copy_line(alloc, words, text),
+            "eq" => self.eq(alloc, words, text),
+            "into_vec" => Ok(self.into_vec(text)),
+            "span_of" => span(alloc, words, text),
+            _ => Ok(false),
         }
-        Ok(true)
     }
 }

@@ -11,11 +11,10 @@ mod seats;
 mod texts;
 
 use crate::offices::opened::Opened;
-use gi_calls::{Fault, Subject, Words, answered};
+use gi_calls::{Answer, Fault, Subject, Words, answered};
 use gi_initiator::Initiating;
 use gi_matcher::Matching;
 use gi_office::{join_lives, reconcile};
-use std::fmt::Write;
 use std::marker::Brand;
 use std::sync::Wait;
 use std::sync::ledger::{Blank, Ledger};
@@ -31,37 +30,37 @@ struct Offices<'a, A: Ledger, B: Ledger, C: Ledger, W: Wait> {
 
 impl<'a, A: Ledger, B: Ledger, C: Ledger, W: Wait> Offices<'a, A, B, C, W> {
     /// Joins the lives of `I` and of `later`, once both are settled; they are those of `I` then.
-    fn join_lives(&mut self, text: &mut String) -> Result<bool, Fault> {
+    fn join_lives(&mut self, text: &mut Answer) -> bool {
         let (Some(former), Some(later)) = (self.former.settled.take(), self.later.settled.take())
         else {
-            return Ok(false);
+            return false;
         };
         match join_lives(former, later) {
             Ok(joined) => {
                 self.former.keep_settled(Some(joined));
-                text.push_str("ok")?;
+                text.add("ok");
             }
-            Err(fault) => write!(text, "{fault}")?,
+            Err(fault) => text.show(&fault),
         }
-        Ok(true)
+        true
     }
 
     /// Sets `I` and `M` against each other, once both are settled.
-    fn reconcile(&self, text: &mut String) -> Result<bool, Fault> {
+    fn reconcile(&self, text: &mut Answer) -> bool {
         let (Some(initiating), Some(matching)) = (&self.former.settled, &self.matching.settled)
         else {
-            return Ok(false);
+            return false;
         };
         match reconcile(initiating, matching) {
-            Ok(()) => text.push_str("ok")?,
-            Err(fault) => write!(text, "{fault}")?,
+            Ok(()) => text.add("ok"),
+            Err(fault) => text.show(&fault),
         }
-        Ok(true)
+        true
     }
 }
 
 impl<'a, A: Ledger, B: Ledger, C: Ledger, W: Wait> Subject for Offices<'a, A, B, C, W> {
-    fn answer(&mut self, rt: &HostRuntime, call: &str, text: &mut String) -> Result<bool, Fault> {
+    fn answer(&mut self, rt: &HostRuntime, call: &str, text: &mut Answer) -> Result<bool, Fault> {
         let alloc = rt.alloc();
         let handle = self.handle;
         let mut words = Words::of(call);
@@ -69,8 +68,8 @@ impl<'a, A: Ledger, B: Ledger, C: Ledger, W: Wait> Subject for Offices<'a, A, B,
             "I" => self.former.answer(handle, alloc, words.rest(), text),
             "later" => self.later.answer(handle, alloc, words.rest(), text),
             "M" => self.matching.answer(handle, alloc, words.rest(), text),
-            "join_lives" => self.join_lives(text),
-            "reconcile" => self.reconcile(text),
+            "join_lives" => Ok(self.join_lives(text)),
+            "reconcile" => Ok(self.reconcile(text)),
             _ => Ok(false),
         }
     }

@@ -1,11 +1,10 @@
 //! Plans, and carriers of messages.
 
-use crate::moves::moves;
-use crate::runs::Runs;
-use gi_calls::{Fault, Subject, Words};
+use crate::moves::{add_moves, moves};
+use crate::runs::{Runs, Shown};
+use gi_calls::{Answer, Fault, Subject, Words};
 use gi_carrier::{Carrier, Plan, PlanFault, SendFault};
 use std::alloc::{AllocError, Global};
-use std::fmt::Write;
 
 /// The calls of the subject `carriers`. Messages are text; one that comes out stands in quotes.
 #[derive(Drop)]
@@ -14,39 +13,60 @@ pub struct Carriers {
     carrier: Carrier,
 }
 
-/// The bytes of a message as text in quotes.
-fn quoted(alloc: Global, message: &[u8]) -> Result<String, AllocError> {
+/// Adds the bytes of a message as text in quotes.
+fn add_quoted(message: &[u8], text: &mut Answer) {
     match str::from_utf8(message) {
-        Ok(text) => format!(in alloc; "{text:?}"),
-        Err(_) => format!(in alloc; "no text"),
+        Ok(message) => text.debug(&message),
+        Err(_) => text.add("no text"),
+    }
+}
+
+/// What is answered to a message that is sent: `ok`, or the refusal and what is handed back.
+impl Shown for Result<(), (Vec<u8>, SendFault)> {
+    fn add_to(&self, text: &mut Answer) {
+        match self {
+            Ok(()) => text.add("ok"),
+            Err((message, fault)) => {
+                text.show(fault);
+                text.add(" ");
+                add_quoted(message, text);
+            }
+        }
+    }
+}
+
+/// What a carrier gives: a message, or `none`.
+impl Shown for Option<Vec<u8>> {
+    fn add_to(&self, text: &mut Answer) {
+        match self {
+            Some(message) => add_quoted(message, text),
+            None => text.add("none"),
+        }
     }
 }
 
 /// The plan that the words name; none where a word is no move.
 fn plan(alloc: Global, words: Words<'_>) -> Result<Option<Result<Plan, PlanFault>>, AllocError> {
-    Ok(moves(alloc, words)?.map(|moves| Plan::build(moves)))
+    let Some(moves) = moves(alloc, words)? else {
+        return Ok(None);
+    };
+    Ok(Some(Plan::build(moves)))
 }
 
 /// `build MOVES`: the moves of the plan, as it lends them.
-fn build(alloc: Global, words: Words<'_>, text: &mut String) -> Result<bool, Fault> {
+fn build(alloc: Global, words: Words<'_>, text: &mut Answer) -> Result<bool, Fault> {
     let Some(plan) = plan(alloc, words)? else {
         return Ok(false);
     };
     match plan {
-        Ok(plan) => {
-            let mut runs = Runs::new(alloc);
-            for next in plan.as_slice() {
-                runs.add(format!(in alloc; "{next:?}")?)?;
-            }
-            text.push_str(runs.finish()?.as_str())?;
-        }
-        Err(fault) => write!(text, "{fault}")?,
+        Ok(plan) => add_moves(&plan, text),
+        Err(fault) => text.show(&fault),
     }
     Ok(true)
 }
 
 /// `eq MOVES / MOVES`: whether the two plans are equal.
-fn eq(alloc: Global, words: Words<'_>, text: &mut String) -> Result<bool, Fault> {
+fn eq(alloc: Global, words: Words<'_>, text: &mut Answer) -> Result<bool, Fault> {
     let Some((one, other)) = words.rest().split_once(" / ") else {
         return Ok(false);
     };
@@ -57,16 +77,21 @@ fn eq(alloc: Global, words: Words<'_>, text: &mut String) -> Result<bool, Fault>
         return Ok(false);
     };
     let equal = one == other;
-    write!(text, "{equal}")?;
+    text.show(&equal);
     Ok(true)
 }
 
 /// The printed names of what is refused, a line each.
-fn faults(text: &mut String) -> Result<bool, Fault> {
-    writeln!(text, "{}", PlanFault::PlanLength)?;
-    writeln!(text, "{}", SendFault::Full)?;
-    writeln!(text, "{}", SendFault::OutOfMemory)?;
-    Ok(true)
+fn faults(text: &mut Answer) -> bool {
+    let (length, full) = (PlanFault::PlanLength, SendFault::Full);
+    let memory = SendFault::OutOfMemory;
+    text.show(&length);
+    text.end_line();
+    text.show(&full);
+    text.end_line();
+    text.show(&memory);
+    text.end_line();
+    true
 }
 
 impl Carriers {
@@ -78,69 +103,62 @@ impl Carriers {
         }
     }
 
-    /// Sends a message: `ok`, or the refusal and what is handed back.
-    fn sent(&mut self, message: &str) -> Result<String, AllocError> {
-        let alloc = self.alloc;
-        let message = Vec::from_slice(alloc, message.as_bytes())?;
-        match self.carrier.send(message) {
-            Ok(()) => String::from_str(alloc, "ok"),
-            Err((message, fault)) => {
-                let message = quoted(alloc, &message)?;
-                format!(in alloc; "{fault} {message}")
-            }
-        }
+    /// Sends a message: where it is refused, it is handed back.
+    fn sent(&mut self, message: &str) -> Result<Result<(), (Vec<u8>, SendFault)>, AllocError> {
+        let message = Vec::from_slice(self.alloc, message.as_bytes())?;
+        Ok(self.carrier.send(message))
+    }
+
+    /// `send TEXT`.
+    fn send(&mut self, words: Words<'_>, text: &mut Answer) -> Result<bool, Fault> {
+        self.sent(words.rest())?.add_to(text);
+        Ok(true)
     }
 
     /// `send_times COUNT TEXT`: what is answered to each.
-    fn send_times(&mut self, mut words: Words<'_>, text: &mut String) -> Result<bool, Fault> {
+    fn send_times(&mut self, mut words: Words<'_>, text: &mut Answer) -> Result<bool, Fault> {
         let Some(count) = words.number() else {
             return Ok(false);
         };
-        let mut runs = Runs::new(self.alloc);
+        let mut runs = Runs::new();
         for _ in 0..count {
-            runs.add(self.sent(words.rest())?)?;
+            runs.add(self.sent(words.rest())?, text);
         }
-        text.push_str(runs.finish()?.as_str())?;
+        runs.close(text);
         Ok(true)
     }
 
     /// `new TEXTS`: a carrier at which these wait, one after the other.
-    fn start(&mut self, words: Words<'_>) -> Result<String, AllocError> {
+    fn start(&mut self, words: Words<'_>, text: &mut Answer) -> Result<bool, Fault> {
         self.carrier = Carrier::new(self.alloc);
         if !words.is_empty() {
             for message in words.rest().split(' ') {
-                let answer = self.sent(message)?;
-                if answer.as_str() != "ok" {
-                    return Ok(answer);
+                let sent = self.sent(message)?;
+                if sent.is_err() {
+                    sent.add_to(text);
+                    return Ok(true);
                 }
             }
         }
-        String::from_str(self.alloc, "ok")
-    }
-
-    /// What the carrier gives next by the plan.
-    fn given(&mut self, plan: &Plan) -> Result<String, AllocError> {
-        match self.carrier.next(plan)? {
-            Some(message) => quoted(self.alloc, &message),
-            None => String::from_str(self.alloc, "none"),
-        }
+        text.add("ok");
+        Ok(true)
     }
 
     /// `next MOVES`, so many times: what is given each time.
-    fn next(&mut self, count: u32, words: Words<'_>, text: &mut String) -> Result<bool, Fault> {
+    fn next(&mut self, count: u32, words: Words<'_>, text: &mut Answer) -> Result<bool, Fault> {
         let Some(Ok(plan)) = plan(self.alloc, words)? else {
             return Ok(false);
         };
-        let mut runs = Runs::new(self.alloc);
+        let mut runs = Runs::new();
         for _ in 0..count {
-            runs.add(self.given(&plan)?)?;
+            runs.add(self.carrier.next(&plan)?, text);
         }
-        text.push_str(runs.finish()?.as_str())?;
+        runs.close(text);
         Ok(true)
     }
 
     /// `next_times COUNT MOVES`.
-    fn next_times(&mut self, mut words: Words<'_>, text: &mut String) -> Result<bool, Fault> {
+    fn next_times(&mut self, mut words: Words<'_>, text: &mut Answer) -> Result<bool, Fault> {
         match words.number() {
             Some(count) => self.next(count, words, text),
             None => Ok(false),
@@ -149,23 +167,17 @@ impl Carriers {
 }
 
 impl Subject for Carriers {
-    fn answer(&mut self, _rt: &HostRuntime, call: &str, text: &mut String) -> Result<bool, Fault> {
+    fn answer(&mut self, _rt: &HostRuntime, call: &str, text: &mut Answer) -> Result<bool, Fault> {
         let mut words = Words::of(call);
         match words.next() {
             "build" => build(self.alloc, words, text),
             "eq" => eq(self.alloc, words, text),
-            "new" => {
-                text.push_str(self.start(words)?.as_str())?;
-                Ok(true)
-            }
-            "send" => {
-                text.push_str(self.sent(words.rest())?.as_str())?;
-                Ok(true)
-            }
+            "new" => self.start(words, text),
+            "send" => self.send(words, text),
             "send_times" => self.send_times(words, text),
             "next" => self.next(1, words, text),
             "next_times" => self.next_times(words, text),
-            "faults" => faults(text),
+            "faults" => Ok(faults(text)),
             _ => Ok(false),
         }
     }

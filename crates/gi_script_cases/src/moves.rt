@@ -1,5 +1,6 @@
-use gi_calls::Words;
-use gi_carrier::Move;
+use crate::runs::{Runs, Shown};
+use gi_calls::{Answer, Words};
+use gi_carrier::{Move, Plan};
 use std::alloc::{AllocError, Global};
 
 /// The move of that name.
@@ -36,4 +37,19 @@ pub fn moves(alloc: Global, words: Words<'_>) -> Result<Option<Vec<Move>>, Alloc
         }
     }
     Ok(Some(moves))
+}
+
+impl Shown for Move {
+    fn add_to(&self, text: &mut Answer) {
+        text.debug(self);
+    }
+}
+
+/// Adds the moves of a plan, as it lends them.
+pub fn add_moves(plan: &Plan, text: &mut Answer) {
+    let mut runs = Runs::new();
+    for next in plan.as_slice() {
+        runs.add(*next, text);
+    }
+    runs.close(text);
 }

@@ -1,54 +1,54 @@
-use gi_calls::Fault;
-use std::alloc::Global;
-use std::fmt::Write;
+use gi_calls::Answer;
 
-/// Answers one after the other; equal ones that follow each other are counted.
-#[derive(Drop)]
-pub struct Runs {
-    text: String,
-    last: String,
-    count: u64,
+/// What a call answers several times.
+pub trait Shown {
+    /// Adds it to the text.
+    fn add_to(&self, text: &mut Answer);
 }
 
-impl Runs {
+/// Answers one after the other, with commas between them; equal ones that follow each other are
+/// counted.
+#[derive(Drop)]
+pub struct Runs<T: Shown + PartialEq + Drop> {
+    last: Option<T>,
+    count: u64,
+    is_first: bool,
+}
+
+impl<T: Shown + PartialEq + Drop> Runs<T> {
     /// No answer yet.
-    pub fn new(alloc: Global) -> Runs {
+    pub fn new() -> Runs<T> {
         Runs {
-            text: String::new(alloc),
-            last: String::new(alloc),
+            last: None,
             count: 0,
+            is_first: true,
         }
     }
 
-    /// Adds an answer.
-    pub fn add(&mut self, answer: String) -> Result<(), Fault> {
-        if self.count == 0 || self.last != answer {
-            self.close()?;
+    /// Takes an answer; where it is another one than the last, those before it are added.
+    pub fn add(&mut self, answer: T, text: &mut Answer) {
+        let answer = Some(answer);
+        if self.last != answer {
+            self.close(text);
             self.last = answer;
         }
         self.count = self.count.saturating_add(1);
-        Ok(())
     }
 
-    /// Writes the last answers, which are equal.
-    fn close(&mut self) -> Result<(), Fault> {
-        if self.count == 0 {
-            return Ok(());
-        }
-        if !self.text.as_str().is_empty() {
-            self.text.push_str(", ")?;
+    /// Adds the last answers, which are equal.
+    pub fn close(&mut self, text: &mut Answer) {
+        let Some(last) = &self.last else {
+            return;
+        };
+        if !self.is_first {
+            text.add(", ");
         }
         if self.count > 1 {
-            write!(self.text, "{} times ", self.count)?;
+            text.show(&self.count);
+            text.add(" times ");
         }
-        self.text.push_str(self.last.as_str())?;
+        last.add_to(text);
+        self.is_first = false;
         self.count = 0;
-        Ok(())
-    }
-
-    /// All answers, with commas between them.
-    pub fn finish(mut self) -> Result<String, Fault> {
-        self.close()?;
-        Ok(self.text)
     }
 }

@@ -4,9 +4,9 @@ mod escapes;
 mod saying;
 
 use escapes::unescaped;
-use gi_calls::{Fault, Subject, Words};
+use gi_calls::{Answer, Fault, Subject, Words};
 use gi_script::{Script, ScriptFault, read_script};
-use saying::said;
+use saying::add_instruction;
 use std::alloc::Global;
 use std::fmt::Write;
 
@@ -18,53 +18,51 @@ pub struct Scripts {
     lines: Vec<u8>,
 }
 
-/// What the lines of a script say, in a script of one line without its number.
-fn add_said(alloc: Global, script: &Script, text: &mut String) -> Result<(), Fault> {
+/// Adds what the lines of a script say, in a script of one line without its number.
+fn add_said(script: &Script, text: &mut Answer) {
     if script.lines().is_empty() {
-        text.push_str("no line")?;
+        text.add("no line");
     }
     for line in script.lines() {
-        let said = said(alloc, &line.instruction)?;
-        writeln!(text, "{said}")?;
+        add_instruction(&line.instruction, text);
+        text.end_line();
     }
-    Ok(())
 }
 
-/// A script's point, and the number of each line with what it says.
-fn add_script(alloc: Global, script: &Script, text: &mut String) -> Result<(), Fault> {
-    writeln!(text, "{}", script.point())?;
+/// Adds a script's point, and the number of each line with what it says.
+fn add_script(script: &Script, text: &mut Answer) {
+    let point = script.point();
+    text.show(&point);
+    text.end_line();
     for line in script.lines() {
-        let said = said(alloc, &line.instruction)?;
-        writeln!(text, "{} {said}", line.number)?;
+        text.show(&line.number);
+        add_instruction(&line.instruction, text);
+        text.end_line();
     }
-    Ok(())
 }
 
 /// Reads a script of the point `P` and one line: what the line says, or the fault.
-fn add_line(alloc: Global, line: &[u8], text: &mut String) -> Result<(), Fault> {
+fn add_line(alloc: Global, line: &[u8], text: &mut Answer) -> Result<bool, Fault> {
     let mut script = Vec::from_slice(alloc, b"point P\n")?;
     script.extend_from_slice(line)?;
     script.extend_from_slice(b"\n")?;
     match read_script(alloc, &script) {
-        Ok(script) => add_said(alloc, &script, text),
-        Err(fault) => {
-            write!(text, "{fault}")?;
-            Ok(())
-        }
+        Ok(script) => add_said(&script, text),
+        Err(fault) => text.show(&fault),
     }
-}
-
-/// `line TEXT`.
-fn line(alloc: Global, words: Words<'_>, text: &mut String) -> Result<bool, Fault> {
-    let Some(line) = unescaped(alloc, words.rest())? else {
-        return Ok(false);
-    };
-    add_line(alloc, &line, text)?;
     Ok(true)
 }
 
+/// `line TEXT`.
+fn line(alloc: Global, words: Words<'_>, text: &mut Answer) -> Result<bool, Fault> {
+    let Some(line) = unescaped(alloc, words.rest())? else {
+        return Ok(false);
+    };
+    add_line(alloc, &line, text)
+}
+
 /// `plan_line SIDE COUNT MOVE`: the line of a plan of so many moves.
-fn plan_line(alloc: Global, mut words: Words<'_>, text: &mut String) -> Result<bool, Fault> {
+fn plan_line(alloc: Global, mut words: Words<'_>, text: &mut Answer) -> Result<bool, Fault> {
     let side = words.next();
     let Some(count) = words.number() else {
         return Ok(false);
@@ -73,16 +71,20 @@ fn plan_line(alloc: Global, mut words: Words<'_>, text: &mut String) -> Result<b
     for _ in 0..count {
         write!(line, " {}", words.rest())?;
     }
-    add_line(alloc, line.as_bytes(), text)?;
-    Ok(true)
+    add_line(alloc, line.as_bytes(), text)
 }
 
 /// The printed names of the faults, a line each.
-fn faults(text: &mut String) -> Result<bool, Fault> {
-    writeln!(text, "{}", ScriptFault::Point)?;
-    writeln!(text, "{}", ScriptFault::Unreadable(7))?;
-    writeln!(text, "{}", ScriptFault::OutOfMemory)?;
-    Ok(true)
+fn faults(text: &mut Answer) -> bool {
+    let (point, unreadable) = (ScriptFault::Point, ScriptFault::Unreadable(7));
+    let memory = ScriptFault::OutOfMemory;
+    text.show(&point);
+    text.end_line();
+    text.show(&unreadable);
+    text.end_line();
+    text.show(&memory);
+    text.end_line();
+    true
 }
 
 impl Scripts {
@@ -105,14 +107,14 @@ impl Scripts {
     }
 
     /// `read_script TEXT`: reads the lines that came before, and the text behind them.
-    fn read_script(&mut self, words: Words<'_>, text: &mut String) -> Result<bool, Fault> {
+    fn read_script(&mut self, words: Words<'_>, text: &mut Answer) -> Result<bool, Fault> {
         let Some(last) = unescaped(self.alloc, words.rest())? else {
             return Ok(false);
         };
         self.lines.extend_from_slice(&last)?;
         match read_script(self.alloc, &self.lines) {
-            Ok(script) => add_script(self.alloc, &script, text)?,
-            Err(fault) => write!(text, "{fault}")?,
+            Ok(script) => add_script(&script, text),
+            Err(fault) => text.show(&fault),
         }
         self.lines.clear();
         Ok(true)
@@ -120,14 +122,14 @@ impl Scripts {
 }
 
 impl Subject for Scripts {
-    fn answer(&mut self, _rt: &HostRuntime, call: &str, text: &mut String) -> Result<bool, Fault> {
+    fn answer(&mut self, _rt: &HostRuntime, call: &str, text: &mut Answer) -> Result<bool, Fault> {
         let mut words = Words::of(call);
         match words.next() {
             "|" => self.add_line(words),
             "read_script" => self.read_script(words, text),
             "line" => line(self.alloc, words, text),
             "plan_line" => plan_line(self.alloc, words, text),
-            "faults" => faults(text),
+            "faults" => Ok(faults(text)),
             _ => Ok(false),
         }
     }

@@ -1,12 +1,11 @@
 //! The lesser of two tables, and the states of a cycle.
 
 use crate::table_text::{add_table, table_of};
-use gi_calls::{Fault, Subject, Words};
+use gi_calls::{Answer, Fault, Subject, Words};
 use gi_cycles::{Collecting, CycleState, Frozen, MeetFault};
 use gi_lesser::lesser;
 use gi_pairs::{CycleId, Key, MOST_PROCESSED_ROWS, Table};
 use std::alloc::Global;
-use std::fmt::Write;
 
 /// The calls of the subject `cycles`: the cycle of the last `new`.
 #[derive(Drop)]
@@ -24,19 +23,19 @@ fn given_table(alloc: Global, text: &str) -> Result<Option<Table>, Fault> {
 
 /// Adds the lesser of two tables, which are for the same hours and have as many rows as processed
 /// tables may have.
-fn add_lesser(alloc: Global, own: &Table, peer: &Table, text: &mut String) -> Result<bool, Fault> {
+fn add_lesser(alloc: Global, own: &Table, peer: &Table, text: &mut Answer) -> Result<bool, Fault> {
     if own.first() != peer.first() || own.last() != peer.last() {
         return Ok(false);
     }
     if own.rows().len() > MOST_PROCESSED_ROWS || peer.rows().len() > MOST_PROCESSED_ROWS {
         return Ok(false);
     }
-    add_table(&lesser(alloc, own, peer)?, text)?;
+    add_table(&lesser(alloc, own, peer)?, text);
     Ok(true)
 }
 
 /// `lesser TABLE with TABLE`.
-fn lesser_of(alloc: Global, tables: &str, text: &mut String) -> Result<bool, Fault> {
+fn lesser_of(alloc: Global, tables: &str, text: &mut Answer) -> Result<bool, Fault> {
     let Some((own, peer)) = tables.split_once(" with ") else {
         return Ok(false);
     };
@@ -50,10 +49,11 @@ fn lesser_of(alloc: Global, tables: &str, text: &mut String) -> Result<bool, Fau
 }
 
 /// `names`: the refusals.
-fn names(text: &mut String) -> Result<bool, Fault> {
+fn names(text: &mut Answer) -> bool {
     let (shape, memory) = (MeetFault::ShapeDiffers, MeetFault::OutOfMemory);
-    write!(text, "{shape} {memory}")?;
-    Ok(true)
+    text.show(&shape);
+    text.word(&memory);
+    true
 }
 
 /// The closed cycle, where it collects and the table has as many rows as a processed one may; else
@@ -78,15 +78,17 @@ fn cycle_of(state: &CycleState) -> CycleId {
 }
 
 /// `id`: the name of the state, and its cycle.
-fn id(state: &CycleState, text: &mut String) -> Result<bool, Fault> {
+fn id(state: &CycleState, text: &mut Answer) -> bool {
     let name = match state {
         CycleState::Collecting(_) => "Collecting",
         CycleState::Frozen(_) => "Frozen",
         CycleState::Matched(_) => "Matched",
     };
     let CycleId { day, cycle } = cycle_of(state);
-    write!(text, "{name} {day} {cycle}")?;
-    Ok(true)
+    text.show(&name);
+    text.word(&day);
+    text.word(&cycle);
+    true
 }
 
 /// `own`, `peer` or `confirmed`: that table of the state, where it has one.
@@ -101,30 +103,25 @@ fn table<'a>(state: &'a CycleState, name: &str) -> Option<&'a Table> {
 }
 
 /// Adds what a table of the state reads, where the state has it.
-fn add_reading(
-    state: &CycleState,
-    name: &str,
-    key: &Key,
-    hour: u8,
-    text: &mut String,
-) -> Result<(), Fault> {
+fn add_reading(state: &CycleState, name: &str, key: &Key, hour: u8, text: &mut Answer) {
     let Some(table) = table(state, name) else {
-        return Ok(());
+        return;
     };
     let reading = table.at(key.pair, key.direction, hour);
-    writeln!(text, "{name} {reading}")?;
-    Ok(())
+    text.show(&name);
+    text.word(&reading);
+    text.end_line();
 }
 
 /// `at INITIATING MATCHING DIRECTION HOUR`: what each table of the state reads, each in a line.
-fn at(state: &CycleState, mut words: Words<'_>, text: &mut String) -> Result<bool, Fault> {
+fn at(state: &CycleState, mut words: Words<'_>, text: &mut Answer) -> bool {
     let (Some(key), Some(hour)) = (words.key(), words.byte()) else {
-        return Ok(false);
+        return false;
     };
-    add_reading(state, "own", &key, hour, text)?;
-    add_reading(state, "peer", &key, hour, text)?;
-    add_reading(state, "confirmed", &key, hour, text)?;
-    Ok(true)
+    add_reading(state, "own", &key, hour, text);
+    add_reading(state, "peer", &key, hour, text);
+    add_reading(state, "confirmed", &key, hour, text);
+    true
 }
 
 impl Cycles {
@@ -133,17 +130,17 @@ impl Cycles {
     }
 
     /// `new DAY CYCLE`: the cycle, which collects.
-    fn make(&mut self, mut words: Words<'_>, text: &mut String) -> Result<bool, Fault> {
+    fn make(&mut self, mut words: Words<'_>, text: &mut Answer) -> bool {
         let Some(id) = words.cycle() else {
-            return Ok(false);
+            return false;
         };
         self.state = Some(CycleState::Collecting(Collecting::new(id)));
-        text.push_str("ok")?;
-        Ok(true)
+        text.add("ok");
+        true
     }
 
     /// `close TABLE`: freezes the table of a cycle that collects.
-    fn close(&mut self, alloc: Global, given: &str, text: &mut String) -> Result<bool, Fault> {
+    fn close(&mut self, alloc: Global, given: &str, text: &mut Answer) -> Result<bool, Fault> {
         let Some(processed) = given_table(alloc, given)? else {
             return Ok(false);
         };
@@ -153,7 +150,7 @@ impl Cycles {
         match closed(state, processed) {
             Ok(frozen) => {
                 self.state = Some(CycleState::Frozen(frozen));
-                text.push_str("ok")?;
+                text.add("ok");
                 Ok(true)
             }
             Err(state) => {
@@ -164,7 +161,7 @@ impl Cycles {
     }
 
     /// `meet TABLE`: where it is refused, the frozen cycle that comes back is kept.
-    fn meet(&mut self, alloc: Global, given: &str, text: &mut String) -> Result<bool, Fault> {
+    fn meet(&mut self, alloc: Global, given: &str, text: &mut Answer) -> Result<bool, Fault> {
         let Some(peer) = given_table(alloc, given)? else {
             return Ok(false);
         };
@@ -175,11 +172,11 @@ impl Cycles {
             Some(CycleState::Frozen(frozen)) => {
                 let state = match frozen.meet(alloc, peer) {
                     Ok(matched) => {
-                        text.push_str("ok")?;
+                        text.add("ok");
                         CycleState::Matched(matched)
                     }
                     Err((frozen, fault)) => {
-                        write!(text, "{fault}")?;
+                        text.show(&fault);
                         CycleState::Frozen(frozen)
                     }
                 };
@@ -194,35 +191,35 @@ impl Cycles {
     }
 
     /// The calls of a state.
-    fn on_state(&self, mut words: Words<'_>, text: &mut String) -> Result<bool, Fault> {
+    fn on_state(&self, mut words: Words<'_>, text: &mut Answer) -> bool {
         let Some(state) = &self.state else {
-            return Ok(false);
+            return false;
         };
         match words.next() {
             "id" => id(state, text),
             "at" => at(state, words, text),
             name => match table(state, name) {
                 Some(table) => {
-                    add_table(table, text)?;
-                    Ok(true)
+                    add_table(table, text);
+                    true
                 }
-                None => Ok(false),
+                None => false,
             },
         }
     }
 }
 
 impl Subject for Cycles {
-    fn answer(&mut self, rt: &HostRuntime, call: &str, text: &mut String) -> Result<bool, Fault> {
+    fn answer(&mut self, rt: &HostRuntime, call: &str, text: &mut Answer) -> Result<bool, Fault> {
         let alloc = rt.alloc();
         let mut words = Words::of(call);
         match words.next() {
             "lesser" => lesser_of(alloc, words.rest(), text),
-            "names" => names(text),
-            "new" => self.make(words, text),
+            "names" => Ok(names(text)),
+            "new" => Ok(self.make(words, text)),
             "close" => self.close(alloc, words.rest(), text),
             "meet" => self.meet(alloc, words.rest(), text),
-            _ => self.on_state(Words::of(call), text),
+            _ => Ok(self.on_state(Words::of(call), text)),
         }
     }
 }

@@ -1,9 +1,8 @@
 //! Gas days, their hours and cycles.
 
 use crate::order::order_of;
-use gi_calls::{Fault, Subject, Words};
+use gi_calls::{Answer, Fault, Subject, Words};
 use gi_day::{Calendar, CalendarFault, DayFault, DayFrame, GasDay, NoSuchCycle};
-use std::fmt::{Display, Write};
 
 /// The calls of the subject `days`: the calendar of the last `new`, and the frame of the last
 /// `frame`.
@@ -14,90 +13,80 @@ pub struct Days {
 }
 
 /// `read TEXT`, the rest of the line.
-fn read(given: &str, text: &mut String) -> Result<bool, Fault> {
+fn read(given: &str, text: &mut Answer) -> bool {
     match GasDay::read(given) {
-        Ok(day) => write!(text, "{day}")?,
-        Err(fault) => write!(text, "{fault}")?,
+        Ok(day) => text.show(&day),
+        Err(fault) => text.show(&fault),
     }
-    Ok(true)
+    true
 }
 
 /// `compare DAY DAY`.
-fn compare(mut words: Words<'_>, text: &mut String) -> Result<bool, Fault> {
+fn compare(mut words: Words<'_>, text: &mut Answer) -> bool {
     let (Some(left), Some(right)) = (words.day(), words.day()) else {
-        return Ok(false);
+        return false;
     };
-    text.push_str(order_of(left, right))?;
-    Ok(true)
+    text.add(order_of(left, right));
+    true
 }
 
 /// `names`: the refusals of each kind.
-fn names(text: &mut String) -> Result<bool, Fault> {
+fn names(text: &mut Answer) -> bool {
     let (format, range) = (DayFault::DayText, DayFault::DayRange);
-    writeln!(text, "{format} {range}")?;
+    text.show(&format);
+    text.word(&range);
+    text.end_line();
     let (zone, length) = (CalendarFault::ZoneRefused, CalendarFault::DayLength);
     let memory = CalendarFault::OutOfMemory;
-    writeln!(text, "{zone} {length} {memory}")?;
+    text.show(&zone);
+    text.word(&length);
+    text.word(&memory);
+    text.end_line();
     let cycle = NoSuchCycle;
-    writeln!(text, "{cycle}")?;
-    Ok(true)
-}
-
-/// Adds an answer, behind those that stand there.
-fn add<T: Display, E: Display>(answer: Result<T, E>, text: &mut String) -> Result<(), Fault>
-where
-    T: Drop,
-    E: Drop,
-{
-    if !text.is_empty() {
-        text.push_str(" ")?;
-    }
-    match answer {
-        Ok(value) => write!(text, "{value}")?,
-        Err(fault) => write!(text, "{fault}")?,
-    }
-    Ok(())
+    text.show(&cycle);
+    text.end_line();
+    true
 }
 
 /// `cycle_start CYCLE ..`: the answers for these cycles.
-fn cycle_start(frame: DayFrame, words: Words<'_>, text: &mut String) -> Result<bool, Fault> {
+fn cycle_start(frame: DayFrame, words: Words<'_>, text: &mut Answer) -> bool {
     for word in words.rest().split(' ') {
         let Ok(cycle) = word.parse::<u8>() else {
-            return Ok(false);
+            return false;
         };
-        add(frame.cycle_start(cycle), text)?;
+        text.value(&frame.cycle_start(cycle));
     }
-    Ok(true)
+    true
 }
 
 /// `first_hour CYCLE ..`: the answers for these cycles.
-fn first_hour(frame: DayFrame, words: Words<'_>, text: &mut String) -> Result<bool, Fault> {
+fn first_hour(frame: DayFrame, words: Words<'_>, text: &mut Answer) -> bool {
     for word in words.rest().split(' ') {
         let Ok(cycle) = word.parse::<u8>() else {
-            return Ok(false);
+            return false;
         };
-        add(frame.first_hour(cycle), text)?;
+        text.value(&frame.first_hour(cycle));
     }
-    Ok(true)
+    true
 }
 
 /// `due MOMENT LAST`, the last being `none` or a cycle.
-fn due(frame: DayFrame, mut words: Words<'_>, text: &mut String) -> Result<bool, Fault> {
+fn due(frame: DayFrame, mut words: Words<'_>, text: &mut Answer) -> bool {
     let Some(moment) = words.moment() else {
-        return Ok(false);
+        return false;
     };
     let last = match words.next() {
         "none" => None,
         word => match word.parse::<u8>() {
             Ok(cycle) => Some(cycle),
-            Err(_) => return Ok(false),
+            Err(_) => return false,
         },
     };
     match frame.due(moment, last) {
-        Some(cycle) => write!(text, "{cycle}")?,
-        None => text.push_str("none")?,
+        Some(cycle) => text.show(&cycle),
+        None => text.add("none"),
     }
-    Ok(true)
+    true
 }
 
 impl Days {
@@ -109,69 +98,74 @@ impl Days {
     }
 
     /// `new`: the calendar.
-    fn make(&mut self, text: &mut String) -> Result<bool, Fault> {
+    fn make(&mut self, text: &mut Answer) -> bool {
         match Calendar::new() {
             Ok(calendar) => {
                 self.calendar = Some(calendar);
-                text.push_str("ok")?;
+                text.add("ok");
             }
-            Err(fault) => write!(text, "{fault}")?,
+            Err(fault) => text.show(&fault),
         }
-        Ok(true)
+        true
     }
 
     /// `frame DAY`: its day, its hours and how many cycles it has.
-    fn frame(&mut self, mut words: Words<'_>, text: &mut String) -> Result<bool, Fault> {
+    fn frame(&mut self, mut words: Words<'_>, text: &mut Answer) -> bool {
         let (Some(calendar), Some(day)) = (&self.calendar, words.day()) else {
-            return Ok(false);
+            return false;
         };
         match calendar.frame(day) {
             Ok(frame) => {
                 let (day, hours, cycles) = (frame.day(), frame.hours(), frame.cycle_count());
-                write!(text, "day {day} hours {hours} cycles {cycles}")?;
+                text.add("day");
+                text.word(&day);
+                text.add(" hours");
+                text.word(&hours);
+                text.add(" cycles");
+                text.word(&cycles);
                 self.frame = Some(frame);
             }
-            Err(fault) => write!(text, "{fault}")?,
+            Err(fault) => text.show(&fault),
         }
-        Ok(true)
+        true
     }
 
     /// `copy DAY`: whether a copy of the calendar gives the same frame.
-    fn copy(&self, mut words: Words<'_>, text: &mut String) -> Result<bool, Fault> {
+    fn copy(&self, mut words: Words<'_>, text: &mut Answer) -> Result<bool, Fault> {
         let (Some(calendar), Some(day)) = (&self.calendar, words.day()) else {
             return Ok(false);
         };
         let again = calendar.copy().map_err(|_| Fault::OutOfMemory)?;
         let same = again.frame(day) == calendar.frame(day);
-        text.push_str(if same { "same" } else { "other" })?;
+        text.add(if same { "same" } else { "other" });
         Ok(true)
     }
 
     /// The calls of a frame.
-    fn on_frame(&self, mut words: Words<'_>, text: &mut String) -> Result<bool, Fault> {
+    fn on_frame(&self, mut words: Words<'_>, text: &mut Answer) -> bool {
         let Some(frame) = self.frame else {
-            return Ok(false);
+            return false;
         };
         match words.next() {
             "cycle_start" => cycle_start(frame, words, text),
             "first_hour" => first_hour(frame, words, text),
             "due" => due(frame, words, text),
-            _ => Ok(false),
+            _ => false,
         }
     }
 }
 
 impl Subject for Days {
-    fn answer(&mut self, _: &HostRuntime, call: &str, text: &mut String) -> Result<bool, Fault> {
+    fn answer(&mut self, _: &HostRuntime, call: &str, text: &mut Answer) -> Result<bool, Fault> {
         let mut words = Words::of(call);
         match words.next() {
-            "read" => read(words.rest(), text),
-            "compare" => compare(words, text),
-            "names" => names(text),
-            "new" => self.make(text),
-            "frame" => self.frame(words, text),
+            "read" => Ok(read(words.rest(), text)),
+            "compare" => Ok(compare(words, text)),
+            "names" => Ok(names(text)),
+            "new" => Ok(self.make(text)),
+            "frame" => Ok(self.frame(words, text)),
             "copy" => self.copy(words, text),
-            _ => self.on_frame(Words::of(call), text),
+            _ => Ok(self.on_frame(Words::of(call), text)),
         }
     }
 }

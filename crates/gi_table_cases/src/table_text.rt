@@ -3,10 +3,9 @@
 //! of like rows may stand before them, `25 25 rows A 4096 7`: of `A` and `B0`, `B1` and so on in
 //! `IM`, with 7 in each hour.
 
-use gi_calls::{Fault, Words};
+use gi_calls::{Answer, Fault, Words};
 use gi_pairs::{Code, Direction, Hours, Key, Pair, Quantity, Row, Table, TableFault};
 use std::alloc::Global;
-use std::fmt::Write;
 
 /// Of a table of more rows the first, the last and the number between are shown.
 const MOST_SHOWN: usize = 20;
@@ -111,49 +110,52 @@ pub(crate) fn table_of(
 }
 
 /// Adds the quantities, each behind a space.
-pub(crate) fn add_hours(hours: &Hours, text: &mut String) -> Result<(), Fault> {
+pub(crate) fn add_hours(hours: &Hours, text: &mut Answer) {
     for quantity in hours.as_slice() {
         let quantity = quantity.value();
-        write!(text, " {quantity}")?;
+        text.word(&quantity);
     }
-    Ok(())
 }
 
 /// Adds what a row is for.
-pub(crate) fn add_key(key: Key, text: &mut String) -> Result<(), Fault> {
+pub(crate) fn add_key(key: Key, text: &mut Answer) {
     let (initiating, matching, direction) = (key.pair.initiating, key.pair.matching, key.direction);
-    write!(text, "{initiating} {matching} {direction}")?;
-    Ok(())
+    text.show(&initiating);
+    text.word(&matching);
+    text.word(&direction);
 }
 
 /// Adds a row, in a line.
-pub(crate) fn add_row(row: &Row, text: &mut String) -> Result<(), Fault> {
-    add_key(row.key(), text)?;
-    add_hours(&row.hours, text)?;
-    text.push_str("\n")?;
-    Ok(())
+pub(crate) fn add_row(row: &Row, text: &mut Answer) {
+    add_key(row.key(), text);
+    add_hours(&row.hours, text);
+    text.end_line();
 }
 
 /// Adds rows of which there are too many to show: the first, how many more there are, and the last.
-fn add_ends(rows: &[Row], text: &mut String) -> Result<(), Fault> {
+fn add_ends(rows: &[Row], text: &mut Answer) {
     let [first, between @ .., last] = rows else {
-        return Ok(());
+        return;
     };
     let more = between.len();
-    add_row(first, text)?;
-    writeln!(text, "{more} more")?;
+    add_row(first, text);
+    text.show(&more);
+    text.add(" more");
+    text.end_line();
     add_row(last, text)
 }
 
 /// Adds the hours of a table, and its rows.
-pub(crate) fn add_table(table: &Table, text: &mut String) -> Result<(), Fault> {
+pub(crate) fn add_table(table: &Table, text: &mut Answer) {
     let (first, last) = (table.first(), table.last());
-    writeln!(text, "hours {first} {last}")?;
+    text.add("hours");
+    text.word(&first);
+    text.word(&last);
+    text.end_line();
     if table.rows().len() > MOST_SHOWN {
         return add_ends(table.rows(), text);
     }
     for row in table.rows() {
-        add_row(row, text)?;
+        add_row(row, text);
     }
-    Ok(())
 }

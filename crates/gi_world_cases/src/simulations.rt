@@ -2,9 +2,8 @@
 
 use crate::nomination::nomination;
 use crate::worlds::{body, query};
-use gi_calls::{Fault, Subject, Words};
+use gi_calls::{Answer, Fault, Subject, Words};
 use gi_desk::Call;
-use gi_pairs::Side;
 use gi_script::{Instruction, Script, read_script};
 use gi_simulation::{Simulated, Simulation, refused_submissions, simulate};
 use std::alloc::{AllocError, Global};
@@ -46,19 +45,21 @@ fn slipped(alloc: Global, line: &str) -> Result<Option<Instruction>, AllocError>
 fn make(
     simulation: &mut Simulation,
     instruction: &Instruction,
-    text: &mut String,
+    text: &mut Answer,
 ) -> Result<(), AllocError> {
     match simulation.make(instruction)? {
-        Some(outcome) => write!(text, "{outcome}\n"),
-        None => text.push_str("none\n"),
+        Some(outcome) => text.show(&outcome),
+        None => text.add("none"),
     }
+    text.end_line();
+    Ok(())
 }
 
 /// Makes what each line of a script asks.
 fn make_lines(
     simulation: &mut Simulation,
     script: &Script,
-    text: &mut String,
+    text: &mut Answer,
 ) -> Result<(), AllocError> {
     for line in script.lines() {
         make(simulation, &line.instruction, text)?;
@@ -66,21 +67,48 @@ fn make_lines(
     Ok(())
 }
 
+/// The text of a script of one line.
+fn one_line(alloc: Global, line: &str) -> Result<String, AllocError> {
+    let line = script_line(alloc, line)?;
+    format!(in alloc; "point BORDER-1\n{line}")
+}
+
+/// The script of a text; where it is none, the fault is added.
+fn read(alloc: Global, script: &str, text: &mut Answer) -> Option<Script> {
+    match read_script(alloc, script.as_bytes()) {
+        Ok(script) => Some(script),
+        Err(fault) => {
+            text.show(&fault);
+            text.end_line();
+            None
+        }
+    }
+}
+
+/// Makes what a line of a script asks.
+fn make_scripted(
+    alloc: Global,
+    simulation: &mut Simulation,
+    line: &str,
+    text: &mut Answer,
+) -> Result<(), AllocError> {
+    let script = one_line(alloc, line)?;
+    match read(alloc, script.as_str(), text) {
+        Some(script) => make_lines(simulation, &script, text),
+        None => Ok(()),
+    }
+}
+
 /// Makes what a line asks.
 fn make_line(
     alloc: Global,
     simulation: &mut Simulation,
     line: &str,
-    text: &mut String,
+    text: &mut Answer,
 ) -> Result<(), AllocError> {
-    if let Some(instruction) = slipped(alloc, line)? {
-        return make(simulation, &instruction, text);
-    }
-    let line = script_line(alloc, line)?;
-    let script = format!(in alloc; "point BORDER-1\n{line}")?;
-    match read_script(alloc, script.as_bytes()) {
-        Ok(script) => make_lines(simulation, &script, text),
-        Err(fault) => write!(text, "{fault}\n"),
+    match slipped(alloc, line)? {
+        Some(instruction) => make(simulation, &instruction, text),
+        None => make_scripted(alloc, simulation, line, text),
     }
 }
 
@@ -97,26 +125,26 @@ fn asked(mut words: Words<'_>) -> (u32, bool) {
 
 /// Adds the lines from the first on that begins with a number of at least `first`; the lines of a
 /// trace begin with none.
-fn add_from(lines: &str, first: u32, text: &mut String) -> Result<(), AllocError> {
+fn add_from(lines: &str, first: u32, text: &mut Answer) {
     let mut wanted = false;
     for line in lines.lines() {
         let number = Words::of(line).number();
         wanted = wanted || number.is_some_and(|number| number >= first);
         if wanted {
-            write!(text, "{line}\n")?;
+            text.add(line);
+            text.end_line();
         }
     }
-    Ok(())
 }
 
 /// Adds what the lines of a script from number `first` on printed, and whether all of it is made.
-fn add_simulated(simulated: &Simulated, first: u32, text: &mut String) -> Result<(), AllocError> {
-    add_from(simulated.text.as_str(), first, text)?;
-    text.push_str(if simulated.complete {
+fn add_simulated(simulated: &Simulated, first: u32, text: &mut Answer) {
+    add_from(simulated.text.as_str(), first, text);
+    text.add(if simulated.complete {
         "complete\n"
     } else {
         "cut off\n"
-    })
+    });
 }
 
 impl Simulations {
@@ -133,14 +161,24 @@ impl Simulations {
         let _former = self.simulation.replace(simulation);
     }
 
+    /// Forgets the script so far.
+    fn begin_script(&mut self, alloc: Global) -> bool {
+        self.script = String::new(alloc);
+        true
+    }
+
+    /// Adds a line as it is written in a script, so many times.
+    fn add_written(&mut self, line: &str, times: u32) -> Result<bool, Fault> {
+        for _ in 0..times {
+            write!(self.script, "{line}\n")?;
+        }
+        Ok(true)
+    }
+
     /// Adds a line to the script, so many times.
     fn add_line(&mut self, alloc: Global, line: &str, times: u32) -> Result<bool, Fault> {
         let line = script_line(alloc, line)?;
-        for _ in 0..times {
-            self.script.push_str(line.as_str())?;
-            self.script.push_str("\n")?;
-        }
-        Ok(true)
+        self.add_written(line.as_str(), times)
     }
 
     /// Adds a line to the script as often as its first word says.
@@ -166,72 +204,66 @@ impl Simulations {
 
     /// Simulates the script; its offices are those that are asked from then on. With a number only
     /// what the lines from that one on printed is added, and with `--trace` their traces too.
-    fn simulate(
-        &mut self,
-        alloc: Global,
-        words: Words<'_>,
-        text: &mut String,
-    ) -> Result<bool, Fault> {
+    fn simulate(&mut self, alloc: Global, words: Words<'_>, text: &mut Answer) -> bool {
         let (first, trace) = asked(words);
-        let script = match read_script(alloc, self.script.as_bytes()) {
-            Ok(script) => script,
-            Err(fault) => {
-                write!(text, "{fault}\n")?;
-                return Ok(true);
-            }
+        let Some(script) = read(alloc, self.script.as_str(), text) else {
+            return true;
         };
         match simulate(alloc, script, trace) {
             Ok(simulated) => {
-                let added = add_simulated(&simulated, first, text);
+                add_simulated(&simulated, first, text);
                 self.take(simulated.simulation);
-                added?;
             }
-            Err(fault) => write!(text, "{fault}\n")?,
+            Err(fault) => {
+                text.show(&fault);
+                text.end_line();
+            }
         }
-        Ok(true)
+        true
     }
 
     /// Simulates the script, and adds the portfolios of a side's refused submissions.
-    fn refused(&mut self, alloc: Global, side: Side, text: &mut String) -> Result<bool, Fault> {
-        let script = match read_script(alloc, self.script.as_bytes()) {
-            Ok(script) => script,
-            Err(fault) => {
-                write!(text, "{fault}\n")?;
-                return Ok(true);
-            }
+    fn refused(&mut self, alloc: Global, mut words: Words<'_>, text: &mut Answer) -> bool {
+        let Some(side) = words.side() else {
+            return false;
+        };
+        let Some(script) = read(alloc, self.script.as_str(), text) else {
+            return true;
         };
         match refused_submissions(alloc, side, script) {
             Ok((simulation, portfolios)) => {
                 self.take(simulation);
-                write!(text, "{portfolios:?}\n")?;
+                text.debug(&portfolios);
+                text.end_line();
             }
-            Err(fault) => write!(text, "{fault}\n")?,
+            Err(fault) => {
+                text.show(&fault);
+                text.end_line();
+            }
         }
-        Ok(true)
+        true
     }
 
     /// A simulation without facts, with nothing on its way.
-    fn begin(
-        &mut self,
-        alloc: Global,
-        mut words: Words<'_>,
-        text: &mut String,
-    ) -> Result<bool, Fault> {
+    fn begin(&mut self, alloc: Global, mut words: Words<'_>, text: &mut Answer) -> bool {
         let Some(point) = words.code() else {
-            return Ok(false);
+            return false;
         };
         match Simulation::new(alloc, point) {
             Ok(simulation) => {
                 self.take(simulation);
-                text.push_str("ok\n")?;
+                text.add("ok\n");
             }
-            Err(fault) => write!(text, "{fault}\n")?,
+            Err(fault) => {
+                text.show(&fault);
+                text.end_line();
+            }
         }
-        Ok(true)
+        true
     }
 
     /// Makes what a line asks, in the simulation.
-    fn make(&mut self, alloc: Global, line: &str, text: &mut String) -> Result<bool, Fault> {
+    fn make(&mut self, alloc: Global, line: &str, text: &mut Answer) -> Result<bool, Fault> {
         let Some(simulation) = &mut self.simulation else {
             return Ok(false);
         };
@@ -240,7 +272,7 @@ impl Simulations {
     }
 
     /// Adds what the simulation's world answers to a question.
-    fn query(&self, alloc: Global, words: Words<'_>, text: &mut String) -> Result<bool, Fault> {
+    fn query(&self, alloc: Global, words: Words<'_>, text: &mut Answer) -> Result<bool, Fault> {
         match &self.simulation {
             Some(simulation) => query(alloc, simulation.world(), words, text),
             None => Ok(false),
@@ -249,24 +281,18 @@ impl Simulations {
 }
 
 impl Subject for Simulations {
-    fn answer(&mut self, rt: &HostRuntime, call: &str, text: &mut String) -> Result<bool, Fault> {
+    fn answer(&mut self, rt: &HostRuntime, call: &str, text: &mut Answer) -> Result<bool, Fault> {
         let alloc = rt.alloc();
         let mut words = Words::of(call);
         match words.next() {
-            "script" => {
-                self.script = String::new(alloc);
-                Ok(true)
-            }
+            "script" => Ok(self.begin_script(alloc)),
             "point" | "I" | "M" | "plan" => self.add_line(alloc, call, 1),
             "empty" => self.add_line(alloc, "", 1),
             "times" => self.add_times(alloc, words),
             "first" => self.go_back(alloc, words),
-            "simulate" => self.simulate(alloc, words, text),
-            "refused_submissions" => match words.side() {
-                Some(side) => self.refused(alloc, side, text),
-                None => Ok(false),
-            },
-            "new" => self.begin(alloc, words, text),
+            "simulate" => Ok(self.simulate(alloc, words, text)),
+            "refused_submissions" => Ok(self.refused(alloc, words, text)),
+            "new" => Ok(self.begin(alloc, words, text)),
             "make" => self.make(alloc, words.rest(), text),
             _ => self.query(alloc, Words::of(call), text),
         }

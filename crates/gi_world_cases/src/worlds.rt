@@ -8,12 +8,12 @@ mod queries;
 use answers::add_outcome;
 pub use asking::body;
 use asking::step_of;
-use gi_calls::{Fault, Subject, Words};
+use gi_calls::{Answer, Fault, Subject, Words};
 use gi_pairs::{Code, Side};
 use gi_world::{Run, Step, World, run_world};
 use lone::Lone;
 pub use queries::query;
-use std::alloc::{AllocError, Global};
+use std::alloc::Global;
 
 /// The calls of the subject `worlds`.
 #[derive(Drop)]
@@ -26,21 +26,23 @@ pub struct Worlds {
 }
 
 /// Adds what comes of words that ask no step: nothing of a saving where all is saved.
-fn add_nothing(words: Words<'_>, text: &mut String) -> Result<bool, Fault> {
+fn add_nothing(words: Words<'_>, text: &mut Answer) -> bool {
     if words.rest() != "save" {
-        return Ok(false);
+        return false;
     }
-    text.push_str("nothing\n")?;
-    Ok(true)
+    text.add("nothing\n");
+    true
 }
 
 /// Adds what came of each step of a run, and how many are made.
-fn add_run(run: &Run, text: &mut String) -> Result<(), AllocError> {
+fn add_run(run: &Run, text: &mut Answer) {
     for outcome in run.outcomes.as_slice() {
-        add_outcome(outcome, text)?;
+        add_outcome(outcome, text);
     }
     let done = run.done;
-    write!(text, "done {done}\n")
+    text.add("done");
+    text.word(&done);
+    text.end_line();
 }
 
 impl Worlds {
@@ -59,26 +61,30 @@ impl Worlds {
         let _former = self.world.replace(world);
     }
 
+    /// Forgets the steps so far.
+    fn begin_steps(&mut self, alloc: Global, text: &mut Answer) -> bool {
+        self.steps = Vec::new(alloc);
+        text.add("ok\n");
+        true
+    }
+
     /// A world at the interconnection point, of which no step is made.
-    fn begin(
-        &mut self,
-        alloc: Global,
-        mut words: Words<'_>,
-        text: &mut String,
-    ) -> Result<bool, Fault> {
+    fn begin(&mut self, alloc: Global, mut words: Words<'_>, text: &mut Answer) -> bool {
         let Some(point) = words.code() else {
-            return Ok(false);
+            return false;
         };
         match World::new(alloc, point) {
             Ok(world) => {
                 self.take(world);
                 self.point = Some(point);
-                self.steps = Vec::new(alloc);
-                text.push_str("ok\n")?;
+                self.begin_steps(alloc, text)
             }
-            Err(fault) => write!(text, "{fault}\n")?,
+            Err(fault) => {
+                text.show(&fault);
+                text.end_line();
+                true
+            }
         }
-        Ok(true)
     }
 
     /// Makes a step at a side.
@@ -87,38 +93,40 @@ impl Worlds {
         alloc: Global,
         side: Side,
         words: Words<'_>,
-        text: &mut String,
+        text: &mut Answer,
     ) -> Result<bool, Fault> {
         let Some(world) = &mut self.world else {
             return Ok(false);
         };
         let Some(step) = step_of(alloc, world, side, words)? else {
-            return add_nothing(words, text);
+            return Ok(add_nothing(words, text));
         };
-        add_outcome(&world.step(&step), text)?;
-        self.steps.push(step).map_err(|_| Fault::OutOfMemory)?;
+        add_outcome(&world.step(&step), text);
+        self.steps.push(step)?;
         Ok(true)
     }
 
     /// Makes the steps again in one run, from two desks without facts; its world is the one that is
     /// asked from then on.
-    fn run(&mut self, alloc: Global, text: &mut String) -> Result<bool, Fault> {
+    fn run(&mut self, alloc: Global, text: &mut Answer) -> bool {
         let Some(point) = self.point else {
-            return Ok(false);
+            return false;
         };
         match run_world(alloc, point, &self.steps) {
             Ok(run) => {
-                let added = add_run(&run, text);
+                add_run(&run, text);
                 self.take(run.world);
-                added?;
             }
-            Err(fault) => write!(text, "{fault}\n")?,
+            Err(fault) => {
+                text.show(&fault);
+                text.end_line();
+            }
         }
-        Ok(true)
+        true
     }
 
     /// Adds what the world answers to a question.
-    fn query(&self, alloc: Global, words: Words<'_>, text: &mut String) -> Result<bool, Fault> {
+    fn query(&self, alloc: Global, words: Words<'_>, text: &mut Answer) -> Result<bool, Fault> {
         match &self.world {
             Some(world) => query(alloc, world, words, text),
             None => Ok(false),
@@ -127,19 +135,15 @@ impl Worlds {
 }
 
 impl Subject for Worlds {
-    fn answer(&mut self, rt: &HostRuntime, call: &str, text: &mut String) -> Result<bool, Fault> {
+    fn answer(&mut self, rt: &HostRuntime, call: &str, text: &mut Answer) -> Result<bool, Fault> {
         let alloc = rt.alloc();
         let mut words = Words::of(call);
         match words.next() {
-            "new" => self.begin(alloc, words, text),
-            "script" => {
-                self.steps = Vec::new(alloc);
-                text.push_str("ok\n")?;
-                Ok(true)
-            }
+            "new" => Ok(self.begin(alloc, words, text)),
+            "script" => Ok(self.begin_steps(alloc, text)),
             "I" => self.make(alloc, Side::I, words, text),
             "M" => self.make(alloc, Side::M, words, text),
-            "run" => self.run(alloc, text),
+            "run" => Ok(self.run(alloc, text)),
             "lone" => self.lone.answer(alloc, words, text),
             _ => self.query(alloc, Words::of(call), text),
         }

@@ -6,7 +6,7 @@ ghost use Rattle.std.specs.Prelude.{IfOk};
 ghost use Rattle.std.specs.List.{AllByRecursion};
 ghost use Rattle.gi_facts.specs.Grammar.{IsWritable};
 
-use gi_calls::Fault;
+use gi_calls::{Answer, Fault};
 use gi_facts::{Fact, FactFault, MOST_FACTS, decode_fact};
 use gi_store::fitting;
 use std::alloc::{AllocError, Global};
@@ -22,13 +22,11 @@ fn copies(text: &str) -> Option<(u16, &str, &str)> {
 fn with_copies(alloc: Global, text: &str) -> Result<String, AllocError> {
     let mut full = String::new(alloc);
     for piece in text.split('(') {
-        match copies(piece) {
-            Some((count, what, after)) => {
-                full.push_str(what.repeat(alloc, usize::from(count))?.as_str())?;
-                full.push_str(after)?;
-            }
-            None => full.push_str(piece)?,
+        let (count, what, after) = copies(piece).unwrap_or((0, "", piece));
+        for _ in 0..count {
+            full.push_str(what)?;
         }
+        full.push_str(after)?;
     }
     Ok(full)
 }
@@ -53,15 +51,16 @@ pub(crate) fn facts_of(alloc: Global, text: &str) -> Result<Vec<Fact>, FactFault
     Ok(facts)
 }
 
-/// How many of the facts, from the first on, fit one row. `None` where there are none, or more than
+/// How many of the facts, from the first on, fit one row. `false` where there are none, or more than
 /// 64.
-pub(crate) fn fitting_text(alloc: Global, text: &str) -> Result<Option<String>, Fault> {
-    let Ok(facts) = facts_of(alloc, text) else {
-        return Ok(None);
+pub(crate) fn add_fitting(alloc: Global, facts: &str, text: &mut Answer) -> Result<bool, Fault> {
+    let Ok(facts) = facts_of(alloc, facts) else {
+        return Ok(false);
     };
     if facts.is_empty() || MOST_FACTS < facts.len() {
-        return Ok(None);
+        return Ok(false);
     }
     let count = fitting(alloc, facts.as_slice())?;
-    Ok(Some(format!(in alloc; "{count}")?))
+    text.show(&count);
+    Ok(true)
 }

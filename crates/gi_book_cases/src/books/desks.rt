@@ -1,37 +1,52 @@
 //! The calls on the desk of a book.
 
-use gi_calls::{Fault, Words};
-use gi_desk::{Answer, Body, Call, Desk};
+use gi_calls::{Answer, Fault, Words};
+use gi_desk::{Body, Call, Desk};
 use gi_initiator::Initiating;
-use gi_pairs::{CycleId, Key};
 use gi_processing::Contract;
 use std::alloc::{AllocError, Global};
 
-/// How many facts a desk has, and how many of them are saved.
-pub(crate) fn counts(alloc: Global, desk: &Desk<Initiating>) -> Result<String, AllocError> {
+/// Adds how many facts a desk has, and how many of them are saved.
+pub(crate) fn add_counts(desk: &Desk<Initiating>, text: &mut Answer) {
     let (facts, saved) = (desk.len(), desk.saved());
-    format!(in alloc; "facts {facts} saved {saved}")
+    text.add("facts ");
+    text.show(&facts);
+    text.add(" saved ");
+    text.show(&saved);
 }
 
-/// A desk's answer.
-pub(crate) fn answer_text(alloc: Global, answer: Answer) -> Result<String, AllocError> {
+/// Adds what was done with a fact, and its number.
+fn add_numbered(done: &str, n: u32, text: &mut Answer) {
+    text.add(done);
+    text.word(&n);
+}
+
+/// Adds a desk's answer.
+pub(crate) fn add_answer(answer: gi_desk::Answer, text: &mut Answer) {
     match answer {
-        Answer::Recorded { n } => format!(in alloc; "recorded {n}"),
-        Answer::Repeat { n } => format!(in alloc; "repeat {n}"),
-        Answer::Saved { n } => format!(in alloc; "saved {n}"),
-        Answer::Resent => "resent".to_string(alloc),
-        Answer::Stopped => "stopped".to_string(alloc),
-        Answer::Refused(refusal) => format!(in alloc; "refused {refusal}"),
+        gi_desk::Answer::Recorded { n } => add_numbered("recorded", n, text),
+        gi_desk::Answer::Repeat { n } => add_numbered("repeat", n, text),
+        gi_desk::Answer::Saved { n } => add_numbered("saved", n, text),
+        gi_desk::Answer::Resent => text.add("resent"),
+        gi_desk::Answer::Stopped => text.add("stopped"),
+        gi_desk::Answer::Refused(refusal) => {
+            text.add("refused");
+            text.word(&refusal);
+        }
     }
 }
 
-/// The next words as a contract: its portfolio, day, direction, and firm and interruptible quantity.
-fn contract_of(words: &mut Words<'_>) -> Option<Contract> {
-    let portfolio = words.code()?;
-    let day = words.day()?;
-    let direction = words.direction()?;
-    let firm = words.quantity()?;
-    let interruptible = words.quantity()?;
+/// The words as a contract: its portfolio, day, direction, and firm and interruptible quantity.
+fn contract_of(mut words: Words<'_>) -> Option<Contract> {
+    let (Some(portfolio), Some(day), Some(direction), Some(firm), Some(interruptible)) = (
+        words.code(),
+        words.day(),
+        words.direction(),
+        words.quantity(),
+        words.quantity(),
+    ) else {
+        return None;
+    };
     Some(Contract {
         portfolio,
         day,
@@ -50,7 +65,7 @@ fn body_of(alloc: Global, text: &str) -> Result<Body, AllocError> {
 fn step_of(alloc: Global, line: &str) -> Result<Option<Call>, AllocError> {
     let mut words = Words::of(line);
     Ok(match words.next() {
-        "contract" => contract_of(&mut words).map(Call::Contract),
+        "contract" => contract_of(words).map(Call::Contract),
         "submit" => Some(Call::Submit(body_of(alloc, words.rest())?)),
         "close" => words.cycle().map(Call::Close),
         "deliver" => Some(Call::Deliver(body_of(alloc, words.rest())?)),
@@ -58,44 +73,35 @@ fn step_of(alloc: Global, line: &str) -> Result<Option<Call>, AllocError> {
     })
 }
 
-/// The next words as the place of a quantity: a cycle, a key and an hour.
-fn place_of(words: &mut Words<'_>) -> Option<(CycleId, Key, u8)> {
-    let id = words.cycle()?;
-    let key = words.key()?;
-    let hour = words.byte()?;
-    Some((id, key, hour))
-}
-
-/// What is confirmed in a place, where its cycle is.
-fn confirmed_text(
-    alloc: Global,
-    desk: &Desk<Initiating>,
-    words: &mut Words<'_>,
-) -> Result<Option<String>, AllocError> {
-    let Some((id, key, hour)) = place_of(words) else {
-        return Ok(None);
+/// Adds what is confirmed in a place, where its cycle is: a cycle, a key and an hour.
+fn add_confirmed(desk: &Desk<Initiating>, mut words: Words<'_>, text: &mut Answer) -> bool {
+    let (Some(id), Some(key), Some(hour)) = (words.cycle(), words.key(), words.byte()) else {
+        return false;
     };
-    Ok(Some(match desk.confirmed(id) {
+    match desk.confirmed(id) {
         Some(table) => {
             let quantity = table.at(key.pair, key.direction, hour);
-            format!(in alloc; "{quantity}")?
+            text.show(&quantity);
         }
-        None => "none".to_string(alloc)?,
-    }))
+        None => text.add("none"),
+    }
+    true
 }
 
-/// What a call on the desk answers. `None` where it is no call.
-pub(crate) fn called(
+/// Makes a call on the desk, and adds its answer. `false` where it is none.
+pub(crate) fn call(
     alloc: Global,
     desk: &mut Desk<Initiating>,
     line: &str,
-) -> Result<Option<String>, Fault> {
+    text: &mut Answer,
+) -> Result<bool, Fault> {
     let mut words = Words::of(line);
     if words.next() == "confirmed" {
-        return Ok(confirmed_text(alloc, desk, &mut words)?);
+        return Ok(add_confirmed(desk, words, text));
     }
-    match step_of(alloc, line)? {
-        Some(call) => Ok(Some(answer_text(alloc, desk.step(&call).answer)?)),
-        None => Ok(None),
-    }
+    let Some(call) = step_of(alloc, line)? else {
+        return Ok(false);
+    };
+    add_answer(desk.step(&call).answer, text);
+    Ok(true)
 }

@@ -1,15 +1,14 @@
 use crate::books::batches::{fact_of, facts_of};
 use crate::books::desks;
-use crate::books::rows::row_text;
-use gi_calls::{Fault, Words};
+use crate::books::rows::add_row;
+use gi_calls::{Answer, Fault, Words};
 use gi_day::Calendar;
 use gi_desk::{Call, Desk};
 use gi_facts::{Fact, encode_fact};
 use gi_initiator::Initiating;
-use gi_pairs::Code;
-use gi_store::{BookStore, StoreFault, prepare};
+use gi_store::{BookStore, prepare};
 use sqlite::{Alter, Connection};
-use std::alloc::{AllocError, Global};
+use std::alloc::Global;
 
 /// A database, the book that it is opened as, and the desk that was replayed from the book.
 pub struct Opened<S: Alter> {
@@ -28,32 +27,18 @@ impl<S: Alter + Drop> Drop for Opened<S> {
     }
 }
 
-/// What a call without a result answers.
-fn printed(alloc: Global, answer: Result<(), StoreFault>) -> Result<String, AllocError> {
-    match answer {
-        Ok(()) => "ok".to_string(alloc),
-        Err(fault) => format!(in alloc; "{fault}"),
-    }
-}
-
-/// How many facts there are, and a line of each.
-fn facts_text(alloc: Global, facts: &[Fact]) -> Result<String, Fault> {
+/// Adds how many facts there are, and a line of each.
+fn add_facts(alloc: Global, facts: &[Fact], text: &mut Answer) -> Result<bool, Fault> {
     let count = facts.len();
-    let mut text = format!(in alloc; "facts {count}\n")?;
+    text.add("facts ");
+    text.show(&count);
+    text.end_line();
     for fact in facts {
         let bytes = encode_fact(alloc, fact)?;
-        text.push_str(str::from_utf8(bytes.as_slice()).unwrap_or("no text"))?;
-        text.push_str("\n")?;
+        text.add(str::from_utf8(bytes.as_slice()).unwrap_or("no text"));
+        text.end_line();
     }
-    Ok(text)
-}
-
-/// A number that is known, or `none`.
-fn known(alloc: Global, number: Option<u32>) -> Result<String, AllocError> {
-    match number {
-        Some(number) => format!(in alloc; "{number}"),
-        None => "none".to_string(alloc),
-    }
+    Ok(true)
 }
 
 impl<S: Alter + Drop> Opened<S> {
@@ -72,168 +57,169 @@ impl<S: Alter + Drop> Opened<S> {
     }
 
     /// Opens the database as a book.
-    fn open(&mut self, alloc: Global) -> Result<Option<String>, Fault> {
+    fn open(&mut self, alloc: Global, text: &mut Answer) -> bool {
         let Some(connection) = self.connection.take() else {
-            return Ok(None);
+            return false;
         };
         match BookStore::open(alloc, connection) {
             Ok(book) => {
                 self.keep(book);
-                Ok(Some("ok".to_string(alloc)?))
+                text.add("ok");
             }
-            Err(fault) => Ok(Some(format!(in alloc; "{fault}")?)),
+            Err(fault) => text.show(&fault),
         }
+        true
     }
 }
 
 impl<S: Alter> Opened<S> {
     /// Makes the tables of a book, or looks whether they are there.
-    fn prepare(&mut self, alloc: Global) -> Result<Option<String>, Fault> {
+    fn prepare(&mut self, text: &mut Answer) -> bool {
         let Some(connection) = &mut self.connection else {
-            return Ok(None);
+            return false;
         };
-        Ok(Some(printed(alloc, prepare(connection))?))
+        text.done(&prepare(connection));
+        true
     }
 
     /// Makes a statement, and answers how many rows it changed.
-    fn execute(&mut self, alloc: Global, statement: &str) -> Result<Option<String>, Fault> {
+    fn execute(&mut self, statement: &str, text: &mut Answer) -> bool {
         let Some(connection) = &mut self.connection else {
-            return Ok(None);
+            return false;
         };
-        Ok(Some(match connection.execute(statement, &[]) {
-            Ok(count) => format!(in alloc; "{count}")?,
-            Err(error) => format!(in alloc; "{error}")?,
-        }))
+        text.value(&connection.execute(statement, &[]));
+        true
     }
 
     /// The first row that a query shows.
-    fn query_row(&mut self, alloc: Global, query: &str) -> Result<Option<String>, Fault> {
+    fn query_row(&mut self, query: &str, text: &mut Answer) -> bool {
         let Some(connection) = &mut self.connection else {
-            return Ok(None);
+            return false;
         };
-        Ok(Some(match connection.query_row(query, &[]) {
-            Ok(row) => row_text(alloc, &row)?,
-            Err(error) => format!(in alloc; "{error}")?,
-        }))
+        match connection.query_row(query, &[]) {
+            Ok(row) => add_row(&row, text),
+            Err(error) => text.show(&error),
+        }
+        true
     }
 
     /// Loads the book.
-    fn load(&mut self, alloc: Global) -> Result<Option<String>, Fault> {
+    fn load(&mut self, alloc: Global, text: &mut Answer) -> Result<bool, Fault> {
         let Some(book) = &mut self.book else {
-            return Ok(None);
+            return Ok(false);
         };
-        Ok(Some(match book.load() {
-            Ok(facts) => facts_text(alloc, facts.as_slice())?,
-            Err(fault) => format!(in alloc; "{fault}")?,
-        }))
+        match book.load() {
+            Ok(facts) => add_facts(alloc, facts.as_slice(), text),
+            Err(fault) => {
+                text.show(&fault);
+                Ok(true)
+            }
+        }
     }
 
     /// Saves a fact under a number.
-    fn save_next(&mut self, alloc: Global, n: u32, fact: &str) -> Result<Option<String>, Fault> {
-        let Some(book) = &mut self.book else {
-            return Ok(None);
+    fn save_next(&mut self, alloc: Global, mut words: Words<'_>, text: &mut Answer) -> bool {
+        let (Some(book), Some(n)) = (&mut self.book, words.number()) else {
+            return false;
         };
-        let fact = match fact_of(alloc, fact) {
-            Ok(fact) => fact,
-            Err(fault) => return Ok(Some(format!(in alloc; "{fault}")?)),
-        };
-        Ok(Some(printed(alloc, book.save_next(n, &fact))?))
+        match fact_of(alloc, words.rest()) {
+            Ok(fact) => text.done(&book.save_next(n, &fact)),
+            Err(fault) => text.show(&fault),
+        }
+        true
     }
 
     /// Saves facts by one insert, the first under this number.
-    fn save_batch(&mut self, alloc: Global, n: u32, facts: &str) -> Result<Option<String>, Fault> {
-        let Some(book) = &mut self.book else {
-            return Ok(None);
+    fn save_batch(&mut self, alloc: Global, mut words: Words<'_>, text: &mut Answer) -> bool {
+        let (Some(book), Some(n)) = (&mut self.book, words.number()) else {
+            return false;
         };
-        let facts = match facts_of(alloc, facts) {
-            Ok(facts) => facts,
-            Err(fault) => return Ok(Some(format!(in alloc; "{fault}")?)),
-        };
-        Ok(Some(printed(alloc, book.save_batch(n, facts.as_slice()))?))
+        match facts_of(alloc, words.rest()) {
+            Ok(facts) => text.done(&book.save_batch(n, facts.as_slice())),
+            Err(fault) => text.show(&fault),
+        }
+        true
     }
 
     /// How many facts are known.
-    fn count(&self, alloc: Global) -> Result<Option<String>, Fault> {
+    fn count(&self, text: &mut Answer) -> bool {
         let Some(book) = &self.book else {
-            return Ok(None);
+            return false;
         };
-        Ok(Some(known(alloc, book.count())?))
+        match book.count() {
+            Some(count) => text.show(&count),
+            None => text.add("none"),
+        }
+        true
     }
 
     /// Keeps a desk in the place of the one before, which is let go here alone, and says how many
     /// facts it has.
-    fn keep_desk(
-        &mut self,
-        alloc: Global,
-        desk: Desk<Initiating>,
-    ) -> Result<Option<String>, Fault> {
-        let counts = desks::counts(alloc, &desk);
+    fn keep_desk(&mut self, desk: Desk<Initiating>, text: &mut Answer) {
+        desks::add_counts(&desk, text);
         let _former = self.desk.replace(desk);
-        Ok(Some(counts?))
     }
 
     /// Loads the book and replays the desk of its facts.
-    fn replay(&mut self, alloc: Global, point: Code) -> Result<Option<String>, Fault> {
-        let Some(book) = &mut self.book else {
-            return Ok(None);
+    fn replay(&mut self, alloc: Global, mut words: Words<'_>, text: &mut Answer) -> bool {
+        let (Some(book), Some(point)) = (&mut self.book, words.code()) else {
+            return false;
         };
         let facts = match book.load() {
             Ok(facts) => facts,
-            Err(fault) => return Ok(Some(format!(in alloc; "{fault}")?)),
+            Err(fault) => {
+                text.show(&fault);
+                return true;
+            }
         };
         let Ok(calendar) = Calendar::new() else {
-            return Ok(None);
+            return false;
         };
         match Desk::replay(alloc, calendar, point, facts) {
-            Ok(desk) => self.keep_desk(alloc, desk),
-            Err(fault) => Ok(Some(format!(in alloc; "{fault}")?)),
+            Ok(desk) => self.keep_desk(desk, text),
+            Err(fault) => text.show(&fault),
         }
+        true
     }
 
     /// Saves the desk's next fact in the book, and marks it at the desk.
-    fn save_fact(&mut self, alloc: Global) -> Result<Option<String>, Fault> {
+    fn save_fact(&mut self, text: &mut Answer) -> Result<bool, Fault> {
         let (Some(desk), Some(book)) = (&mut self.desk, &mut self.book) else {
-            return Ok(None);
+            return Ok(false);
         };
         let Some((n, fact)) = desk.unsaved() else {
-            return Ok(Some("nothing".to_string(alloc)?));
+            text.add("nothing");
+            return Ok(true);
         };
         if let Err(fault) = book.save_next(n, fact) {
-            return Ok(Some(format!(in alloc; "{fault}")?));
+            text.show(&fault);
+            return Ok(true);
         }
         let fact = fact.copy()?;
         let reply = desk.step(&Call::MarkSaved { n, fact });
-        Ok(Some(desks::answer_text(alloc, reply.answer)?))
+        desks::add_answer(reply.answer, text);
+        Ok(true)
     }
 
     /// Makes a call on the desk.
-    fn call_desk(&mut self, alloc: Global, call: &str) -> Result<Option<String>, Fault> {
+    fn call_desk(&mut self, alloc: Global, call: &str, text: &mut Answer) -> Result<bool, Fault> {
         match &mut self.desk {
-            Some(desk) => desks::called(alloc, desk, call),
-            None => Ok(None),
+            Some(desk) => desks::call(alloc, desk, call, text),
+            None => Ok(false),
         }
     }
 
-    /// What a call on the book or its desk answers.
-    fn called(&mut self, alloc: Global, call: &str) -> Result<Option<String>, Fault> {
+    /// Makes a call on the book or its desk.
+    fn call_book(&mut self, alloc: Global, call: &str, text: &mut Answer) -> Result<bool, Fault> {
         let mut words = Words::of(call);
         match words.next() {
-            "load" => self.load(alloc),
-            "save_next" => match words.number() {
-                Some(n) => self.save_next(alloc, n, words.rest()),
-                None => Ok(None),
-            },
-            "save_batch" => match words.number() {
-                Some(n) => self.save_batch(alloc, n, words.rest()),
-                None => Ok(None),
-            },
-            "count" => self.count(alloc),
-            "replay" => match words.code() {
-                Some(point) => self.replay(alloc, point),
-                None => Ok(None),
-            },
-            "save" => self.save_fact(alloc),
-            _ => self.call_desk(alloc, call),
+            "load" => self.load(alloc, text),
+            "save_next" => Ok(self.save_next(alloc, words, text)),
+            "save_batch" => Ok(self.save_batch(alloc, words, text)),
+            "count" => Ok(self.count(text)),
+            "replay" => Ok(self.replay(alloc, words, text)),
+            "save" => self.save_fact(text),
+            _ => self.call_desk(alloc, call, text),
         }
     }
 }
@@ -244,20 +230,15 @@ impl<S: Alter + Drop> Opened<S> {
         &mut self,
         alloc: Global,
         call: &str,
-        text: &mut String,
+        text: &mut Answer,
     ) -> Result<bool, Fault> {
         let mut words = Words::of(call);
-        let answer = match words.next() {
-            "sql" => self.execute(alloc, words.rest())?,
-            "query" => self.query_row(alloc, words.rest())?,
-            "prepare" => self.prepare(alloc)?,
-            "open" => self.open(alloc)?,
-            _ => self.called(alloc, call)?,
-        };
-        let Some(answer) = answer else {
-            return Ok(false);
-        };
-        text.push_str(answer.as_str())?;
-        Ok(true)
+        match words.next() {
+            "sql" => Ok(self.execute(words.rest(), text)),
+            "query" => Ok(self.query_row(words.rest(), text)),
+            "prepare" => Ok(self.prepare(text)),
+            "open" => Ok(self.open(alloc, text)),
+            _ => self.call_book(alloc, call, text),
+        }
     }
 }

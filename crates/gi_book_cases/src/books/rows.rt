@@ -1,28 +1,25 @@
-use gi_calls::Fault;
+use gi_calls::Answer;
 use sqlite::Row;
 use sqlite::types::ValueRef;
-use std::alloc::{AllocError, Global};
 
-/// A value of a row, a text as it stands.
-fn value_text(alloc: Global, value: ValueRef<'_>) -> Result<String, AllocError> {
+/// Adds a value of a row, a text as it stands.
+fn add_value(value: ValueRef<'_>, text: &mut Answer) {
     match value {
-        ValueRef::Null => "NULL".to_string(alloc),
-        ValueRef::Int(number) => format!(in alloc; "{number}"),
-        ValueRef::Text(text) => str::from_utf8(text).unwrap_or("no text").to_string(alloc),
-        _ => "other".to_string(alloc),
+        ValueRef::Null => text.add("NULL"),
+        ValueRef::Int(number) => text.show(&number),
+        ValueRef::Text(bytes) => text.add(str::from_utf8(bytes).unwrap_or("no text")),
+        _ => text.add("other"),
     }
 }
 
-/// The values of a row, with one space between them.
-pub(crate) fn row_text(alloc: Global, row: &Row) -> Result<String, Fault> {
-    let mut text = String::new(alloc);
+/// Adds the values of a row, with one space between them.
+pub(crate) fn add_row(row: &Row, text: &mut Answer) {
     for at in 0..row.column_count() {
         if at > 0 {
-            text.push_str(" ")?;
+            text.add(" ");
         }
         if let Ok(value) = row.get_ref(at) {
-            text.push_str(value_text(alloc, value)?.as_str())?;
+            add_value(value, text);
         }
     }
-    Ok(text)
 }

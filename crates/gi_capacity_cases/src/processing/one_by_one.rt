@@ -4,7 +4,7 @@
 ghost use Rattle.std.specs.Prelude.{◌<◌};
 
 use crate::processing::reducing::{OTHERS, add_line, processed_lines};
-use gi_calls::{Fault, Words};
+use gi_calls::{Answer, Fault, Words};
 use gi_pairs::Table;
 use std::alloc::{AllocError, Global};
 use std::fmt::Write;
@@ -60,10 +60,8 @@ fn hours_of(alloc: Global, values: [u64; 6], day: usize, place: usize) -> Result
     let mut hours = String::new(alloc);
     for hour in 0..24 {
         let quantities = three(values, day * 24 + hour);
-        if hour > 0 {
-            hours.push_str(",")?;
-        }
-        write!(hours, "{}", quantities[place])?;
+        let comma = if hour > 0 { "," } else { "" };
+        write!(hours, "{comma}{}", quantities[place])?;
     }
     Ok(hours)
 }
@@ -124,7 +122,7 @@ fn six_numbers(words: &mut Words<'_>) -> Option<[u64; 6]> {
 pub(crate) fn reduce_triples(
     alloc: Global,
     mut words: Words<'_>,
-    text: &mut String,
+    text: &mut Answer,
 ) -> Result<bool, Fault> {
     let Ok(available) = words.next().parse::<u64>() else {
         return Ok(false);
@@ -139,10 +137,11 @@ pub(crate) fn reduce_triples(
             return Ok(false);
         };
         if let Some(quantities) = other_parts(&table, values, day, available) {
-            write!(text, "{quantities:?} not as one by one")?;
+            text.debug(&quantities);
+            text.add(" not as one by one");
             return Ok(true);
         }
     }
-    text.push_str("216 as one by one")?;
+    text.add("216 as one by one");
     Ok(true)
 }

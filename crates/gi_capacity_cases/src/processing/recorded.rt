@@ -4,60 +4,57 @@ use crate::nominations::add_verdict;
 use crate::nomint_text::nomint;
 use crate::processing::reading::{contract, notice};
 use crate::processing::records::Records;
-use gi_calls::{Fault, Words};
+use gi_calls::{Answer, Fault, Words};
 use std::alloc::Global;
-use std::fmt::{Display, Write};
 
-/// Adds `ok`, or the refusal.
-fn add_done<E: Display + Drop>(done: Result<(), E>, text: &mut String) -> Result<bool, Fault> {
-    match done {
-        Ok(()) => text.push_str("ok")?,
-        Err(fault) => write!(text, "{fault}")?,
-    }
-    Ok(true)
+fn set(records: &mut Records, words: Words<'_>, text: &mut Answer) -> bool {
+    let Some(contract) = contract(words) else {
+        return false;
+    };
+    text.done(&records.set(contract));
+    true
 }
 
-fn set(records: &mut Records, words: Words<'_>, text: &mut String) -> Result<bool, Fault> {
-    match contract(words) {
-        Some(contract) => add_done(records.set(contract), text),
-        None => Ok(false),
-    }
+fn refuses(records: &Records, words: Words<'_>, text: &mut Answer) -> bool {
+    let Some(contract) = contract(words) else {
+        return false;
+    };
+    let is_refused = records.contracts().refuses(&contract);
+    text.show(&is_refused);
+    true
 }
 
-fn refuses(records: &Records, words: Words<'_>, text: &mut String) -> Result<bool, Fault> {
-    match contract(words) {
-        Some(contract) => write!(text, "{}", records.contracts().refuses(&contract))?,
-        None => return Ok(false),
-    }
-    Ok(true)
+fn give(records: &mut Records, words: Words<'_>, text: &mut Answer) -> bool {
+    let Some(notice) = notice(words) else {
+        return false;
+    };
+    text.done(&records.notice(notice));
+    true
 }
 
-fn give(records: &mut Records, words: Words<'_>, text: &mut String) -> Result<bool, Fault> {
-    match notice(words) {
-        Some(notice) => add_done(records.notice(notice), text),
-        None => Ok(false),
-    }
-}
-
-fn knows(records: &Records, mut words: Words<'_>, text: &mut String) -> Result<bool, Fault> {
+fn knows(records: &Records, mut words: Words<'_>, text: &mut Answer) -> bool {
     let (Some(portfolio), Some(day)) = (words.code(), words.day()) else {
-        return Ok(false);
+        return false;
     };
-    write!(text, "{}", records.contracts().knows(portfolio, day))?;
-    Ok(true)
+    let is_known = records.contracts().knows(portfolio, day);
+    text.show(&is_known);
+    true
 }
 
-fn available(records: &Records, mut words: Words<'_>, text: &mut String) -> Result<bool, Fault> {
-    let (Some(portfolio), Some(day)) = (words.code(), words.day()) else {
-        return Ok(false);
+fn available(records: &Records, mut words: Words<'_>, text: &mut Answer) -> bool {
+    let (Some(portfolio), Some(day), Some(direction), Some(hour)) = (
+        words.code(),
+        words.day(),
+        words.direction(),
+        words.byte(),
+    ) else {
+        return false;
     };
-    let (Some(direction), Some(hour)) = (words.direction(), words.byte()) else {
-        return Ok(false);
-    };
-    let contracts = records.contracts();
-    let quantity = contracts.available(portfolio, day, direction, hour);
-    write!(text, "{quantity}")?;
-    Ok(true)
+    let quantity = records
+        .contracts()
+        .available(portfolio, day, direction, hour);
+    text.show(&quantity);
+    true
 }
 
 /// Judges a nomination, or takes it where that is wanted and it is recordable.
@@ -66,7 +63,7 @@ fn nominate(
     records: &mut Records,
     words: Words<'_>,
     takes: bool,
-    text: &mut String,
+    text: &mut Answer,
 ) -> Result<bool, Fault> {
     let Some(nomint) = nomint(alloc, words.rest())? else {
         return Ok(false);
@@ -76,7 +73,7 @@ fn nominate(
     } else {
         records.judge(&nomint)
     };
-    add_verdict(verdict, text)?;
+    add_verdict(verdict, text);
     Ok(true)
 }
 
@@ -86,14 +83,14 @@ pub(crate) fn answer_recorded(
     records: &mut Records,
     name: &str,
     words: Words<'_>,
-    text: &mut String,
+    text: &mut Answer,
 ) -> Result<bool, Fault> {
     match name {
-        "set" => set(records, words, text),
-        "refuses" => refuses(records, words, text),
-        "notice" => give(records, words, text),
-        "knows" => knows(records, words, text),
-        "available" => available(records, words, text),
+        "set" => Ok(set(records, words, text)),
+        "refuses" => Ok(refuses(records, words, text)),
+        "notice" => Ok(give(records, words, text)),
+        "knows" => Ok(knows(records, words, text)),
+        "available" => Ok(available(records, words, text)),
         "judge" => nominate(alloc, records, words, false, text),
         "take" => nominate(alloc, records, words, true, text),
         _ => Ok(false),

@@ -5,7 +5,7 @@ use crate::hours_text::add_hours;
 use crate::nomint_text::nomint;
 use crate::processing::reading::contract;
 use crate::processing::records::Records;
-use gi_calls::{Fault, Words};
+use gi_calls::{Answer, Fault, Words};
 use gi_nominations::Verdict;
 use gi_pairs::{Side, Table};
 use std::alloc::{AllocError, Global};
@@ -24,12 +24,10 @@ pub(crate) fn add_line(
     hours: &str,
     lines: &mut String,
 ) -> Result<(), AllocError> {
-    if !lines.is_empty() {
-        lines.push_str(",")?;
-    }
+    let comma = if lines.is_empty() { "" } else { "," };
     write!(
         lines,
-        r#"{{"counterparty":"{counterparty}","direction":"{direction}","hours":[{hours}]}}"#
+        r#"{comma}{{"counterparty":"{counterparty}","direction":"{direction}","hours":[{hours}]}}"#
     )
 }
 
@@ -77,18 +75,18 @@ fn lines_of(alloc: Global, quantities: &[&str], mixed: bool) -> Result<String, A
 }
 
 /// Adds the rows in one line.
-fn add_rows(table: &Table, text: &mut String) -> Result<(), AllocError> {
+fn add_rows(table: &Table, text: &mut Answer) {
     for (place, row) in table.rows().iter().enumerate() {
         if place > 0 {
-            text.push_str(", ")?;
+            text.add(", ");
         }
-        write!(text, "{} {}", row.pair.matching, row.direction)?;
-        add_hours(row.hours.as_slice(), text)?;
+        text.show(&row.pair.matching);
+        text.word(&row.direction);
+        add_hours(row.hours.as_slice(), text);
     }
     if table.rows().is_empty() {
-        text.push_str("no rows")?;
+        text.add("no rows");
     }
-    Ok(())
 }
 
 /// The words of a text.
@@ -105,7 +103,7 @@ pub(crate) fn reduce(
     alloc: Global,
     mut words: Words<'_>,
     mixed: bool,
-    text: &mut String,
+    text: &mut Answer,
 ) -> Result<bool, Fault> {
     let Ok(available) = words.next().parse::<u64>() else {
         return Ok(false);
@@ -115,6 +113,6 @@ pub(crate) fn reduce(
     let Some(table) = processed_lines(alloc, available, 0, lines.as_str())? else {
         return Ok(false);
     };
-    add_rows(&table, text)?;
+    add_rows(&table, text);
     Ok(true)
 }

@@ -1,12 +1,11 @@
 //! What a desk tells without a step.
 
 use super::texts::{add_bytes, add_message, add_packet, add_table};
-use gi_calls::{Fault, Words};
+use gi_calls::{Answer, Fault, Words};
 use gi_desk::{Desk, Fact, Role, encode_fact};
 use gi_messages::Message;
 use gi_pairs::Table;
 use std::alloc::Global;
-use std::fmt::Write;
 
 /// The quantity of a table, as the words say: the pair, the direction and the hour.
 fn reading(table: &Table, words: Words<'_>) -> Option<u64> {
@@ -16,112 +15,110 @@ fn reading(table: &Table, words: Words<'_>) -> Option<u64> {
 }
 
 /// Adds a table, or where the words ask for it, what it has in an hour.
-fn add_reading(table: &Table, words: Words<'_>, text: &mut String) -> Result<bool, Fault> {
-    let mut words = words;
+fn add_reading(table: &Table, mut words: Words<'_>, text: &mut Answer) -> bool {
     match words.next() {
-        "" => add_table(table, text)?,
+        "" => add_table(table, text),
         "at" => match reading(table, words) {
-            Some(quantity) => write!(text, "{quantity}")?,
-            None => return Ok(false),
+            Some(quantity) => text.show(&quantity),
+            None => return false,
         },
-        _ => return Ok(false),
+        _ => return false,
     }
-    Ok(true)
+    true
 }
 
 /// What is confirmed of a cycle.
-fn confirmed<R: Role>(desk: &Desk<R>, words: Words<'_>, text: &mut String) -> Result<bool, Fault> {
-    let mut words = words;
+fn confirmed<R: Role>(desk: &Desk<R>, mut words: Words<'_>, text: &mut Answer) -> bool {
     let Some(id) = words.cycle() else {
-        return Ok(false);
+        return false;
     };
     match desk.confirmed(id) {
         Some(table) => add_reading(table, words, text),
         None => {
-            text.push_str("none")?;
-            Ok(true)
+            text.add("none");
+            true
         }
     }
 }
 
 /// How far a cycle is.
-fn state<R: Role>(desk: &Desk<R>, words: Words<'_>, text: &mut String) -> Result<bool, Fault> {
-    let mut words = words;
+fn state<R: Role>(desk: &Desk<R>, mut words: Words<'_>, text: &mut Answer) -> bool {
     let Some(id) = words.cycle() else {
-        return Ok(false);
+        return false;
     };
-    write!(text, "{:?}", desk.state(id))?;
-    Ok(true)
+    let state = desk.state(id);
+    text.debug(&state);
+    true
 }
 
 /// What a portfolio is told of a cycle.
 fn portfolio_told<R: Role>(
     alloc: Global,
     desk: &Desk<R>,
-    words: Words<'_>,
-    text: &mut String,
+    mut words: Words<'_>,
+    text: &mut Answer,
 ) -> Result<bool, Fault> {
-    let mut words = words;
     let (Some(portfolio), Some(id)) = (words.code(), words.cycle()) else {
         return Ok(false);
     };
     let message = desk.told(portfolio, id)?;
-    add_message(alloc, message.map(|nomres| Message::Nomres(nomres)), text)?;
-    Ok(true)
+    add_message(alloc, message.map(|nomres| Message::Nomres(nomres)), text)
 }
 
 /// Adds a fact, or that there is none.
-fn add_fact(alloc: Global, fact: Option<&Fact>, text: &mut String) -> Result<(), Fault> {
+fn add_fact(alloc: Global, fact: Option<&Fact>, text: &mut Answer) -> Result<bool, Fault> {
     match fact {
         Some(fact) => add_bytes(&encode_fact(alloc, fact)?, text),
-        None => {
-            text.push_str("none")?;
-            Ok(())
-        }
+        None => text.add("none"),
     }
+    Ok(true)
 }
 
 /// The next fact to save, behind its number.
-fn unsaved<R: Role>(alloc: Global, desk: &Desk<R>, text: &mut String) -> Result<(), Fault> {
-    let next = desk.unsaved();
-    if let Some((n, _)) = next {
-        write!(text, "{n} ")?;
-    }
-    add_fact(alloc, next.map(|(_, fact)| fact), text)
+fn unsaved<R: Role>(alloc: Global, desk: &Desk<R>, text: &mut Answer) -> Result<bool, Fault> {
+    let Some((number, fact)) = desk.unsaved() else {
+        return add_fact(alloc, None, text);
+    };
+    text.show(&number);
+    text.add(" ");
+    add_fact(alloc, Some(fact), text)
 }
 
 /// What the saved facts from a number on let out, a line a packet.
-fn outgoing<R: Role>(desk: &Desk<R>, first: u32, text: &mut String) -> Result<(), Fault> {
+fn outgoing<R: Role>(desk: &Desk<R>, first: u32, text: &mut Answer) -> Result<bool, Fault> {
     let packets = desk.outgoing(first)?.into_vec();
     if packets.is_empty() {
-        text.push_str("nothing")?;
+        text.add("nothing");
     }
     for packet in packets {
-        add_packet(packet.to, &packet.body.into_vec(), text)?;
+        add_packet(packet.to, &packet.body.into_vec(), text);
     }
-    Ok(())
+    Ok(true)
 }
 
 /// Copies of those packets, a line each.
-fn copies<R: Role>(desk: &Desk<R>, first: u32, text: &mut String) -> Result<(), Fault> {
+fn copies<R: Role>(desk: &Desk<R>, first: u32, text: &mut Answer) -> Result<bool, Fault> {
     for packet in desk.outgoing(first)?.as_slice() {
         let copy = packet.copy()?;
-        add_packet(copy.to, copy.body.as_slice(), text)?;
+        add_packet(copy.to, copy.body.as_slice(), text);
     }
-    Ok(())
+    Ok(true)
 }
 
 /// How many hours the desk's calendar gives a gas day.
-fn hours<R: Role>(desk: &Desk<R>, words: Words<'_>, text: &mut String) -> Result<bool, Fault> {
-    let mut words = words;
+fn hours<R: Role>(desk: &Desk<R>, mut words: Words<'_>, text: &mut Answer) -> bool {
     let Some(day) = words.day() else {
-        return Ok(false);
+        return false;
     };
     match desk.calendar().frame(day) {
-        Ok(frame) => write!(text, "hours {}", frame.hours())?,
-        Err(fault) => write!(text, "{fault}")?,
+        Ok(frame) => {
+            let hours = frame.hours();
+            text.add("hours");
+            text.word(&hours);
+        }
+        Err(fault) => text.show(&fault),
     }
-    Ok(true)
+    true
 }
 
 /// What is asked of a number.
@@ -130,40 +127,37 @@ fn told_of<R: Role>(
     desk: &Desk<R>,
     query: &str,
     number: u32,
-    text: &mut String,
+    text: &mut Answer,
 ) -> Result<bool, Fault> {
     match query {
-        "fact" => add_fact(alloc, desk.fact(number), text)?,
-        "acknowledged" => write!(text, "{}", desk.acknowledged(number))?,
-        "outgoing" => outgoing(desk, number, text)?,
-        "copy_packets" => copies(desk, number, text)?,
-        _ => return Ok(false),
+        "fact" => add_fact(alloc, desk.fact(number), text),
+        "acknowledged" => {
+            let acknowledged = desk.acknowledged(number);
+            text.show(&acknowledged);
+            Ok(true)
+        }
+        "outgoing" => outgoing(desk, number, text),
+        "copy_packets" => copies(desk, number, text),
+        _ => Ok(false),
     }
-    Ok(true)
 }
 
 /// What the desk tells of itself.
-fn told_alone<R: Role>(
-    alloc: Global,
-    desk: &Desk<R>,
-    query: &str,
-    text: &mut String,
-) -> Result<bool, Fault> {
+fn told_alone<R: Role>(desk: &Desk<R>, query: &str, text: &mut Answer) -> bool {
     match query {
-        "len" => write!(text, "{}", desk.len())?,
-        "saved" => write!(text, "{}", desk.saved())?,
-        "halted" => write!(text, "{}", desk.halted())?,
-        "point" => write!(text, "{}", desk.point())?,
-        "unsaved" => unsaved(alloc, desk, text)?,
+        "len" => text.show(&desk.len()),
+        "saved" => text.show(&desk.saved()),
+        "halted" => text.show(&desk.halted()),
+        "point" => text.show(&desk.point()),
         // All is saved.
-        "save" => text.push_str("none")?,
+        "save" => text.add("none"),
         "known" => {
             desk.known();
-            text.push_str("ok")?;
+            text.add("ok");
         }
-        _ => return Ok(false),
+        _ => return false,
     }
-    Ok(true)
+    true
 }
 
 /// What the line asks, and what the desk tells.
@@ -171,19 +165,20 @@ pub(crate) fn told<R: Role>(
     alloc: Global,
     desk: &Desk<R>,
     line: &str,
-    text: &mut String,
+    text: &mut Answer,
 ) -> Result<bool, Fault> {
     let mut words = Words::of(line);
     let query = words.next();
     match query {
-        "state" => return state(desk, words, text),
-        "confirmed" => return confirmed(desk, words, text),
+        "state" => return Ok(state(desk, words, text)),
+        "confirmed" => return Ok(confirmed(desk, words, text)),
         "told" => return portfolio_told(alloc, desk, words, text),
-        "calendar" => return hours(desk, words, text),
+        "calendar" => return Ok(hours(desk, words, text)),
         _ => {}
     }
-    match words.number() {
-        Some(number) => told_of(alloc, desk, query, number, text),
-        None => told_alone(alloc, desk, query, text),
+    match (words.number(), query) {
+        (Some(number), _) => told_of(alloc, desk, query, number, text),
+        (None, "unsaved") => unsaved(alloc, desk, text),
+        (None, _) => Ok(told_alone(desk, query, text)),
     }
 }

@@ -2,40 +2,51 @@
 
 use super::calls::{call_of, contract_of};
 use super::texts::add_reply;
-use gi_calls::{Fault, Words};
-use gi_desk::{Call, Desk, Role};
+use gi_calls::{Answer, Fault, Words};
+use gi_desk::{Call, Desk, Packet, Reply, Role};
 use gi_pairs::Code;
-use std::alloc::Global;
+use std::alloc::{AllocError, Global};
 
-/// What the desk foresees of the call.
-fn foreseen<R: Role>(alloc: Global, desk: &Desk<R>, call: &Call) -> Result<String, Fault> {
-    let mut text = String::new(alloc);
-    add_reply(&desk.foresee(call), &mut text)?;
-    Ok(text)
+/// Whether two packets are the same.
+fn is_same_packet(one: &Packet, other: &Packet) -> bool {
+    one.to == other.to && one.body.as_slice() == other.body.as_slice()
+}
+
+/// Whether two replies are the same: their answers, and packet by packet what they let out.
+fn is_same_reply(one: &Reply, other: &Reply) -> bool {
+    let (packets, others) = (one.out.as_slice(), other.out.as_slice());
+    if one.answer != other.answer || packets.len() != others.len() {
+        return false;
+    }
+    for (packet, other) in packets.iter().zip(others) {
+        if !is_same_packet(packet, other) {
+            return false;
+        }
+    }
+    true
 }
 
 /// What a copy of the call is answered. A line of the text tells where the desk foresaw another
 /// answer.
-fn step<R: Role>(
-    alloc: Global,
-    desk: &mut Desk<R>,
-    call: &Call,
-    text: &mut String,
-) -> Result<String, Fault> {
-    let foreseen = foreseen(alloc, desk, call)?;
+fn step<R: Role>(desk: &mut Desk<R>, call: &Call, text: &mut Answer) -> Result<Reply, AllocError> {
     let copy = call.copy()?;
-    let mut answer = String::new(alloc);
-    add_reply(&desk.step(&copy), &mut answer)?;
-    if answer.as_str() != foreseen.as_str() {
-        text.push_str("foreseen otherwise\n")?;
+    let foreseen = desk.foresee(call);
+    let reply = desk.step(&copy);
+    if !is_same_reply(&reply, &foreseen) {
+        text.add("foreseen otherwise\n");
     }
-    Ok(answer)
+    Ok(reply)
+}
+
+/// The numbered portfolio: `P4`.
+fn portfolio_of(alloc: Global, number: u8) -> Result<Option<Code>, AllocError> {
+    let portfolio = format!(in alloc; "P{number}")?;
+    Ok(Code::read(portfolio.as_str()).ok())
 }
 
 /// The contract of a numbered portfolio, as the words say.
-fn numbered(alloc: Global, number: u8, words: Words<'_>) -> Result<Option<Call>, Fault> {
-    let portfolio = format!(in alloc; "P{number}")?;
-    let Ok(portfolio) = Code::read(portfolio.as_str()) else {
+fn numbered(alloc: Global, number: u8, words: Words<'_>) -> Result<Option<Call>, AllocError> {
+    let Some(portfolio) = portfolio_of(alloc, number)? else {
         return Ok(None);
     };
     Ok(contract_of(portfolio, words).map(|contract| Call::Contract(contract)))
@@ -46,20 +57,22 @@ fn contracts<R: Role>(
     alloc: Global,
     desk: &mut Desk<R>,
     words: Words<'_>,
-    text: &mut String,
+    text: &mut Answer,
 ) -> Result<bool, Fault> {
     let mut words = words;
     let Some(count) = words.byte() else {
         return Ok(false);
     };
-    let mut last = String::new(alloc);
     for before in 0..count {
-        let Some(call) = numbered(alloc, before + 1, words)? else {
+        let number = before + 1;
+        let Some(call) = numbered(alloc, number, words)? else {
             return Ok(false);
         };
-        last = step(alloc, desk, &call, text)?;
+        let reply = step(desk, &call, text)?;
+        if number == count {
+            add_reply(&reply, text);
+        }
     }
-    text.push_str(last.as_str())?;
     Ok(true)
 }
 
@@ -68,7 +81,7 @@ pub(crate) fn stepped<R: Role>(
     alloc: Global,
     desk: &mut Desk<R>,
     line: &str,
-    text: &mut String,
+    text: &mut Answer,
 ) -> Result<bool, Fault> {
     let mut words = Words::of(line);
     let word = words.next();
@@ -80,11 +93,11 @@ pub(crate) fn stepped<R: Role>(
     let Some(call) = call_of(alloc, desk, line)? else {
         return Ok(false);
     };
-    let answer = if foresees {
-        foreseen(alloc, desk, &call)?
+    let reply = if foresees {
+        desk.foresee(&call)
     } else {
-        step(alloc, desk, &call, text)?
+        step(desk, &call, text)?
     };
-    text.push_str(answer.as_str())?;
+    add_reply(&reply, text);
     Ok(true)
 }

@@ -1,90 +1,92 @@
 //! Replies, packets, messages and tables as text.
 
-use gi_calls::Fault;
-use gi_desk::{Answer, Recipient, Reply};
+use gi_calls::{Answer, Fault};
+use gi_desk::{Recipient, Reply};
 use gi_messages::{Message, encode};
 use gi_pairs::{Row, Table};
 use std::alloc::Global;
-use std::fmt::Write;
 
 /// Adds the bytes of a text.
-pub(crate) fn add_bytes(bytes: &[u8], text: &mut String) -> Result<(), Fault> {
+pub(crate) fn add_bytes(bytes: &[u8], text: &mut Answer) {
     match std::str::from_utf8(bytes) {
-        Ok(bytes) => text.push_str(bytes)?,
-        Err(_) => text.push_str("not text")?,
+        Ok(bytes) => text.add(bytes),
+        Err(_) => text.add("not text"),
     }
-    Ok(())
 }
 
-/// Adds `Recorded 4`, or the refusal.
-fn add_answer(answer: Answer, text: &mut String) -> Result<(), Fault> {
+/// Adds `Recorded 4`: what was done, and the number of the fact.
+fn add_numbered(done: &str, number: u32, text: &mut Answer) {
+    text.add(done);
+    text.word(&number);
+}
+
+/// Adds a line with `Recorded 4`, or the refusal.
+fn add_answer(answer: gi_desk::Answer, text: &mut Answer) {
     match answer {
-        Answer::Recorded { n } => write!(text, "Recorded {n}")?,
-        Answer::Repeat { n } => write!(text, "Repeat {n}")?,
-        Answer::Saved { n } => write!(text, "Saved {n}")?,
-        Answer::Resent => text.push_str("Resent")?,
-        Answer::Stopped => text.push_str("Stopped")?,
-        Answer::Refused(refusal) => write!(text, "{refusal}")?,
+        gi_desk::Answer::Recorded { n } => add_numbered("Recorded", n, text),
+        gi_desk::Answer::Repeat { n } => add_numbered("Repeat", n, text),
+        gi_desk::Answer::Saved { n } => add_numbered("Saved", n, text),
+        gi_desk::Answer::Resent => text.add("Resent"),
+        gi_desk::Answer::Stopped => text.add("Stopped"),
+        gi_desk::Answer::Refused(refusal) => text.show(&refusal),
     }
-    text.push_str("\n")?;
-    Ok(())
+    text.end_line();
 }
 
 /// Adds a line for a packet: `-> peer`, or the portfolio, and its bytes.
-pub(crate) fn add_packet(to: Recipient, body: &[u8], text: &mut String) -> Result<(), Fault> {
+pub(crate) fn add_packet(to: Recipient, body: &[u8], text: &mut Answer) {
+    text.add("-> ");
     match to {
-        Recipient::Peer => text.push_str("-> peer ")?,
-        Recipient::User(portfolio) => write!(text, "-> {portfolio} ")?,
+        Recipient::Peer => text.add("peer"),
+        Recipient::User(portfolio) => text.show(&portfolio),
     }
-    add_bytes(body, text)?;
-    text.push_str("\n")?;
-    Ok(())
+    text.add(" ");
+    add_bytes(body, text);
+    text.end_line();
 }
 
 /// Adds a reply: its answer, and a line for each packet.
-pub(crate) fn add_reply(reply: &Reply, text: &mut String) -> Result<(), Fault> {
-    add_answer(reply.answer, text)?;
+pub(crate) fn add_reply(reply: &Reply, text: &mut Answer) {
+    add_answer(reply.answer, text);
     for packet in reply.out.as_slice() {
-        add_packet(packet.to, packet.body.as_slice(), text)?;
+        add_packet(packet.to, packet.body.as_slice(), text);
     }
-    Ok(())
 }
 
 /// Adds a message as it is written, or that there is none.
 pub(crate) fn add_message(
     alloc: Global,
     message: Option<Message>,
-    text: &mut String,
-) -> Result<(), Fault> {
+    text: &mut Answer,
+) -> Result<bool, Fault> {
     match message {
         Some(message) => add_bytes(&encode(alloc, &message)?, text),
-        None => {
-            text.push_str("none")?;
-            Ok(())
-        }
+        None => text.add("none"),
     }
+    Ok(true)
 }
 
 /// Adds a line for a row: its pair, its direction and its quantities.
-fn add_row(row: &Row, text: &mut String) -> Result<(), Fault> {
+fn add_row(row: &Row, text: &mut Answer) {
     let pair = row.pair;
-    write!(
-        text,
-        "{} {} {}",
-        pair.initiating, pair.matching, row.direction
-    )?;
+    text.show(&pair.initiating);
+    text.word(&pair.matching);
+    text.word(&row.direction);
     for quantity in row.hours.as_slice() {
-        write!(text, " {}", quantity.value())?;
+        let quantity = quantity.value();
+        text.word(&quantity);
     }
-    text.push_str("\n")?;
-    Ok(())
+    text.end_line();
 }
 
 /// Adds a table: its first and last hour, and a line for each row.
-pub(crate) fn add_table(table: &Table, text: &mut String) -> Result<(), Fault> {
-    write!(text, "hours {} {}\n", table.first(), table.last())?;
+pub(crate) fn add_table(table: &Table, text: &mut Answer) {
+    let (first, last) = (table.first(), table.last());
+    text.add("hours");
+    text.word(&first);
+    text.word(&last);
+    text.end_line();
     for row in table.rows() {
-        add_row(row, text)?;
+        add_row(row, text);
     }
-    Ok(())
 }

@@ -2,7 +2,7 @@
 
 use super::tables::{table_of, two_tables};
 use crate::desks::texts::add_table;
-use gi_calls::{Fault, Words};
+use gi_calls::{Answer, Fault, Words};
 use gi_cycles::CycleState;
 use gi_desk::{Decision, Role};
 use gi_initiator::{Initiating, take_response};
@@ -10,19 +10,17 @@ use gi_matcher::{Matching, take_order};
 use gi_messages::{Delord, Delres, Message};
 use gi_pairs::{Code, CycleId, MOST_PROCESSED_ROWS, Side};
 use std::alloc::{AllocError, Global};
-use std::fmt::Write;
 
 /// Adds a decision: the table that is met, or the refusal.
-pub(crate) fn add_decision(decision: &Decision, text: &mut String) -> Result<(), Fault> {
+pub(crate) fn add_decision(decision: &Decision, text: &mut Answer) {
     match decision {
         Decision::Meet(peer) => {
-            text.push_str("Meet\n")?;
-            add_table(peer, text)?;
+            text.add("Meet\n");
+            add_table(peer, text);
         }
-        Decision::Again => text.push_str("Again")?,
-        Decision::Refused(refusal) => write!(text, "{refusal}")?,
+        Decision::Again => text.add("Again"),
+        Decision::Refused(refusal) => text.show(refusal),
     }
-    Ok(())
 }
 
 /// Which cycle it is.
@@ -121,18 +119,18 @@ pub(crate) fn decided(
     alloc: Global,
     state: &CycleState,
     line: &str,
-    text: &mut String,
+    text: &mut Answer,
 ) -> Result<bool, Fault> {
     let mut words = Words::of(line);
     let decision = match words.next() {
-        "take_order" => order_taken(alloc, state, false, words.rest())?,
-        "take_response" => response_taken(alloc, state, false, words.rest())?,
-        "decide" => decide(alloc, state, words)?,
-        _ => None,
+        "take_order" => order_taken(alloc, state, false, words.rest()),
+        "take_response" => response_taken(alloc, state, false, words.rest()),
+        "decide" => decide(alloc, state, words),
+        _ => return Ok(false),
     };
-    let Some(decision) = decision else {
+    let Some(decision) = decision? else {
         return Ok(false);
     };
-    add_decision(&decision, text)?;
+    add_decision(&decision, text);
     Ok(true)
 }

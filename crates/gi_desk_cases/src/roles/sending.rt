@@ -1,7 +1,7 @@
 //! What is sent to the other operator.
 
 use crate::desks::texts::add_message;
-use gi_calls::{Fault, Words};
+use gi_calls::{Answer, Fault, Words};
 use gi_cycles::CycleState;
 use gi_desk::Role;
 use gi_initiator::{Initiating, order_for};
@@ -85,17 +85,16 @@ pub(crate) fn sent(
     alloc: Global,
     state: &CycleState,
     line: &str,
-    text: &mut String,
+    text: &mut Answer,
 ) -> Result<bool, Fault> {
     let mut words = Words::of(line);
     let sent = match words.next() {
-        "order_for" => order(state, words)?,
-        "response_for" => response(state, words)?,
-        method => by_role(alloc, state, method, words)?,
+        "order_for" => order(state, words),
+        "response_for" => response(state, words),
+        method => by_role(alloc, state, method, words),
     };
-    let Some(message) = sent else {
+    let Some(message) = sent? else {
         return Ok(false);
     };
-    add_message(alloc, message, text)?;
-    Ok(true)
+    add_message(alloc, message, text)
 }

@@ -1,45 +1,45 @@
 //! The fields of a fact, in words.
 
-use crate::messages::shown::{add_nomint, add_table};
-use gi_calls::Fault;
+use crate::messages::shown::{add_cycle, add_field, add_nomint, add_table};
+use gi_calls::Answer;
 use gi_facts::Fact;
-use std::alloc::Global;
 
 /// Adds the kind and the fields of a fact.
-pub(crate) fn add_fact(alloc: Global, fact: &Fact, text: &mut String) -> Result<(), Fault> {
+pub(crate) fn add_fact(fact: &Fact, text: &mut Answer) {
     match fact {
         Fact::Contracted(contract) => {
-            let (portfolio, day) = (contract.portfolio, contract.day);
-            let direction = contract.direction;
             let (firm, interruptible) = (contract.firm.value(), contract.interruptible.value());
-            let line = format!(in alloc;
-                "contract portfolio {portfolio} day {day} direction {direction} firm {firm} interruptible {interruptible}\n"
-            )?;
-            Ok(text.push_str(line.as_str())?)
+            text.add("contract");
+            add_field("portfolio", &contract.portfolio, text);
+            add_field("day", &contract.day, text);
+            add_field("direction", &contract.direction, text);
+            add_field("firm", &firm, text);
+            add_field("interruptible", &interruptible, text);
+            text.end_line();
         }
         Fact::Noticed(notice) => {
-            let (day, direction) = (notice.day, notice.direction);
-            let (first, last) = (notice.first, notice.last);
-            let (firm, interruptible) = (notice.firm, notice.interruptible);
-            let line = format!(in alloc;
-                "notice day {day} direction {direction} hours {first} {last} firm {firm} interruptible {interruptible}\n"
-            )?;
-            Ok(text.push_str(line.as_str())?)
+            text.add("notice");
+            add_field("day", &notice.day, text);
+            add_field("direction", &notice.direction, text);
+            add_field("hours", &notice.first, text);
+            text.word(&notice.last);
+            add_field("firm", &notice.firm, text);
+            add_field("interruptible", &notice.interruptible, text);
+            text.end_line();
         }
         Fact::Nominated(nomination) => {
-            text.push_str("nomination ")?;
-            add_nomint(alloc, nomination, text)
+            text.add("nomination");
+            add_nomint(nomination, text);
         }
         Fact::Closed(id) => {
-            let (day, cycle) = (id.day, id.cycle);
-            let line = format!(in alloc; "closed day {day} cycle {cycle}\n")?;
-            Ok(text.push_str(line.as_str())?)
+            text.add("closed");
+            add_cycle(id.day, id.cycle, text);
+            text.end_line();
         }
         Fact::Met { id, peer } => {
-            let (day, cycle) = (id.day, id.cycle);
-            let line = format!(in alloc; "met day {day} cycle {cycle} ")?;
-            text.push_str(line.as_str())?;
-            add_table(alloc, peer, text)
+            text.add("met");
+            add_cycle(id.day, id.cycle, text);
+            add_table(peer, text);
         }
     }
 }

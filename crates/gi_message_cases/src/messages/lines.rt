@@ -2,17 +2,14 @@
 
 use gi_calls::{Fault, Words};
 use gi_messages::{Line, Lines};
-use gi_pairs::{Hours, Quantity};
+use gi_pairs::Hours;
 use std::alloc::Global;
 
 /// The quantities that the words are.
 fn hours_of(alloc: Global, words: &str) -> Result<Option<Hours>, Fault> {
     let mut quantities = Vec::new(alloc);
     for word in words.split_whitespace() {
-        let Ok(value) = word.parse::<u64>() else {
-            return Ok(None);
-        };
-        let Ok(quantity) = Quantity::new(value) else {
+        let Some(quantity) = Words::of(word).quantity() else {
             return Ok(None);
         };
         quantities.push(quantity)?;
@@ -38,10 +35,10 @@ pub(crate) fn line_of(alloc: Global, words: &str) -> Result<Option<Line>, Fault>
 
 /// The lines `LINE / LINE / ..`.
 pub(crate) fn lines_of(alloc: Global, words: Words) -> Result<Option<Lines>, Fault> {
-    let mut lines = Vec::new(alloc);
     if words.is_empty() {
-        return Ok(Some(Lines::from(lines)));
+        return Ok(Some(Lines::from(Vec::new(alloc))));
     }
+    let mut lines = Vec::new(alloc);
     for part in words.rest().split(" / ") {
         let Some(line) = line_of(alloc, part)? else {
             return Ok(None);

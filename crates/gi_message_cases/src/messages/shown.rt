@@ -1,108 +1,123 @@
 //! The fields of what was read, in words.
 
-use gi_calls::Fault;
+use gi_calls::Answer;
+use gi_day::GasDay;
 use gi_messages::{Delres, Line, Lines, Message, Nomint};
-use gi_pairs::{Hours, Table};
-use std::alloc::Global;
+use gi_pairs::{Code, Hours, Table};
+use std::fmt::Display;
+
+/// Adds a field behind its name.
+pub(crate) fn add_field<T: Display>(name: &str, value: &T, text: &mut Answer) {
+    text.word(&name);
+    text.word(value);
+}
+
+/// Adds a point and a portfolio.
+fn add_portfolio(point: Code, portfolio: Code, text: &mut Answer) {
+    add_field("point", &point, text);
+    add_field("portfolio", &portfolio, text);
+}
+
+/// Adds a day and a cycle.
+pub(crate) fn add_cycle(day: GasDay, cycle: u8, text: &mut Answer) {
+    add_field("day", &day, text);
+    add_field("cycle", &cycle, text);
+}
 
 /// Adds quantities, each behind a space, and a line feed.
-fn add_hours(alloc: Global, hours: &Hours, text: &mut String) -> Result<(), Fault> {
+fn add_hours(hours: &Hours, text: &mut Answer) {
     for quantity in hours.as_slice() {
         let value = quantity.value();
-        text.push_str(format!(in alloc; " {value}")?.as_str())?;
+        text.word(&value);
     }
-    text.push_str("\n")?;
-    Ok(())
+    text.end_line();
 }
 
 /// Adds a line of a message.
-pub(crate) fn add_line(alloc: Global, line: &Line, text: &mut String) -> Result<(), Fault> {
-    text.push_str(line.counterparty.as_str())?;
-    text.push_str(" ")?;
-    text.push_str(line.direction.as_str())?;
-    add_hours(alloc, &line.hours, text)
+pub(crate) fn add_line(line: &Line, text: &mut Answer) {
+    text.add(line.counterparty.as_str());
+    text.add(" ");
+    text.add(line.direction.as_str());
+    add_hours(&line.hours, text);
 }
 
 /// Adds the lines of a message, in their order.
-pub(crate) fn add_lines(alloc: Global, lines: &Lines, text: &mut String) -> Result<(), Fault> {
+pub(crate) fn add_lines(lines: &Lines, text: &mut Answer) {
     if lines.as_slice().is_empty() {
-        text.push_str("no lines\n")?;
+        text.add("no lines\n");
     }
     for line in lines.as_slice() {
-        add_line(alloc, line, text)?;
+        add_line(line, text);
     }
-    Ok(())
 }
 
 /// Adds the hours that a table covers, then its rows.
-pub(crate) fn add_table(alloc: Global, table: &Table, text: &mut String) -> Result<(), Fault> {
+pub(crate) fn add_table(table: &Table, text: &mut Answer) {
     let (first, last) = (table.first(), table.last());
-    text.push_str(format!(in alloc; "hours {first} {last}\n")?.as_str())?;
+    add_field("hours", &first, text);
+    text.word(&last);
+    text.end_line();
     for row in table.rows() {
-        let (initiating, matching) = (row.pair.initiating, row.pair.matching);
-        let direction = row.direction;
-        text.push_str(format!(in alloc; "{initiating} {matching} {direction}")?.as_str())?;
-        add_hours(alloc, &row.hours, text)?;
+        text.show(&row.pair.initiating);
+        text.word(&row.pair.matching);
+        text.word(&row.direction);
+        add_hours(&row.hours, text);
     }
-    Ok(())
 }
 
 /// Adds the fields of a NOMINT.
-pub(crate) fn add_nomint(alloc: Global, message: &Nomint, text: &mut String) -> Result<(), Fault> {
-    let (point, portfolio) = (message.point, message.portfolio);
-    let (day, version) = (message.day, message.version);
-    let head = format!(in alloc;
-        "point {point} portfolio {portfolio} day {day} version {version}\n"
-    )?;
-    text.push_str(head.as_str())?;
-    add_lines(alloc, &message.lines, text)
+pub(crate) fn add_nomint(message: &Nomint, text: &mut Answer) {
+    add_portfolio(message.point, message.portfolio, text);
+    add_field("day", &message.day, text);
+    add_field("version", &message.version, text);
+    text.end_line();
+    add_lines(&message.lines, text);
 }
 
 /// Adds the fields of a DELRES.
-fn add_delres(alloc: Global, message: &Delres, text: &mut String) -> Result<(), Fault> {
-    let (point, day, cycle) = (message.point, message.day, message.cycle);
-    let head = format!(in alloc; "DELRES point {point} day {day} cycle {cycle}\nprocessed ")?;
-    text.push_str(head.as_str())?;
-    add_table(alloc, &message.processed, text)?;
-    text.push_str("confirmed ")?;
-    add_table(alloc, &message.confirmed, text)
+fn add_delres(message: &Delres, text: &mut Answer) {
+    add_field("point", &message.point, text);
+    add_cycle(message.day, message.cycle, text);
+    text.end_line();
+    text.add("processed");
+    add_table(&message.processed, text);
+    text.add("confirmed");
+    add_table(&message.confirmed, text);
 }
 
 /// Adds the kind and the fields of a message.
-pub(crate) fn add_message(
-    alloc: Global,
-    message: &Message,
-    text: &mut String,
-) -> Result<(), Fault> {
+pub(crate) fn add_message(message: &Message, text: &mut Answer) {
     match message {
         Message::Nomint(nomint) => {
-            text.push_str("NOMINT ")?;
-            add_nomint(alloc, nomint, text)
+            text.add("NOMINT");
+            add_nomint(nomint, text);
         }
         Message::Acknow(acknow) => {
-            let (point, portfolio) = (acknow.point, acknow.portfolio);
-            let (day, version) = (acknow.day, acknow.version);
-            let head = format!(in alloc;
-                "ACKNOW point {point} portfolio {portfolio} day {day} version {version}\n"
-            )?;
-            Ok(text.push_str(head.as_str())?)
+            text.add("ACKNOW");
+            add_portfolio(acknow.point, acknow.portfolio, text);
+            add_field("day", &acknow.day, text);
+            add_field("version", &acknow.version, text);
+            text.end_line();
         }
         Message::Nomres(nomres) => {
-            let (point, portfolio) = (nomres.point, nomres.portfolio);
-            let (day, cycle) = (nomres.day, nomres.cycle);
-            let (first, last) = (nomres.first, nomres.last);
-            let head = format!(in alloc;
-                "NOMRES point {point} portfolio {portfolio} day {day} cycle {cycle} hours {first} {last}\n"
-            )?;
-            text.push_str(head.as_str())?;
-            add_lines(alloc, &nomres.lines, text)
+            text.add("NOMRES");
+            add_portfolio(nomres.point, nomres.portfolio, text);
+            add_cycle(nomres.day, nomres.cycle, text);
+            add_field("hours", &nomres.first, text);
+            text.word(&nomres.last);
+            text.end_line();
+            add_lines(&nomres.lines, text);
         }
         Message::Delord(delord) => {
-            let (point, day, cycle) = (delord.point, delord.day, delord.cycle);
-            let head = format!(in alloc; "DELORD point {point} day {day} cycle {cycle}\n")?;
-            text.push_str(head.as_str())?;
-            add_table(alloc, &delord.processed, text)
+            text.add("DELORD");
+            add_field("point", &delord.point, text);
+            add_cycle(delord.day, delord.cycle, text);
+            text.end_line();
+            add_table(&delord.processed, text);
         }
-        Message::Delres(delres) => add_delres(alloc, delres, text),
+        Message::Delres(delres) => {
+            text.add("DELRES");
+            add_delres(delres, text);
+        }
     }
 }

@@ -8,27 +8,50 @@ use std::alloc::{AllocError, Global};
 use std::fmt::Write;
 
 /// The words as a contract.
-fn contract(words: Words<'_>) -> Option<Call> {
-    let mut words = words;
+fn contract(mut words: Words<'_>) -> Option<Call> {
+    let (Some(portfolio), Some(day), Some(direction), Some(firm), Some(interruptible)) = (
+        words.code(),
+        words.day(),
+        words.direction(),
+        words.quantity(),
+        words.quantity(),
+    ) else {
+        return None;
+    };
     Some(Call::Contract(Contract {
-        portfolio: words.code()?,
-        day: words.day()?,
-        direction: words.direction()?,
-        firm: words.quantity()?,
-        interruptible: words.quantity()?,
+        portfolio,
+        day,
+        direction,
+        firm,
+        interruptible,
     }))
 }
 
+/// The next word as thousandths.
+fn permille(words: &mut Words<'_>) -> Option<u16> {
+    words.next().parse::<u16>().ok()
+}
+
 /// The words as a notice.
-fn notice(words: Words<'_>) -> Option<Call> {
-    let mut words = words;
+fn notice(mut words: Words<'_>) -> Option<Call> {
+    let (Some(day), Some(direction), Some(first), Some(last)) = (
+        words.day(),
+        words.direction(),
+        words.byte(),
+        words.byte(),
+    ) else {
+        return None;
+    };
+    let (Some(firm), Some(interruptible)) = (permille(&mut words), permille(&mut words)) else {
+        return None;
+    };
     Some(Call::Notice(Notice {
-        day: words.day()?,
-        direction: words.direction()?,
-        first: words.byte()?,
-        last: words.byte()?,
-        firm: u16::try_from(words.number()?).ok()?,
-        interruptible: u16::try_from(words.number()?).ok()?,
+        day,
+        direction,
+        first,
+        last,
+        firm,
+        interruptible,
     }))
 }
 
@@ -40,24 +63,22 @@ fn body_of(alloc: Global, text: &str) -> Result<Body, AllocError> {
 /// A document of the portfolio with 64 lines, each with the greatest quantity in 24 hours: 23,292
 /// bytes as a fact, where the portfolio is of one letter and the version of one digit.
 fn long_document(alloc: Global, portfolio: Code, version: u32) -> Result<Body, Fault> {
+    let hours = "999999999999,".repeat(alloc, 23)?;
     let mut text = format!(in alloc;
         "{{\"kind\":\"NOMINT\",\"point\":\"BORDER-1\",\"portfolio\":\"{portfolio}\",\"day\":\"2026-01-15\",\"version\":{version},\"lines\":["
     )?;
-    let hours = "999999999999,".repeat(alloc, 23)?;
     for line in 10..74u8 {
-        let comma = if line == 10 { "" } else { "," };
+        let end = if line == 73 { "]}" } else { "," };
         write!(
             text,
-            "{comma}{{\"counterparty\":\"B{line}\",\"direction\":\"IM\",\"hours\":[{hours}999999999999]}}"
+            "{{\"counterparty\":\"B{line}\",\"direction\":\"IM\",\"hours\":[{hours}999999999999]}}{end}"
         )?;
     }
-    text.push_str("]}")?;
     Ok(Body::from(text.into_bytes()))
 }
 
 /// The words as a submission of a long document.
-fn long(alloc: Global, words: Words<'_>) -> Result<Option<Call>, Fault> {
-    let mut words = words;
+fn long(alloc: Global, mut words: Words<'_>) -> Result<Option<Call>, Fault> {
     let (Some(portfolio), Some(version)) = (words.code(), words.number()) else {
         return Ok(None);
     };
@@ -65,8 +86,7 @@ fn long(alloc: Global, words: Words<'_>) -> Result<Option<Call>, Fault> {
 }
 
 /// The call of this word.
-fn named(alloc: Global, word: &str, words: Words<'_>) -> Result<Option<Call>, Fault> {
-    let mut words = words;
+fn named(alloc: Global, word: &str, mut words: Words<'_>) -> Result<Option<Call>, Fault> {
     Ok(match word {
         "contract" => contract(words),
         "notice" => notice(words),

@@ -5,16 +5,15 @@ ghost use Rattle.std.specs.Prelude.{◌≡◌};
 
 use super::calls::call_of;
 use super::opening::{Unopened, opened};
-use super::saving::{book_call, fact_of, new_book, turn_text};
+use super::saving::{add_turn, book_call, fact_of, new_book};
 use super::seats::{asked, taken};
 use super::texts::{add_answered, add_entry, add_settled};
-use gi_calls::{Fault, Words};
+use gi_calls::{Answer, Fault, Words};
 use gi_desk::{Fact, Role};
-use gi_office::{Office, Receipt, Seat, Settled};
+use gi_office::{Office, OfficeFault, Receipt, Seat, Settled};
 use gi_store::BookStore;
 use sqlite::MemStore;
-use std::alloc::Global;
-use std::fmt::Write;
+use std::alloc::{AllocError, Global};
 use std::sync::Wait;
 use std::sync::ledger::{Blank, Ledger};
 
@@ -65,34 +64,38 @@ impl<R: Role, L: Ledger> Opened<R, L> {
         let _former = std::mem::replace(&mut self.book, book);
     }
 
+    /// Keeps the receipt that a call was given.
+    fn keep_receipt(&mut self, answer: Result<Receipt, OfficeFault>) -> Result<(), AllocError> {
+        if let Ok(receipt) = answer {
+            self.receipts.push(receipt)?;
+        }
+        Ok(())
+    }
+
     /// Adds a fact to what the desk is opened with.
-    fn add_fact(&mut self, alloc: Global, fact: &str, text: &mut String) -> Result<bool, Fault> {
+    fn add_fact(&mut self, alloc: Global, fact: &str, text: &mut Answer) -> Result<bool, Fault> {
         let Ok(fact) = fact_of(alloc, fact) else {
             return Ok(false);
         };
         self.facts.push(fact)?;
-        text.push_str("ok")?;
+        text.add("ok");
         Ok(true)
     }
 
     /// Opens it, once: the words are its point and how many seats it has.
-    fn open(&mut self, alloc: Global, words: Words<'_>, text: &mut String) -> Result<bool, Fault> {
-        let mut words = words;
+    fn open(&mut self, alloc: Global, mut words: Words<'_>, text: &mut Answer) -> bool {
         let (Some(point), Some(count)) = (words.code(), words.number()) else {
-            return Ok(false);
+            return false;
         };
         let Some(unopened) = self.unopened.take() else {
-            return Ok(false);
+            return false;
         };
         let facts = std::mem::replace(&mut self.facts, Vec::new(alloc));
-        match opened(alloc, unopened, point, facts, count as usize, text)? {
-            Some((office, seats)) => {
-                self.keep(office, seats);
-                text.push_str("ok")?;
-            }
-            None => {}
+        if let Some((office, seats)) = opened(alloc, unopened, point, facts, count as usize, text) {
+            self.keep(office, seats);
+            text.add("ok");
         }
-        Ok(true)
+        true
     }
 
     /// Makes a call from a seat.
@@ -101,7 +104,7 @@ impl<R: Role, L: Ledger> Opened<R, L> {
         handle: &W,
         alloc: Global,
         line: &str,
-        text: &mut String,
+        text: &mut Answer,
     ) -> Result<bool, Fault> {
         let Some((number, call)) = call_of(alloc, line)? else {
             return Ok(false);
@@ -110,11 +113,10 @@ impl<R: Role, L: Ledger> Opened<R, L> {
             return Ok(false);
         };
         let (seat, answer) = asked(handle, office, seat, call);
+        add_answered(&answer, text);
+        let kept = self.keep_receipt(answer);
         self.seats.push(seat)?;
-        add_answered(&answer, text)?;
-        if let Ok(receipt) = answer {
-            self.receipts.push(receipt)?;
-        }
+        kept?;
         Ok(true)
     }
 
@@ -123,14 +125,13 @@ impl<R: Role, L: Ledger> Opened<R, L> {
         &mut self,
         handle: &W,
         alloc: Global,
-        words: Words<'_>,
-        text: &mut String,
+        mut words: Words<'_>,
+        text: &mut Answer,
     ) -> Result<bool, Fault> {
-        let mut words = words;
         let count = words.byte().unwrap_or(0);
         let line = words.rest();
         for _ in 0..count {
-            text.clear();
+            *text = Answer::new(alloc);
             if !self.call(handle, alloc, line, text)? {
                 return Ok(false);
             }
@@ -139,13 +140,7 @@ impl<R: Role, L: Ledger> Opened<R, L> {
     }
 
     /// Makes a turn that saves from a seat.
-    fn save<W: Wait>(
-        &mut self,
-        handle: &W,
-        alloc: Global,
-        number: u8,
-        text: &mut String,
-    ) -> Result<bool, Fault> {
+    fn save<W: Wait>(&mut self, handle: &W, number: u8, text: &mut Answer) -> Result<bool, Fault> {
         let (Some(office), Some(book)) = (&self.office, &mut self.book) else {
             return Ok(false);
         };
@@ -153,72 +148,75 @@ impl<R: Role, L: Ledger> Opened<R, L> {
             return Ok(false);
         };
         let (seat, turn) = office.save_turn(handle, seat, book);
+        add_turn(&turn, text);
+        drop(turn);
         self.seats.push(seat)?;
-        text.push_str(turn_text(alloc, turn)?.as_str())?;
         Ok(true)
     }
 
     /// Waits for the fact of the receipt of this place.
-    fn wait<W: Wait>(&self, handle: &W, place: u64, text: &mut String) -> Result<bool, Fault> {
+    fn wait<W: Wait>(&self, handle: &W, place: u64, text: &mut Answer) -> bool {
         let receipt = self.receipts.iter().find(|it| it.place == place);
         let (Some(office), Some(receipt)) = (&self.office, receipt) else {
-            return Ok(false);
+            return false;
         };
-        write!(text, "{:?}", office.wait_saved(handle, receipt))?;
-        Ok(true)
+        let waited = office.wait_saved(handle, receipt);
+        text.debug(&waited);
+        true
     }
 
     /// How many calls a seat noted.
-    fn count_notes(&self, number: u8, text: &mut String) -> Result<bool, Fault> {
+    fn count_notes(&self, number: u8, text: &mut Answer) -> bool {
         let Some(seat) = self.seats.iter().find(|it| it.number() == number) else {
-            return Ok(false);
+            return false;
         };
-        write!(text, "{}", seat.notes().len())?;
-        Ok(true)
+        let count = seat.notes().len();
+        text.show(&count);
+        true
     }
 
     /// Loses a seat.
-    fn lose(&mut self, number: u8, text: &mut String) -> Result<bool, Fault> {
+    fn lose(&mut self, number: u8, text: &mut Answer) -> bool {
         let seat = taken(&mut self.seats, number);
         if seat.is_none() {
-            return Ok(false);
+            return false;
         }
-        text.push_str("ok")?;
-        Ok(true)
+        text.add("ok");
+        true
     }
 
     /// Settles it with the seats that are here.
-    fn settle(&mut self, alloc: Global, text: &mut String) -> Result<bool, Fault> {
+    fn settle(&mut self, alloc: Global, text: &mut Answer) -> bool {
         let Some(office) = self.office.take() else {
-            return Ok(false);
+            return false;
         };
         let seats = std::mem::replace(&mut self.seats, Vec::new(alloc));
         let settled = office.settle(seats);
-        let added = add_settled(&settled, text);
+        add_settled(&settled, text);
         self.keep_settled(settled.ok());
-        added?;
-        Ok(true)
+        true
     }
 
     /// How many entries there are, once it is settled.
-    fn count_entries(&self, text: &mut String) -> Result<bool, Fault> {
+    fn count_entries(&self, text: &mut Answer) -> bool {
         let Some(settled) = &self.settled else {
-            return Ok(false);
+            return false;
         };
-        write!(text, "{}", settled.len())?;
-        Ok(true)
+        let count = settled.len();
+        text.show(&count);
+        true
     }
 
     /// The entry of this place, once it is settled.
-    fn entry(&self, place: u64, text: &mut String) -> Result<bool, Fault> {
+    fn entry(&self, place: u64, text: &mut Answer) -> bool {
         let Some(settled) = &self.settled else {
-            return Ok(false);
+            return false;
         };
         match settled.entry(place) {
-            Some(entry) => add_entry(entry, text)?,
-            None => text.push_str("none")?,
+            Some(entry) => add_entry(entry, text),
+            None => text.add("none"),
         }
-        Ok(true)
+        true
     }
 
     /// Makes a call whose word a number follows.
@@ -226,30 +224,34 @@ impl<R: Role, L: Ledger> Opened<R, L> {
         &mut self,
         handle: &W,
         alloc: Global,
-        word: &str,
-        number: u8,
-        text: &mut String,
+        line: &str,
+        text: &mut Answer,
     ) -> Result<bool, Fault> {
+        let mut words = Words::of(line);
+        let word = words.next();
+        let Some(number) = words.byte() else {
+            return Ok(false);
+        };
         match word {
-            "save_turn" => self.save(handle, alloc, number, text),
-            "wait_saved" => self.wait(handle, u64::from(number), text),
-            "notes" => self.count_notes(number, text),
-            "lose" => self.lose(number, text),
-            "entry" => self.entry(u64::from(number), text),
-            _ => Ok(false),
+            "save_turn" => self.save(handle, number, text),
+            "wait_saved" => Ok(self.wait(handle, u64::from(number), text)),
+            "notes" => Ok(self.count_notes(number, text)),
+            "lose" => Ok(self.lose(number, text)),
+            "entry" => Ok(self.entry(u64::from(number), text)),
+            _ => self.call(handle, alloc, line, text),
         }
     }
 
     /// Opens a book in memory, or makes a call on it.
-    fn call_book(&mut self, alloc: Global, line: &str, text: &mut String) -> Result<bool, Fault> {
+    fn call_book(&mut self, alloc: Global, line: &str, text: &mut Answer) -> bool {
         if line == "book" {
             self.keep_book(new_book(alloc));
-            text.push_str("ok")?;
-            return Ok(true);
+            text.add("ok");
+            return true;
         }
         match &mut self.book {
             Some(book) => book_call(alloc, book, line, text),
-            None => Ok(false),
+            None => false,
         }
     }
 
@@ -259,23 +261,17 @@ impl<R: Role, L: Ledger> Opened<R, L> {
         handle: &W,
         alloc: Global,
         line: &str,
-        text: &mut String,
+        text: &mut Answer,
     ) -> Result<bool, Fault> {
         let mut words = Words::of(line);
-        let word = words.next();
-        match word {
-            "fact" => return self.add_fact(alloc, words.rest(), text),
-            "open" => return self.open(alloc, words, text),
-            "settle" => return self.settle(alloc, text),
-            "entries" => return self.count_entries(text),
-            "times" => return self.repeat(handle, alloc, words, text),
-            _ => {}
+        match words.next() {
+            "fact" => self.add_fact(alloc, words.rest(), text),
+            "open" => Ok(self.open(alloc, words, text)),
+            "settle" => Ok(self.settle(alloc, text)),
+            "entries" => Ok(self.count_entries(text)),
+            "times" => self.repeat(handle, alloc, words, text),
+            "book" | "load" | "save_batch" => Ok(self.call_book(alloc, line, text)),
+            _ => self.numbered(handle, alloc, line, text),
         }
-        if let Some(number) = words.byte() {
-            if self.numbered(handle, alloc, word, number, text)? {
-                return Ok(true);
-            }
-        }
-        Ok(self.call(handle, alloc, line, text)? || self.call_book(alloc, line, text)?)
     }
 }

@@ -2,13 +2,12 @@
 
 ghost use Rattle.std.specs.Prelude.{◌≡◌, IfOk, false, length};
 
-use gi_calls::Fault;
+use gi_calls::Answer;
 use gi_day::Calendar;
 use gi_desk::{Desk, Fact, ReplayFault, Role};
 use gi_office::{Office, Seat};
 use gi_pairs::Code;
 use std::alloc::Global;
-use std::fmt::Write;
 use std::marker::PhantomData;
 use std::sync::ledger::{Blank, Ledger};
 
@@ -52,21 +51,21 @@ pub fn opened<R: Role, L: Ledger>(
     point: Code,
     facts: Vec<Fact>,
     seats: usize,
-    text: &mut String,
-) -> Result<Option<(Office<R, L>, Vec<Seat<L>>)>, Fault> {
+    text: &mut Answer,
+) -> Option<(Office<R, L>, Vec<Seat<L>>)> {
     let desk = match new_desk(alloc, point, facts) {
         Ok(desk) => desk,
         Err(fault) => {
-            write!(text, "{fault}")?;
-            return Ok(None);
+            text.show(&fault);
+            return None;
         }
     };
     let Unopened { blank, of: _ } = unopened;
     match Office::new(alloc, blank, desk, seats) {
-        Ok(opened) => Ok(Some(opened)),
+        Ok(opened) => Some(opened),
         Err(fault) => {
-            write!(text, "{fault}")?;
-            Ok(None)
+            text.show(&fault);
+            None
         }
     }
 }

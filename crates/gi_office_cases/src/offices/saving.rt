@@ -5,13 +5,12 @@ ghost use Rattle.std.specs.List.{AllByRecursion};
 ghost use Rattle.gi_facts.specs.Grammar.{IsWritable};
 
 use super::texts::add_receipt;
-use gi_calls::{Fault, Words};
+use gi_calls::{Answer, Words};
 use gi_facts::{Fact, FactFault, decode_fact};
 use gi_office::{SaveFault, Turn};
 use gi_store::{BookStore, StoreFault};
 use sqlite::{Connection, MemStore};
 use std::alloc::{AllocError, Global};
-use std::fmt::Write;
 
 /// A new book in memory, which is not loaded.
 pub fn new_book(alloc: Global) -> Option<BookStore<MemStore>> {
@@ -39,12 +38,14 @@ fn facts_of(alloc: Global, text: &str) -> Result<Vec<Fact>, FactFault>
 }
 
 /// Adds `ok` and a number, or why a call was refused.
-fn add_number(answer: Result<usize, StoreFault>, text: &mut String) -> Result<(), Fault> {
+fn add_number(answer: Result<usize, StoreFault>, text: &mut Answer) {
     match answer {
-        Ok(number) => write!(text, "ok {number}")?,
-        Err(fault) => write!(text, "{fault}")?,
+        Ok(number) => {
+            text.add("ok");
+            text.word(&number);
+        }
+        Err(fault) => text.show(&fault),
     }
-    Ok(())
 }
 
 /// Loads the book, and gives the number of its facts.
@@ -66,14 +67,14 @@ fn save_text(
     book: &mut BookStore<MemStore>,
     n: u32,
     facts: &str,
-    text: &mut String,
-) -> Result<bool, Fault> {
+    text: &mut Answer,
+) -> bool {
     match facts_of(alloc, facts) {
         Ok(facts) => {
-            add_number(save_batch(book, n, &facts), text)?;
-            Ok(true)
+            add_number(save_batch(book, n, &facts), text);
+            true
         }
-        Err(_) => Ok(false),
+        Err(_) => false,
     }
 }
 
@@ -82,27 +83,27 @@ pub fn book_call(
     alloc: Global,
     book: &mut BookStore<MemStore>,
     line: &str,
-    text: &mut String,
-) -> Result<bool, Fault> {
+    text: &mut Answer,
+) -> bool {
     let mut words = Words::of(line);
     match words.next() {
-        "load" => add_number(load(book), text)?,
+        "load" => {
+            add_number(load(book), text);
+            true
+        }
         "save_batch" => match words.number() {
-            Some(n) => return save_text(alloc, book, n, words.rest(), text),
-            None => return Ok(false),
+            Some(n) => save_text(alloc, book, n, words.rest(), text),
+            None => false,
         },
-        _ => return Ok(false),
+        _ => false,
     }
-    Ok(true)
 }
 
-/// What a turn came to.
-pub fn turn_text(alloc: Global, turn: Result<Turn, SaveFault>) -> Result<String, Fault> {
-    let mut text = String::new(alloc);
+/// Adds what a turn came to.
+pub fn add_turn(turn: &Result<Turn, SaveFault>, text: &mut Answer) {
     match turn {
-        Ok(Turn::Nothing) => text.push_str("Nothing")?,
-        Ok(Turn::Saved(receipt)) => add_receipt(&receipt, &mut text)?,
-        Err(fault) => write!(text, "{fault}")?,
+        Ok(Turn::Nothing) => text.add("Nothing"),
+        Ok(Turn::Saved(receipt)) => add_receipt(receipt, text),
+        Err(fault) => text.show(fault),
     }
-    Ok(text)
 }

@@ -1,4 +1,5 @@
-use gi_calls::{Fault, Words};
+use crate::reports::add_report;
+use gi_calls::{Answer, Fault, Words};
 use gi_day::Calendar;
 use gi_desk::{Body, Call, Desk, Fact, ReplayFault, Role};
 use gi_initiator::Initiating;
@@ -7,7 +8,6 @@ use gi_pairs::{Code, Side};
 use gi_reports::{closed_cycles, confirmed_report, counts_line, open_report};
 use gi_script::{Instruction, read_script};
 use std::alloc::{AllocError, Global};
-use std::fmt::Write;
 
 /// The desk of one of the operators.
 #[derive(Drop)]
@@ -16,28 +16,36 @@ pub enum Office {
     M(Desk<Matching>),
 }
 
-/// Each closed cycle in a line.
-fn cycle_lines<R: Role>(alloc: Global, desk: &Desk<R>) -> Result<String, AllocError> {
-    let mut text = String::new(alloc);
-    for id in closed_cycles(alloc, desk)? {
-        writeln!(text, "{} {}", id.day, id.cycle)?;
+/// Adds each closed cycle in a line, or that there is none.
+fn add_cycles<R: Role>(alloc: Global, desk: &Desk<R>, text: &mut Answer) -> Result<bool, Fault> {
+    let ids = closed_cycles(alloc, desk)?;
+    if ids.is_empty() {
+        text.add("no lines");
     }
-    Ok(text)
+    for id in &ids {
+        text.show(&id.day);
+        text.word(&id.cycle);
+        text.end_line();
+    }
+    Ok(true)
 }
 
-/// The report of that name.
+/// Adds the report of that name.
 fn report<R: Role>(
     alloc: Global,
     desk: &Desk<R>,
     name: &str,
-) -> Result<Option<String>, AllocError> {
-    Ok(match name {
-        "open_report" => Some(open_report(alloc, desk)?),
-        "confirmed_report" => Some(confirmed_report(alloc, desk)?),
-        "counts_line" => Some(counts_line(alloc, desk)?),
-        "closed_cycles" => Some(cycle_lines(alloc, desk)?),
-        _ => None,
-    })
+    text: &mut Answer,
+) -> Result<bool, Fault> {
+    let report = match name {
+        "open_report" => open_report(alloc, desk),
+        "confirmed_report" => confirmed_report(alloc, desk),
+        "counts_line" => counts_line(alloc, desk),
+        "closed_cycles" => return add_cycles(alloc, desk, text),
+        _ => return Ok(false),
+    };
+    add_report(report?.as_str(), text);
+    Ok(true)
 }
 
 /// The call that a line of a script says, without its side.
@@ -46,12 +54,12 @@ fn call_said(alloc: Global, words: Words<'_>) -> Result<Option<Call>, AllocError
     let Ok(script) = read_script(alloc, script.as_bytes()) else {
         return Ok(None);
     };
-    match script.lines().first() {
-        Some(line) => match &line.instruction {
-            Instruction::Call { call, .. } => Ok(Some(call.copy()?)),
-            _ => Ok(None),
-        },
-        None => Ok(None),
+    let [line, ..] = script.lines() else {
+        return Ok(None);
+    };
+    match &line.instruction {
+        Instruction::Call { call, .. } => Ok(Some(call.copy()?)),
+        _ => Ok(None),
     }
 }
 
@@ -70,75 +78,80 @@ impl Office {
     /// The desk of these facts, all of them saved.
     pub fn replay(
         alloc: Global,
+        calendar: Calendar,
         side: Side,
         point: Code,
         facts: Vec<Fact>,
-    ) -> Result<Result<Office, ReplayFault>, Fault> {
-        let Ok(calendar) = Calendar::new() else {
-            return Err(Fault::OutOfMemory);
-        };
+    ) -> Result<Office, ReplayFault> {
         Ok(match side {
-            Side::I => Desk::replay(alloc, calendar, point, facts).map(|desk| Office::I(desk)),
-            Side::M => Desk::replay(alloc, calendar, point, facts).map(|desk| Office::M(desk)),
+            Side::I => Office::I(Desk::replay(alloc, calendar, point, facts)?),
+            Side::M => Office::M(Desk::replay(alloc, calendar, point, facts)?),
         })
     }
 
-    /// What the desk answers to the call.
-    fn answer(&mut self, alloc: Global, call: &Call) -> Result<String, AllocError> {
+    /// Adds what the desk answers to the call.
+    fn answer(&mut self, call: &Call, text: &mut Answer) {
         let reply = match self {
             Office::I(desk) => desk.step(call),
             Office::M(desk) => desk.step(call),
         };
-        format!(in alloc; "{:?}\n", reply.answer)
+        text.debug(&reply.answer);
+        text.end_line();
     }
 
     /// `step CALL`: the call as a script has it, without the side.
-    pub fn step(&mut self, alloc: Global, words: Words<'_>) -> Result<Option<String>, AllocError> {
-        match call_said(alloc, words)? {
-            Some(call) => Ok(Some(self.answer(alloc, &call)?)),
-            None => Ok(None),
-        }
+    pub fn step(
+        &mut self,
+        alloc: Global,
+        words: Words<'_>,
+        text: &mut Answer,
+    ) -> Result<bool, Fault> {
+        let Some(call) = call_said(alloc, words)? else {
+            return Ok(false);
+        };
+        self.answer(&call, text);
+        Ok(true)
     }
 
     /// `deliver BODY`.
-    pub fn deliver(&mut self, alloc: Global, body: &str) -> Result<String, AllocError> {
+    pub fn deliver(&mut self, alloc: Global, body: &str, text: &mut Answer) -> Result<bool, Fault> {
         let body = Body::from(Vec::from_slice(alloc, body.as_bytes())?);
-        self.answer(alloc, &Call::Deliver(body))
+        self.answer(&Call::Deliver(body), text);
+        Ok(true)
     }
 
     /// Marks the next fact as saved.
-    fn save_next(&mut self, alloc: Global) -> Result<String, AllocError> {
+    fn save_next(&mut self, text: &mut Answer) -> Result<(), Fault> {
         let mark = match self {
-            Office::I(desk) => mark(desk)?,
-            Office::M(desk) => mark(desk)?,
+            Office::I(desk) => mark(desk),
+            Office::M(desk) => mark(desk),
         };
-        match mark {
-            Some(call) => self.answer(alloc, &call),
-            None => String::from_str(alloc, "nothing\n"),
+        match mark? {
+            Some(call) => self.answer(&call, text),
+            None => text.add("nothing\n"),
         }
+        Ok(())
     }
 
     /// `save COUNT`: marks so many facts as saved.
-    pub fn save(
-        &mut self,
-        alloc: Global,
-        mut words: Words<'_>,
-    ) -> Result<Option<String>, AllocError> {
+    pub fn save(&mut self, mut words: Words<'_>, text: &mut Answer) -> Result<bool, Fault> {
         let Some(count) = words.number() else {
-            return Ok(None);
+            return Ok(false);
         };
-        let mut text = String::new(alloc);
-        for _ in 0..count {
-            text.push_str(self.save_next(alloc)?.as_str())?;
+        if count == 0 {
+            text.add("no lines");
         }
-        Ok(Some(text))
+        for _ in 0..count {
+            self.save_next(text)?;
+        }
+        Ok(true)
     }
 
-    /// The report of that name.
-    pub fn report(&self, alloc: Global, name: &str) -> Result<Option<String>, AllocError> {
+    /// Adds the report of that name.
+    pub fn report(&self, alloc: Global, name: &str, text: &mut Answer) -> Result<bool, Fault> {
         match self {
-            Office::I(desk) => report(alloc, desk, name),
-            Office::M(desk) => report(alloc, desk, name),
+            Office::I(desk) => report(alloc, desk, name, text),
+            Office::M(desk) => report(alloc, desk, name, text),
         }
     }
 }

@@ -1,18 +1,18 @@
+use gi_calls::Answer;
 use std::alloc::{AllocError, Global};
 
 /// The byte that what follows a backslash stands for, and the text behind it.
 fn escaped(text: &str) -> Option<(u8, &str)> {
-    if let Some(rest) = text.strip_prefix('n') {
-        return Some((b'\n', rest));
+    match text.split_at_checked(1)? {
+        ("n", rest) => Some((b'\n', rest)),
+        ("r", rest) => Some((b'\r', rest)),
+        ("t", rest) => Some((b'\t', rest)),
+        ("x", rest) => {
+            let (digits, rest) = rest.split_at_checked(2)?;
+            Some((u8::from_str_radix(digits, 16).ok()?, rest))
+        }
+        _ => None,
     }
-    if let Some(rest) = text.strip_prefix('r') {
-        return Some((b'\r', rest));
-    }
-    if let Some(rest) = text.strip_prefix('t') {
-        return Some((b'\t', rest));
-    }
-    let (digits, rest) = text.strip_prefix('x')?.split_at_checked(2)?;
-    Some((u8::from_str_radix(digits, 16).ok()?, rest))
 }
 
 /// The bytes of a text in which `\n`, `\r`, `\t` and `\xHH` are a byte each. None where anything
@@ -31,15 +31,13 @@ pub fn unescaped(alloc: Global, text: &str) -> Result<Option<Vec<u8>>, AllocErro
     Ok(Some(bytes))
 }
 
-/// A text with its carriage returns and tabs written so.
-pub fn escaped_text(alloc: Global, text: &str) -> Result<String, AllocError> {
-    let mut shown = String::new(alloc);
-    for character in text.chars() {
+/// Adds a text with its carriage returns and tabs written so.
+pub fn add_escaped(given: &str, text: &mut Answer) {
+    for character in given.chars() {
         match character {
-            '\r' => shown.push_str("\\r")?,
-            '\t' => shown.push_str("\\t")?,
-            _ => shown.push(character)?,
+            '\r' => text.add("\\r"),
+            '\t' => text.add("\\t"),
+            _ => text.show(&character),
         }
     }
-    Ok(shown)
 }

@@ -1,69 +1,85 @@
 //! What the lines of a script say, field by field.
 
-use crate::runs::Runs;
-use crate::scripts::escapes::escaped_text;
-use gi_calls::Fault;
-use gi_carrier::Plan;
+use crate::moves::add_moves;
+use crate::scripts::escapes::add_escaped;
+use gi_calls::Answer;
 use gi_desk::Call;
+use gi_pairs::{CycleId, Side};
 use gi_script::Instruction;
-use std::alloc::{AllocError, Global};
 
-/// A submission, with its body in brackets.
-fn submission(alloc: Global, body: &[u8]) -> Result<String, AllocError> {
-    let Ok(text) = str::from_utf8(body) else {
-        return format!(in alloc; "submit bytes");
+/// Adds a submission, with its body in brackets.
+fn add_submission(body: &[u8], text: &mut Answer) {
+    let Ok(body) = str::from_utf8(body) else {
+        return text.add(" submit bytes");
     };
-    let text = escaped_text(alloc, text)?;
-    format!(in alloc; "submit <{text}>")
+    text.add(" submit <");
+    add_escaped(body, text);
+    text.add(">");
 }
 
-/// A call of a desk.
-fn call_said(alloc: Global, call: &Call) -> Result<String, AllocError> {
+/// Adds a name and a cycle.
+fn add_cycle(name: &str, id: CycleId, text: &mut Answer) {
+    text.add(name);
+    text.word(&id.day);
+    text.word(&id.cycle);
+}
+
+/// Adds a call of a desk, behind a space.
+fn add_call(call: &Call, text: &mut Answer) {
     match call {
-        Call::Contract(of) => format!(in alloc;
-            "contract {} {} {} {} {}",
-            of.portfolio,
-            of.day,
-            of.direction,
-            of.firm.value(),
-            of.interruptible.value()
-        ),
-        Call::Notice(of) => format!(in alloc;
-            "notice {} {} {} {} {} {}",
-            of.day, of.direction, of.first, of.last, of.firm, of.interruptible
-        ),
-        Call::Submit(body) => submission(alloc, body.as_slice()),
-        Call::Close(id) => format!(in alloc; "close {} {}", id.day, id.cycle),
-        Call::Resend(id) => format!(in alloc; "resend {} {}", id.day, id.cycle),
-        Call::Halt => format!(in alloc; "halt"),
-        Call::Deliver(_) => format!(in alloc; "deliver a body"),
-        Call::MarkSaved { .. } => format!(in alloc; "mark saved"),
+        Call::Contract(of) => {
+            let (firm, interruptible) = (of.firm.value(), of.interruptible.value());
+            text.add(" contract");
+            text.word(&of.portfolio);
+            text.word(&of.day);
+            text.word(&of.direction);
+            text.word(&firm);
+            text.word(&interruptible);
+        }
+        Call::Notice(of) => {
+            text.add(" notice");
+            text.word(&of.day);
+            text.word(&of.direction);
+            text.word(&of.first);
+            text.word(&of.last);
+            text.word(&of.firm);
+            text.word(&of.interruptible);
+        }
+        Call::Submit(body) => add_submission(body.as_slice(), text),
+        Call::Close(id) => add_cycle(" close", *id, text),
+        Call::Resend(id) => add_cycle(" resend", *id, text),
+        Call::Halt => text.add(" halt"),
+        Call::Deliver(_) => text.add(" deliver a body"),
+        Call::MarkSaved { .. } => text.add(" mark saved"),
     }
 }
 
-/// The moves of a plan.
-fn moves_said(alloc: Global, plan: &Plan) -> Result<String, Fault> {
-    let mut runs = Runs::new(alloc);
-    for next in plan.as_slice() {
-        runs.add(format!(in alloc; "{next:?}")?)?;
-    }
-    runs.finish()
+/// Adds a side, what it is asked, and how many or which.
+fn add_asked(side: Side, asked: &str, number: u32, text: &mut Answer) {
+    text.word(&side);
+    text.add(asked);
+    text.word(&number);
 }
 
-/// An instruction.
-pub fn said(alloc: Global, instruction: &Instruction) -> Result<String, Fault> {
-    Ok(match instruction {
+/// Adds an instruction, behind a space where its line has begun.
+pub fn add_instruction(instruction: &Instruction, text: &mut Answer) {
+    match instruction {
         Instruction::Call { side, call } => {
-            let call = call_said(alloc, call)?;
-            format!(in alloc; "{side} {call}")?
+            text.word(side);
+            add_call(call, text);
         }
-        Instruction::Save { side, count } => format!(in alloc; "{side} save {count}")?,
-        Instruction::Deliver { side, packet } => format!(in alloc; "{side} deliver {packet}")?,
-        Instruction::Restart { side, keep } => format!(in alloc; "{side} restart {keep}")?,
+        Instruction::Save { side, count } => add_asked(*side, " save", *count, text),
+        Instruction::Deliver { side, packet } => add_asked(*side, " deliver", *packet, text),
+        Instruction::Restart { side, keep } => add_asked(*side, " restart", *keep, text),
         Instruction::Plan { side, plan } => {
-            let moves = moves_said(alloc, plan)?;
-            format!(in alloc; "plan {side} {moves}")?
+            text.word(&"plan");
+            text.word(side);
+            text.add(" ");
+            add_moves(plan, text);
         }
-        Instruction::Carry { side } => format!(in alloc; "{side} carry")?,
-    })
+        Instruction::Carry { side } => {
+            text.word(side);
+            text.add(" carry");
+        }
+    }
 }

@@ -3,19 +3,29 @@
 use crate::nomination::nomination;
 use gi_calls::Words;
 use gi_desk::{Body, Call, Desk, Role};
-use gi_pairs::{CycleId, Side};
+use gi_pairs::Side;
 use gi_processing::{Contract, Notice};
 use gi_world::{Step, World};
 use std::alloc::{AllocError, Global};
 
 /// A contract: portfolio, day, direction, and the firm and the interruptible quantity in kWh/h.
 fn contract(mut words: Words<'_>) -> Option<Contract> {
+    let (Some(portfolio), Some(day), Some(direction)) = (
+        words.code(),
+        words.day(),
+        words.direction(),
+    ) else {
+        return None;
+    };
+    let (Some(firm), Some(interruptible)) = (words.quantity(), words.quantity()) else {
+        return None;
+    };
     Some(Contract {
-        portfolio: words.code()?,
-        day: words.day()?,
-        direction: words.direction()?,
-        firm: words.quantity()?,
-        interruptible: words.quantity()?,
+        portfolio,
+        day,
+        direction,
+        firm,
+        interruptible,
     })
 }
 
@@ -27,21 +37,22 @@ fn per_mille(words: &mut Words<'_>) -> Option<u16> {
 /// A notice: day, direction, first and last hour, and the thousandths of firm and interruptible
 /// quantities.
 fn notice(mut words: Words<'_>) -> Option<Notice> {
+    let (Some(day), Some(direction)) = (words.day(), words.direction()) else {
+        return None;
+    };
+    let (Some(first), Some(last)) = (words.byte(), words.byte()) else {
+        return None;
+    };
+    let (Some(firm), Some(interruptible)) = (per_mille(&mut words), per_mille(&mut words)) else {
+        return None;
+    };
     Some(Notice {
-        day: words.day()?,
-        direction: words.direction()?,
-        first: words.byte()?,
-        last: words.byte()?,
-        firm: per_mille(&mut words)?,
-        interruptible: per_mille(&mut words)?,
-    })
-}
-
-/// A cycle: its gas day and its number.
-pub fn cycle(words: &mut Words<'_>) -> Option<CycleId> {
-    Some(CycleId {
-        day: words.day()?,
-        cycle: words.byte()?,
+        day,
+        direction,
+        first,
+        last,
+        firm,
+        interruptible,
     })
 }
 
@@ -50,22 +61,29 @@ pub fn body(alloc: Global, text: &str) -> Result<Body, AllocError> {
     Ok(Body::from(Vec::from_slice(alloc, text.as_bytes())?))
 }
 
+/// The delivery of a text.
+pub fn delivery(alloc: Global, text: &str) -> Result<Option<Call>, AllocError> {
+    Ok(Some(Call::Deliver(body(alloc, text)?)))
+}
+
+/// The submission of a text.
+fn submission(alloc: Global, text: &str) -> Result<Option<Call>, AllocError> {
+    Ok(Some(Call::Submit(body(alloc, text)?)))
+}
+
 /// What the words ask of a desk, if that is a contract, a notice, a nomination, a closing, a
 /// resending or a halt.
 pub fn call_of(alloc: Global, mut words: Words<'_>) -> Result<Option<Call>, AllocError> {
-    Ok(match words.next() {
-        "contract" => contract(words).map(Call::Contract),
-        "notice" => notice(words).map(Call::Notice),
-        "submit" => Some(Call::Submit(body(alloc, words.rest())?)),
-        "nominate" => {
-            let text = nomination(alloc, words)?;
-            Some(Call::Submit(body(alloc, text.as_str())?))
-        }
-        "close" => cycle(&mut words).map(Call::Close),
-        "resend" => cycle(&mut words).map(Call::Resend),
-        "halt" => Some(Call::Halt),
-        _ => None,
-    })
+    match words.next() {
+        "contract" => Ok(contract(words).map(Call::Contract)),
+        "notice" => Ok(notice(words).map(Call::Notice)),
+        "submit" => submission(alloc, words.rest()),
+        "nominate" => submission(alloc, nomination(alloc, words)?.as_str()),
+        "close" => Ok(words.cycle().map(Call::Close)),
+        "resend" => Ok(words.cycle().map(Call::Resend)),
+        "halt" => Ok(Some(Call::Halt)),
+        _ => Ok(None),
+    }
 }
 
 /// The mark of a desk's next fact to save, if there is one.
@@ -103,9 +121,9 @@ pub fn step_of(
     let call = match rest.next() {
         "deliver" => return Ok(packet(&mut rest).map(|packet| Step::Deliver { side, packet })),
         "restart" => return Ok(rest.number().map(|keep| Step::Restart { side, keep })),
-        "slip" => Some(Call::Deliver(body(alloc, rest.rest())?)),
-        "save" => mark_of(world, side)?,
-        _ => call_of(alloc, words)?,
-    };
+        "slip" => delivery(alloc, rest.rest()),
+        "save" => mark_of(world, side),
+        _ => call_of(alloc, words),
+    }?;
     Ok(call.map(|call| Step::Local { side, call }))
 }

@@ -1,8 +1,8 @@
 //! The matching operator's desk by itself, which takes whatever it is handed.
 
 use crate::worlds::answers::{add_counts, add_reply};
-use crate::worlds::asking::{body, call_of, mark};
-use gi_calls::{Fault, Words};
+use crate::worlds::asking::{call_of, delivery, mark};
+use gi_calls::{Answer, Fault, Words};
 use gi_day::Calendar;
 use gi_desk::{Call, Desk};
 use gi_matcher::Matching;
@@ -22,10 +22,25 @@ fn asked(
 ) -> Result<Option<Call>, AllocError> {
     let mut rest = words;
     match rest.next() {
-        "deliver" => Ok(Some(Call::Deliver(body(alloc, rest.rest())?))),
+        "deliver" => delivery(alloc, rest.rest()),
         "save" => mark(desk),
         _ => call_of(alloc, words),
     }
+}
+
+/// Makes the call that the words ask of the desk, and adds what it answers. `false` where they ask
+/// nothing of it.
+fn make(
+    alloc: Global,
+    desk: &mut Desk<Matching>,
+    words: Words<'_>,
+    text: &mut Answer,
+) -> Result<bool, Fault> {
+    let Some(call) = asked(alloc, desk, words)? else {
+        return Ok(false);
+    };
+    add_reply(&desk.step(&call), text);
+    Ok(true)
 }
 
 impl Lone {
@@ -35,23 +50,24 @@ impl Lone {
     }
 
     /// A desk without facts, at the interconnection point.
-    fn begin(
-        &mut self,
-        alloc: Global,
-        mut words: Words<'_>,
-        text: &mut String,
-    ) -> Result<bool, Fault> {
-        let (Some(point), Ok(calendar)) = (words.code(), Calendar::new()) else {
-            return Ok(false);
+    fn begin(&mut self, alloc: Global, mut words: Words<'_>, text: &mut Answer) -> bool {
+        let Some(point) = words.code() else {
+            return false;
+        };
+        let Ok(calendar) = Calendar::new() else {
+            return false;
         };
         match Desk::replay(alloc, calendar, point, Vec::new(alloc)) {
             Ok(desk) => {
                 self.desk = Some(desk);
-                text.push_str("ok\n")?;
+                text.add("ok\n");
             }
-            Err(fault) => write!(text, "{fault}\n")?,
+            Err(fault) => {
+                text.show(&fault);
+                text.end_line();
+            }
         }
-        Ok(true)
+        true
     }
 
     /// Adds what the desk answers. `false` where the words ask nothing of it.
@@ -59,23 +75,19 @@ impl Lone {
         &mut self,
         alloc: Global,
         words: Words<'_>,
-        text: &mut String,
+        text: &mut Answer,
     ) -> Result<bool, Fault> {
         let mut rest = words;
         if rest.next() == "new" {
-            return self.begin(alloc, rest, text);
+            return Ok(self.begin(alloc, rest, text));
         }
         let Some(desk) = &mut self.desk else {
             return Ok(false);
         };
-        if words.rest() == "counts" {
-            add_counts(desk, text)?;
-            return Ok(true);
+        if words.rest() != "counts" {
+            return make(alloc, desk, words, text);
         }
-        let Some(call) = asked(alloc, desk, words)? else {
-            return Ok(false);
-        };
-        add_reply(&desk.step(&call), text)?;
+        add_counts(desk, text);
         Ok(true)
     }
 }
