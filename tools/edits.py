@@ -5,7 +5,7 @@ import os
 import re
 
 FUNCTION = re.compile(r"^( *)(?:pub(?:\(\w+\))? )?(?:const )?fn (\w+)")
-OWNER = re.compile(r"^(?:impl(?:<[^>]*>)?|(?:pub )?trait) (.*?) *\{?$")
+OWNER = re.compile(r"^(?:impl(?:<[^>]*>)?|(?:pub(?:\(\w+\))? )?trait) (.*?) *\{?$")
 
 
 def text_of(file):
@@ -110,7 +110,7 @@ class Edit:
         if old:
             raise ValueError("an 'old:' line has no 'new:' line")
         if by:
-            self.is_alone, self.functions = True, {by: None}
+            self.is_alone, self.is_whole, self.functions = True, True, {by: None}
         if not self.functions:
             raise ValueError("it changes no function, and no line 'by:' names one")
 

@@ -1,5 +1,6 @@
 """What the tools here take of the Rattle kit's own scripts, its command rt and the module rtlib below it: the repository's crates,
 their libraries and the words of a check. And the sum of all that a verdict on a crate stands on."""
+import functools
 import hashlib
 import importlib.machinery
 import importlib.util
@@ -78,16 +79,23 @@ def processors():
 
 
 def need(crate, jobs):
-    """About the most memory that a check of the crate takes, in bytes: half of rt's own estimate, which no check here came near."""
+    """About the most memory that a check of the crate takes, in bytes."""
+    return need_of_one(crate) * (1 + 0.3 * (jobs - 1))
+
+
+@functools.cache
+def need_of_one(crate):
+    """What one job needs: half of rt's own estimate, which no check here came near."""
     own = sum(rtlib.text_of(it).count("\n") for it in rtlib.files_of(crate.folder) if it.endswith(".antt"))
     named = {name for it in [crate, *crate.below()] for name in it.of_kit} - {*rtlib.SEALED, "io", "libc", "os"}
     files = [f"{rtlib.KIT}/rlibs/{it}.rlib/toolchain/checked.a" for it in named]
     loaded = sum(os.path.getsize(it) for it in files if os.path.isfile(it))
     below = sum(it.count(rb"\n") for it in crate.below())
     whole = 1_000_000_000 + 1_000_000 * crate.count(rb"\n") + 200_000 * own + 80_000 * below + min(5 * loaded, 2_500_000_000)
-    return whole / 2 * (1 + 0.3 * (jobs - 1))
+    return whole / 2
 
 
+@functools.cache
 def lines_of(crate):
     return sum(rtlib.text_of(it).count("\n") for it in rtlib.files_of(crate.folder))
 

@@ -24,8 +24,8 @@ class Trial:
     def said(self, changes, functions, has_holes, copies=()):
         """What a check of these functions says where the crate has these changes, and for the functions of which there is a copy
         also a copy of what helps to prove them: each function's verdict, or None where the check did not come to any, and what it
-        printed. With holes all other functions have one in the place of their proof and no body, so that what these call costs nothing,
-        and a function is proved where it is under the contracts of what it calls."""
+        printed. With holes all other functions, the methods of traits aside, have one in the place of their proof and no body, so that
+        what these call costs nothing, and a function is proved where it is under the contracts of what it calls."""
         for part in kit.rtlib.PARTS:
             shutil.rmtree(f"{self.room}/{part}", ignore_errors=True)
             if os.path.isdir(f"{self.crate.folder}/{part}"):

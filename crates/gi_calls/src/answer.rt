@@ -5,8 +5,9 @@ use std::fmt::{Debug, Display, Write};
 /// What a call answers, as text.
 ///
 /// No part of it is refused, so that who adds it has nothing to hand on: where there is no memory for
-/// one it is left out, and this is told when the text is taken.
-#[derive(Drop)]
+/// one it is left out, which is told when the text is taken. The values that are added here are shown
+/// without a refusal of their own.
+#[derive(Drop, PartialEq)]
 pub struct Answer {
     text: String,
     is_whole: bool,
@@ -21,9 +22,9 @@ impl Answer {
         }
     }
 
-    /// The text so far.
-    pub fn as_str(&self) -> &str {
-        self.text.as_str()
+    /// Takes back the text so far, but not that there was no memory for a part of it.
+    pub fn clear(&mut self) {
+        self.text.clear();
     }
 
     /// Adds a text.
@@ -66,14 +67,14 @@ impl Answer {
     /// Adds `ok`, or the refusal in its place.
     pub fn done<T, E: Display>(&mut self, given: &Result<T, E>) {
         match given {
-            Ok(_) => self.add("ok"),
+            Ok(_) => self.word(&"ok"),
             Err(fault) => self.word(fault),
         }
     }
 
     /// Adds the text of another answer.
     pub fn append(&mut self, answer: &Answer) {
-        self.add(answer.as_str());
+        self.add(answer.text.as_str());
         self.is_whole &= answer.is_whole;
     }
 
@@ -84,7 +85,7 @@ impl Answer {
 
     /// Adds the lines of another answer, each behind `= `.
     pub(crate) fn add_lines_of(&mut self, answer: &Answer) {
-        for line in answer.as_str().lines() {
+        for line in answer.text.as_str().lines() {
             self.add("= ");
             self.add(line);
             self.end_line();

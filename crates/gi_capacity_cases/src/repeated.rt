@@ -57,7 +57,7 @@ impl<S: Subject> Repeated<S> {
             if !self.subject.answer(rt, call.as_str(), &mut answer)? {
                 return Ok(false);
             }
-            if number > first && answer.as_str() != run.1.as_str() {
+            if number > first && answer != run.1 {
                 add_run(run.0, number - 1, &run.1, text);
                 run.0 = number;
             }

@@ -85,7 +85,7 @@ fn id(state: &CycleState, text: &mut Answer) -> bool {
         CycleState::Matched(_) => "Matched",
     };
     let CycleId { day, cycle } = cycle_of(state);
-    text.show(&name);
+    text.add(name);
     text.word(&day);
     text.word(&cycle);
     true
@@ -108,7 +108,7 @@ fn add_reading(state: &CycleState, name: &str, key: &Key, hour: u8, text: &mut A
         return;
     };
     let reading = table.at(key.pair, key.direction, hour);
-    text.show(&name);
+    text.add(name);
     text.word(&reading);
     text.end_line();
 }

@@ -131,7 +131,7 @@ impl<R: Role, L: Ledger> Opened<R, L> {
         let count = words.byte().unwrap_or(0);
         let line = words.rest();
         for _ in 0..count {
-            *text = Answer::new(alloc);
+            text.clear();
             if !self.call(handle, alloc, line, text)? {
                 return Ok(false);
             }

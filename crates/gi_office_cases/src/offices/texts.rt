@@ -1,7 +1,7 @@
 //! Receipts, and what is left of an office, as text.
 
 use gi_calls::Answer;
-use gi_desk::{Answer as DeskAnswer, Packet, Recipient, Reply, Role};
+use gi_desk::{Packet, Recipient, Reply, Role};
 use gi_office::{Entry, OfficeFault, Receipt, Settled, Unsettled};
 
 /// Adds a name and the number of a fact.
@@ -11,14 +11,14 @@ fn add_numbered(name: &str, n: u32, text: &mut Answer) {
 }
 
 /// Adds `Recorded 4`, or the refusal.
-fn add_answer(answer: DeskAnswer, text: &mut Answer) {
+fn add_answer(answer: gi_desk::Answer, text: &mut Answer) {
     match answer {
-        DeskAnswer::Recorded { n } => add_numbered("Recorded", n, text),
-        DeskAnswer::Repeat { n } => add_numbered("Repeat", n, text),
-        DeskAnswer::Saved { n } => add_numbered("Saved", n, text),
-        DeskAnswer::Resent => text.add("Resent"),
-        DeskAnswer::Stopped => text.add("Stopped"),
-        DeskAnswer::Refused(refusal) => text.show(&refusal),
+        gi_desk::Answer::Recorded { n } => add_numbered("Recorded", n, text),
+        gi_desk::Answer::Repeat { n } => add_numbered("Repeat", n, text),
+        gi_desk::Answer::Saved { n } => add_numbered("Saved", n, text),
+        gi_desk::Answer::Resent => text.add("Resent"),
+        gi_desk::Answer::Stopped => text.add("Stopped"),
+        gi_desk::Answer::Refused(refusal) => text.show(&refusal),
     }
 }
 

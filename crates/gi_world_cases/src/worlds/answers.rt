@@ -1,7 +1,7 @@
 //! What comes of a step, and what is asked about, as text.
 
 use gi_calls::Answer;
-use gi_desk::{Answer as DeskAnswer, Desk, Packet, Recipient, Reply, Role};
+use gi_desk::{Desk, Packet, Recipient, Reply, Role};
 use gi_pairs::{Row, Table};
 use gi_world::{WorldFault, WorldReply};
 
@@ -43,7 +43,7 @@ pub fn add_kept(packets: &[Packet], text: &mut Answer) {
 /// Adds a desk's answer, and a line for each packet that it lets out.
 pub fn add_reply(reply: &Reply, text: &mut Answer) {
     match reply.answer {
-        DeskAnswer::Refused(refusal) => {
+        gi_desk::Answer::Refused(refusal) => {
             text.add("Refused");
             text.word(&refusal);
         }
