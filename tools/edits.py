@@ -45,8 +45,11 @@ class Function:
             self.body = opened.end() + 1, self.end - len(f"{found[1]}}}\n")
         self.is_of_trait = header is not None and (" for " in header[1] or "trait " in header[0])
         has_attribute = first > 0 and lines[first - 1].strip().startswith("#[")
-        has_own_theorem = os.path.exists(f"{crate.folder}/proofs/{'/'.join(self.parts)}/Proof.antt")
+        files = f"{crate.folder}/proofs/{'/'.join(self.parts)}"
+        self.has_files, has_own_theorem = os.path.isdir(files), os.path.exists(f"{files}/Proof.antt")
         self.can_be_copied = not (self.is_of_trait or has_attribute or has_own_theorem or not self.body)
+        call = rf"(?:\b[sS]elf(?:\.|::)|(?<![\w.:])){self.own_name}\("
+        self.calls_itself = self.body is not None and re.search(call, text[slice(*self.body)]) is not None
 
     def copy(self, text, name, changes):
         """What puts a copy of the function of that name and with these changes under it: a change, and the copy's name."""

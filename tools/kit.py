@@ -102,33 +102,64 @@ def lines_of(crate):
 
 def side_by_side(tasks, work, waits=lambda task, other: False, crate_of=lambda task: task, weight=lines_of, jobs=1, look=lambda: None):
     """Does each task, which is the work of a crate, each after all those that it waits for, as many side by side as there are processors and memory,
-    and gives what each answered. The first is that with which the heaviest way begins, through those that wait: it is given all
-    jobs, and the others one each, of a lower priority. A look is taken each second."""
+    and gives what each answered. The first is that with which the heaviest way begins, through those that wait: it is given the
+    jobs that no other task has, and half of all at least, since each further job costs half as much again; the others have one each, of
+    a lower priority. A look is taken each second."""
     ways = {}
     for task in sorted(tasks, key=lambda it: -sum(waits(it, other) for other in tasks)):
         ways[task] = weight(task) + max((ways[it] for it in ways if waits(it, task)), default=0)
     left = sorted(tasks, key=lambda it: -ways[it])
     memory = 0.85 * 1024 * rtlib.number_in("/proc/meminfo", r"MemAvailable:\s+(\d+)")
     running, given = {}, {}
-    with ThreadPoolExecutor(processors()) as first, ThreadPoolExecutor(processors(), initializer=os.nice, initargs=(10,)) as others:
+    with ThreadPoolExecutor(processors()) as first, ThreadPoolExecutor(processors(), initializer=os.nice, initargs=(10,)) as lower:
         while left or running:
             busy = [*left, *(it for it, _ in running.values())]
-            for task in [it for it in left if not any(waits(it, other) for other in busy)]:
+            ready = [it for it in left if not any(waits(it, other) for other in busy)]
+            others = len(ready) - 1 + len(running)
+            for task in ready:
                 is_first = all(ways[task] >= ways[it] for it in busy)
-                own_jobs = jobs if is_first else 1
+                own_jobs = max(jobs // 2, jobs - others, 1) if is_first else 1
                 needs = need(crate_of(task), own_jobs) + sum(need(crate_of(it), count) for it, count in running.values())
                 if len(running) < processors() and (not running or needs < memory):
                     left.remove(task)
-                    running[(first if is_first else others).submit(work, task, own_jobs)] = task, own_jobs
+                    running[(first if is_first else lower).submit(work, task, own_jobs)] = task, own_jobs
             for it in wait(running, timeout=1, return_when=FIRST_COMPLETED).done:
                 given[running.pop(it)[0]] = it.result()
             look()
     return given
 
 
+def use_own(crates):
+    """Has the crates use the libraries that build_library makes, in place of those that rt makes."""
+    for it in crates:
+        it.rlib = f"{it.folder}/out/statements/{it.name}.rlib"
+
+
+def note_of(crate):
+    return f"{os.path.dirname(crate.rlib)}/made-from"
+
+
+def is_built(crate):
+    """Whether the crate's library is there, and made from the present files of the crate and of those below."""
+    return os.path.isdir(crate.rlib) and rtlib.text_of(note_of(crate)) == stamp_of(crate)
+
+
+def build_library(crate, jobs):
+    """Proves a library from nothing and builds it, with what others can cite of it and without its proofs, as rt ci does. Gives the status."""
+    folder, stamp = os.path.dirname(crate.rlib), stamp_of(crate)
+    shutil.rmtree(folder, ignore_errors=True)
+    os.makedirs(folder)
+    words = [*crate.words(["--jobs", str(jobs)], keeps=False), "--statements", "-o", crate.rlib]
+    status = crate.call(rtlib.RATTLE, "build", *words)
+    if status == 0 and stamp == stamp_of(crate):
+        with open(note_of(crate), "w", encoding="utf-8") as note:
+            note.write(stamp)
+    return status
+
+
 def build_libraries(libraries, started=lambda crate: None, ended=lambda crate, status, said: None, look=lambda: None):
-    """Proves and builds the libraries, lowest first, side by side where none stands on the other, and gives whether all are
-    proved. What is built stays, so that a build which was interrupted goes on from there."""
+    """Proves and builds those of the libraries that are not built, lowest first, side by side where none stands on the other, and gives
+    whether all are proved. Each that is built stays, so that a build which was interrupted goes on from there."""
     failed = set()
 
     def work(crate, jobs):
@@ -137,7 +168,7 @@ def build_libraries(libraries, started=lambda crate: None, ended=lambda crate, s
             return
         started(crate)
         with tempfile.TemporaryFile("a+", errors="replace") as crate.out:
-            status = crate.build_rlib(["--jobs", str(jobs)], anew=False)
+            status = build_library(crate, jobs)
             crate.out.seek(0)
             said = crate.out.read()
         if status:

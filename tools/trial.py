@@ -114,7 +114,10 @@ def are_ready(crates, tried, is_after_ci):
     kit.rtlib.guarded()
     kit.rtlib.lock(list(crates.values()))
     below = [it for it in crates.values() if any(it in crate.below() for crate in tried)]
-    return (is_after_ci and all(map(is_of_ci, below))) or kit.build_libraries([it for it in below if not it.is_built()])
+    if is_after_ci and all(map(is_of_ci, below)):
+        return True
+    kit.use_own(crates.values())
+    return kit.build_libraries([it for it in below if not kit.is_built(it)])
 
 
 def counted(passed, failed):
