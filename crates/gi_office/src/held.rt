@@ -1,4 +1,5 @@
-ghost use Rattle.std.specs.Prelude.{◌≡◌, ◌≢◌, IfSome, ◌≤◌, ◌+◌, ◌↔◌, Err, IfOk, OnErr, OnOk, false, length};
+ghost use Rattle.std.specs.Prelude.{◌≡◌, ◌≢◌, IfSome, ◌<◌, ◌≤◌, ◌↔◌, Err, IfOk, OnErr, OnOk, false, length, vec_capacity, vec_len};
+ghost use Rattle.gi_desk.specs.Machine.{after, reply as reply_of};
 ghost use Rattle.gi_office.specs.Entering.{entered, noted, receipt_of};
 ghost use Rattle.gi_office.specs.Keeping.{IsFull, IsKept};
 ghost use Rattle.gi_office.specs.Limits.{most_seats};
@@ -28,6 +29,73 @@ use std::sync::ledger::{Blank, Book, Ledger};
 
 /// How many seats an office has at most.
 pub const MOST_SEATS: usize = 16;
+
+/// Room for one more in each; what they hold stays, whatever comes.
+fn room(trail: &mut Vec<Entry>, notes: &mut Vec<Note>) -> Result<(), AllocError>
+    ensures trail { trail.new.items ≡ trail.old.items }
+    ensures notes { notes.new.items ≡ notes.old.items }
+    ensures entry { OnOk result (vec_len trail.new < vec_capacity trail.new) }
+    ensures note { OnOk result (vec_len notes.new < vec_capacity notes.new) }
+{
+    trail.reserve(1)?;
+    notes.reserve(1)
+}
+
+fn entry_of(alloc: Global, number: u8, call: &Call, reply: &Reply) -> Result<Entry, AllocError>
+    ensures { IfOk result (λ entry. entry ≡ record { seat = number; call = call.now; reply = reply.now }) }
+{
+    let reply = reply_copy(alloc, reply)?;
+    let call = call.copy()?;
+    Ok(Entry {
+        seat: number,
+        call,
+        reply,
+    })
+}
+
+fn note_of(alloc: Global, place: u64, call: Call, reply: &Reply) -> Result<Note, AllocError>
+    ensures { IfOk result (λ note. note ≡ record { place = place; call = call; reply = reply.now }) }
+{
+    let reply = reply_copy(alloc, reply)?;
+    Ok(Note { place, call, reply })
+}
+
+/// What is kept of a call: the entry of the trail and the note of the seat.
+fn written(
+    alloc: Global,
+    number: u8,
+    place: u64,
+    call: Call,
+    reply: &Reply,
+) -> Result<(Entry, Note), AllocError>
+    ensures entry { IfOk result (λ both. both.0 ≡ record { seat = number; call = call; reply = reply.now }) }
+    ensures note { IfOk result (λ both. both.1 ≡ record { place = place; call = call; reply = reply.now }) }
+{
+    let entry = entry_of(alloc, number, &call, reply)?;
+    let note = note_of(alloc, place, call, reply)?;
+    Ok((entry, note))
+}
+
+/// Makes a step of the desk, and gives its reply and what is kept of it. The copies are made before
+/// the desk changes, so that want of memory leaves nothing to take back.
+fn step<R: Role>(
+    alloc: Global,
+    desk: &mut Desk<R>,
+    number: u8,
+    place: u64,
+    call: Call,
+) -> Result<(Reply, (Entry, Note)), AllocError>
+    ensures reply { IfOk result (λ step. step.0 ≡ reply_of R.SIDE desk.old call) }
+    ensures entry { IfOk result (λ step. step.1.0 ≡ record { seat = number; call = call; reply = reply_of R.SIDE desk.old call }) }
+    ensures note { IfOk result (λ step. step.1.1 ≡ record { place = place; call = call; reply = reply_of R.SIDE desk.old call }) }
+    ensures next { OnOk result (desk.new ≡ after R.SIDE desk.old call) }
+    ensures kept { OnErr result (desk.new ≡ desk.old) }
+{
+    let prepared = desk.prepare(&call)?;
+    let copies = written(alloc, number, place, call, prepared.reply())?;
+    let reply = desk.make(prepared)?;
+    Ok((reply, copies))
+}
 
 /// What the lock of an office keeps: the desk, and the trail of all calls since it was opened.
 #[derive(Drop)]
@@ -94,24 +162,6 @@ impl<R: Role, L: Ledger> Held<R, L> {
         let _ = self.trail.len();
     }
 
-    /// All copies are made before the desk changes, so that want of memory leaves nothing to take back.
-    fn written(&self, number: u8, call: Call, reply: &Reply) -> Result<(Entry, Note), AllocError>
-        ensures entry { IfOk result (λ both. both.0 ≡ record { seat = number; call = call; reply = reply.now }) }
-        ensures note { IfOk result (λ both. both.1 ≡ record { place = length self.now.trail + 1; call = call; reply = reply.now }) }
-    {
-        let entry = Entry {
-            seat: number,
-            call: call.copy()?,
-            reply: reply_copy(self.alloc, reply)?,
-        };
-        let note = Note {
-            place: self.trail.len() as u64 + 1,
-            call,
-            reply: reply_copy(self.alloc, reply)?,
-        };
-        Ok((entry, note))
-    }
-
     /// Makes one step of the desk, which is one entry of the trail and one note of the seat; each is
     /// counted. A refusal of the desk is an entry like any other reply, but for want of memory: then,
     /// or where a copy or its place is refused, `OutOfMemory` comes and all is as before. `SeatFull`
@@ -127,14 +177,12 @@ impl<R: Role, L: Ledger> Held<R, L> {
             return Err(OfficeFault::SeatFull);
         }
         only_appends();
-        let prepared = self.desk.prepare(&call)?;
-        let (entry, note) = self.written(seat.number, call, prepared.reply())?;
-        self.trail.reserve(1)?;
-        seat.notes.reserve(1)?;
-        let reply = self.desk.make(prepared)?;
+        room(&mut self.trail, &mut seat.notes)?;
+        let place = self.trail.len() as u64 + 1;
+        let (reply, (entry, note)) = step(self.alloc, &mut self.desk, seat.number, place, call)?;
         let receipt = Receipt {
             seat: seat.number,
-            place: note.place,
+            place,
             reply,
         };
         self.trail.push_reserved(entry);

@@ -1,7 +1,5 @@
-use Rattle.std.proofs.Common.{◌≡◌, ◌+◌, [], ◌∷◌, ◌++◌, ap, ◌∙◌}
-use Rattle.gi_desk.specs.Machine.{after, reply}
-use Rattle.gi_desk.specs.declared.prepared.Prepared.{Prepared}
-use Rattle.gi_desk.specs.declared.reply.Reply.{Reply}
+use Rattle.std.proofs.Common.{◌≡◌, [], ◌∷◌, ◌++◌, ◌∙◌}
+use Rattle.gi_desk.specs.Machine.{reply}
 use Rattle.gi_office.specs.Keeping.{HeldState, SeatState}
 use Rattle.gi_office.specs.declared.entry.Entry.{Entry}
 use Rattle.gi_office.proofs.Runs.{entered_kept}
@@ -14,10 +12,5 @@ invariant_of-self-2 g c =
     let held : HeldState = record { opening = inside.opening; seats = inside.seats; desk = inside.desk; trail = inside.trail.items; total = inside.book.total } in
     let seat : SeatState = record { number = c.seat.inside.number; notes = c.seat.inside.notes.items; amount = c.seat.inside.share.amount; parts = c.seat.inside.share.parts } in
     let entry : Entry = record { seat = seat.number; call = c.args.call; reply = reply side held.desk c.args.call } in
-    let replied : c.reply.result.now ≡ reply side held.desk c.args.call = c.reply.ensures ∙ ap (λ (p : Prepared). p.reply) c.in_ok-prepared.ensures.value in
-    let written : c.in_ok-entry.entry ≡ entry =
-    c.in_ok-entry.ensures.entry ∙ ap (λ (r : Reply). let e : Entry = record { seat = seat.number; call = c.args.call; reply = r } in e) replied in
-    let desk : c.make.new.self ≡ after side held.desk c.args.call = c.in_ok-reply.ensures.next c.args.call c.in_ok-prepared.ensures.value in
-    let trail : c.push_reserved.new.self.items ≡ held.trail ++ entry ∷ [] = c.push_reserved.ensures.items ∙ (λ i. c.reserve.ensures.items i ++ written i ∷ []) in
-    let total : c.add.new.self.total ≡ held.total + 1 = c.add.ensures.total in
-    rw (desk, trail, total) (entered_kept c.only_appends.ensures side held seat c.args.call c.self.invariant)
+    let trail : c.push_reserved.new.self.items ≡ held.trail ++ entry ∷ [] = c.push_reserved.ensures.items ∙ (λ i. c.room.ensures.trail i ++ c.in_ok-reply.ensures.entry i ∷ []) in
+    rw (c.in_ok-reply.ensures.next, trail, c.add.ensures.total) (entered_kept c.only_appends.ensures side held seat c.args.call c.self.invariant)
