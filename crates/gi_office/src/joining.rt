@@ -1,12 +1,13 @@
 //! The lives of two offices of one operator, joined where the later one was opened with what the
 //! former one left.
 
-ghost use Rattle.std.specs.Prelude.{◌≡◌, ◌≤◌, ◌↔◌, IfOk, IsTrue, MatchOption, length, take};
+ghost use Rattle.std.specs.Prelude.{◌≡◌, ◌≤◌, ◌↔◌, ◌∷◌, ◌++◌, IfOk, IsTrue, MatchOption, OnOk, length, take};
 ghost use Rattle.std.specs.Option.{option_copied};
 ghost use Rattle.gi_office.specs.Joining.{Breaks, IsOther, Joins, joined_of, opening_of};
 ghost use Rattle.gi_office.specs.Settling.{GoesOn};
 
 use crate::comparing::is_same_fact;
+use crate::entry::Entry;
 use crate::life_fault::LifeFault;
 use crate::settled::Settled;
 use crate::stretch::Stretch;
@@ -51,6 +52,22 @@ fn break_of<R: Role>(former: &Desk<R>, later: &Desk<R>, opening: u32) -> Option<
     None
 }
 
+/// Puts the later lists behind the former ones, and the stretch of the former one's last life between.
+fn append(
+    earlier: &mut Vec<Stretch>,
+    last: Stretch,
+    further: &mut Vec<Stretch>,
+    trail: &mut Vec<Entry>,
+    further_trail: &mut Vec<Entry>,
+) -> Result<(), AllocError>
+    ensures earlier { OnOk result (earlier.new.items ≡ earlier.old.items ++ last ∷ further.old.items) }
+    ensures trail { OnOk result (trail.new.items ≡ trail.old.items ++ further_trail.old.items) }
+{
+    earlier.push(last)?;
+    earlier.append(further)?;
+    trail.append(further_trail)
+}
+
 fn joined<R: Role>(former: Settled<R>, later: Settled<R>) -> Result<Settled<R>, AllocError>
     requires { GoesOn former.desk later.desk.point (opening_of later.lives) }
     ensures { IfOk result (λ joined. joined ≡ joined_of former later) }
@@ -75,9 +92,13 @@ fn joined<R: Role>(former: Settled<R>, later: Settled<R>) -> Result<Settled<R>, 
     let mut further_trail = further_trail;
     let calls = trail.len() - before;
     let before = trail.len() + further_before;
-    earlier.push(Stretch { opening, calls })?;
-    earlier.append(&mut further)?;
-    trail.append(&mut further_trail)?;
+    append(
+        &mut earlier,
+        Stretch { opening, calls },
+        &mut further,
+        &mut trail,
+        &mut further_trail,
+    )?;
     Ok(Settled {
         earlier,
         before,
