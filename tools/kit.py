@@ -9,7 +9,6 @@ import re
 import shutil
 import sys
 import tempfile
-import threading
 from concurrent.futures import FIRST_COMPLETED, ThreadPoolExecutor, wait
 
 TOP = os.path.dirname(os.path.dirname(os.path.realpath(__file__)))
@@ -30,30 +29,6 @@ def load():
 
 rt = load()
 rtlib = rt.rtlib
-
-
-def stamps_once(stamp):
-    """The kit's sum of all that a library is made from, made once for each crate below within one call: the kit's own makes that of a
-    crate anew for each way that leads down to it."""
-    call = threading.local()
-
-    def once(crate):
-        is_outermost = not hasattr(call, "made")
-        if is_outermost:
-            call.made = {}
-        try:
-            if crate not in call.made:
-                call.made[crate] = stamp(crate)
-            return call.made[crate]
-        finally:
-            if is_outermost:
-                del call.made
-
-    return once
-
-
-if hasattr(rtlib.Crate, "stamp"):  # (another kit may have none)
-    rtlib.Crate.stamp = stamps_once(rtlib.Crate.stamp)
 
 
 def stamp_of(crate):
