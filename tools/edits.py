@@ -48,8 +48,9 @@ class Function:
         files = f"{crate.folder}/proofs/{'/'.join(self.parts)}"
         self.has_files, has_own_theorem = os.path.isdir(files), os.path.exists(f"{files}/Proof.antt")
         self.can_be_copied = not (self.is_of_trait or has_attribute or has_own_theorem or not self.body)
-        call = rf"(?:\b[sS]elf(?:\.|::)|(?<![\w.:])){self.own_name}\("
-        self.calls_itself = self.body is not None and re.search(call, text[slice(*self.body)]) is not None
+        self.code = text[slice(*self.body)] if self.body else ""
+        self.names_itself = re.search(rf"\b{self.own_name}\b", self.code) is not None
+        self.has_promise = bool(self.code) and re.search(r"^ +ensures\b", text[self.start : self.body[0]], re.M) is not None
 
     def copy(self, text, name, changes):
         """What puts a copy of the function of that name and with these changes under it: a change, and the copy's name."""

@@ -104,37 +104,62 @@ def side_by_side(tasks, work, waits=lambda task, other: False, crate_of=lambda t
     return given
 
 
+# The libraries that were built on this machine, each in a folder named by the sum of all that it is made from, so that none is ever
+# stale, and every clone takes what another has built. What was not used for longest goes where they are more than so many bytes.
+STORE = os.path.join(os.environ.get("XDG_CACHE_HOME") or os.path.expanduser("~/.cache"), "vangolive", "libraries")
+STORE_MOST = 10_000_000_000
+
+
 def use_own(crates):
-    """Has the crates use the libraries that build_library makes, in place of those that rt makes."""
+    """Has the crates use the libraries of the store, made from the files as they are now, in place of those that rt makes."""
     for it in crates:
-        it.rlib = f"{it.folder}/out/statements/{it.name}.rlib"
-
-
-def note_of(crate):
-    return f"{os.path.dirname(crate.rlib)}/made-from"
+        it.rlib = f"{STORE}/{stamp_of(it)}/{it.name}.rlib"
 
 
 def is_built(crate):
-    """Whether the crate's library is there, and made from the present files of the crate and of those below."""
-    return os.path.isdir(crate.rlib) and rtlib.text_of(note_of(crate)) == stamp_of(crate)
+    """Whether the store has the crate's library, which then counts as used now."""
+    try:
+        os.utime(os.path.dirname(crate.rlib))
+        return True
+    except OSError:
+        return False
 
 
 def build_library(crate, jobs):
-    """Proves a library from nothing and builds it, with what others can cite of it and without its proofs, as rt ci does. Gives the status."""
-    folder, stamp = os.path.dirname(crate.rlib), stamp_of(crate)
-    shutil.rmtree(folder, ignore_errors=True)
-    os.makedirs(folder)
-    words = [*crate.words(["--jobs", str(jobs)], keeps=False), "--statements", "-o", crate.rlib]
-    status = crate.call(rtlib.RATTLE, "build", *words)
-    if status == 0 and stamp == stamp_of(crate):
-        with open(note_of(crate), "w", encoding="utf-8") as note:
-            note.write(stamp)
+    """Proves a library from nothing and puts it into the store, with what others can cite of it and without its proofs, as rt ci
+    builds it. Gives the status."""
+    folder = os.path.dirname(crate.rlib)
+    os.makedirs(STORE, 0o700, exist_ok=True)
+    with tempfile.TemporaryDirectory(dir=STORE, prefix="new-") as room:
+        words = [*crate.words(["--jobs", str(jobs)], keeps=False), "--statements", "-o", f"{room}/made/{crate.name}.rlib"]
+        os.makedirs(f"{room}/made")
+        status = crate.call(rtlib.RATTLE, "build", *words)
+        if status == 0 and os.path.basename(folder) != stamp_of(crate):
+            print(f"a file of {crate.name} or of a crate below changed meanwhile: run this again", file=crate.out)
+            return 1
+        if status == 0:
+            try:
+                os.rename(f"{room}/made", folder)
+            except OSError:
+                # (another run has put it there meanwhile)
+                return 0 if is_built(crate) else 1
     return status
 
 
+def shrink_store(crates):
+    """Removes what the store has too much, and none of the libraries of these crates."""
+    kept = {os.path.dirname(it.rlib) for it in crates}
+    folders = sorted((it for it in os.scandir(STORE) if it.is_dir()), key=lambda it: -it.stat().st_mtime) if os.path.isdir(STORE) else []
+    size = 0
+    for it in folders:
+        size += sum(os.path.getsize(f"{at}/{name}") for at, _, names in os.walk(it.path) for name in names)
+        if size > STORE_MOST and it.path not in kept:
+            shutil.rmtree(it.path, ignore_errors=True)
+
+
 def build_libraries(libraries, started=lambda crate: None, ended=lambda crate, status, said: None, look=lambda: None):
-    """Proves and builds those of the libraries that are not built, lowest first, side by side where none stands on the other, and gives
-    whether all are proved. Each that is built stays, so that a build which was interrupted goes on from there."""
+    """Proves and builds these libraries, lowest first, side by side where none stands on the other, and gives whether all are proved. Each
+    that is built stays, so that a build which was interrupted goes on from there."""
     failed = set()
 
     def work(crate, jobs):
@@ -151,4 +176,6 @@ def build_libraries(libraries, started=lambda crate: None, ended=lambda crate, s
         ended(crate, status, said)
 
     side_by_side(libraries, work, lambda crate, other: other in crate.below(), jobs=processors(), look=look)
+    if libraries:
+        shrink_store({below for it in libraries for below in [*it.below(), it]})
     return not failed
