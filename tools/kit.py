@@ -9,6 +9,7 @@ import re
 import shutil
 import sys
 import tempfile
+import time
 from concurrent.futures import FIRST_COMPLETED, ThreadPoolExecutor, wait
 
 TOP = os.path.dirname(os.path.dirname(os.path.realpath(__file__)))
@@ -146,14 +147,19 @@ def build_library(crate, jobs):
     return status
 
 
+# So old, in seconds, a folder of the store that is not finished was left by a run that was stopped.
+UNFINISHED = 86_400
+
+
 def shrink_store(crates):
-    """Removes what the store has too much, and none of the libraries of these crates."""
+    """Removes what stopped runs left in the store, and what it has too much, and none of the libraries of these crates."""
     kept = {os.path.dirname(it.rlib) for it in crates}
     folders = sorted((it for it in os.scandir(STORE) if it.is_dir()), key=lambda it: -it.stat().st_mtime) if os.path.isdir(STORE) else []
     size = 0
     for it in folders:
         size += sum(os.path.getsize(f"{at}/{name}") for at, _, names in os.walk(it.path) for name in names)
-        if size > STORE_MOST and it.path not in kept:
+        is_left = it.name.startswith("new-") and it.stat().st_mtime < time.time() - UNFINISHED
+        if is_left or (size > STORE_MOST and it.path not in kept):
             shutil.rmtree(it.path, ignore_errors=True)
 
 
