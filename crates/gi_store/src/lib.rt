@@ -28,6 +28,7 @@ mod loading;
 mod making;
 mod preparing;
 mod reading;
+mod saving;
 mod statements;
 mod store_fault;
 mod tables;
