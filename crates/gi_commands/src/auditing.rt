@@ -10,10 +10,10 @@ use gi_audit::{Audited, audit};
 use gi_command_line::BookFiles;
 use gi_day::Calendar;
 use gi_desk::{Desk, Fact};
-use gi_files::facts_of_file;
 use gi_initiator::Initiating;
 use gi_matcher::Matching;
 use gi_pairs::{Code, CodeText};
+use gi_store::facts_of_file;
 use std::alloc::Global;
 
 /// The audit of the facts of two books. `BadFact` for the first fact that no desk of the initiating

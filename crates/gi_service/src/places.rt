@@ -2,9 +2,8 @@
 
 ghost use Rattle.std.specs.Prelude.{◌≡◌, None, IfOk};
 
-use gi_files::book_of_file;
 use gi_pairs::Side;
-use gi_store::{BookStore, StoreFault};
+use gi_store::{BookStore, StoreFault, book_of_file};
 use sqlite::{Alter, Connection, File, FileStore, MemStore};
 use std::alloc::Global;
 

@@ -5,7 +5,7 @@ use Rattle.std.proofs.lemmas.List.{length-take-le, take-take}
 use Rattle.std.proofs.lemmas.List.Sums.{sum_by-cons, sum_by-take-le, sum_by_more}
 use Rattle.serde_json.specs.View.{items_of}
 use Rattle.serde_json.specs.Written.{compact_text, items_text}
-use Rattle.gi_facts.specs.Batch.{array_text, batch_text}
+use Rattle.gi_facts.specs.Batch.{array_text, batch_text, most_facts}
 use Rattle.gi_facts.specs.Writing.{data_of, fact_text}
 use Rattle.gi_facts.specs.declared.fact.Fact.{Fact}
 use Rattle.gi_store.specs.Batches.{IsLongestFront, is_batch, most_bytes}
@@ -53,3 +53,6 @@ all_fit facts some fits = record {
 
 pub some_facts : (facts : List Fact) → IsTrue (is_batch facts) → 1 ≤ length facts
 some_facts facts h = grind (arith, nat_tests, h)
+
+pub few_facts : (facts : List Fact) → IsTrue (is_batch facts) → length facts ≤ most_facts
+few_facts facts h = grind (arith, nat_tests, h)

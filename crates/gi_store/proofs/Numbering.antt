@@ -1,5 +1,5 @@
 -- Rows that cover the numbers from 1 on, and the row that comes next.
-use Rattle.std.proofs.Common.{◌≡◌, inl, inr, ℕ, ◌+◌, ◌≤◌, ◌<ℤ◌, ℤ, pos, nat_lt, List, [], ◌∷◌, ◌++◌, map, length, Bool, false, ◌==◌, Option, None, Some, IfSome, IsTrue, sum_by, refl, sym, ap, subst, ◌∙◌, arith, length-append}
+use Rattle.std.proofs.Common.{◌≡◌, inl, inr, ℕ, ◌+◌, ◌≤◌, ◌<ℤ◌, ℤ, pos, nat_lt, List, [], ◌∷◌, ◌++◌, map, length, Option, None, Some, IfSome, IsTrue, sum_by, refl, sym, ap, subst, ◌∙◌, arith, length-append}
 use Rattle.std.specs.List.{AllByRecursion}
 use Rattle.std.specs.declared.cmp.Ordering.TheVariants.{Less}
 use Rattle.std.proofs.lemmas.Bool.{cases_Bool}
@@ -133,6 +133,3 @@ saved_known old new n k batch known up same next reads adds = record {
 pub leaves_rows : (n : ℕ) (batch : List Fact) (loaded : Option ℕ) (s : State) → IsKept s loaded → ((db : Trees) → IsTrue s.is_open → s.may_leave db → db ≡ s.committed.trees) → SavesAllOrNone n batch loaded s s
 leaves_rows n batch None s kept law = tt
 leaves_rows n batch (Some k) s kept law = λ db leaves. inl (law db kept.known.is_open leaves ∙ sym (ap (λ d. d.trees) (kept.idle.settled kept.known.is_open)))
-
-pub some_facts : (facts : List Fact) (empty : Bool) → empty ≡ (length facts == 0) → empty ≡ false → 1 ≤ length facts
-some_facts facts empty is false_is = grind (arith, nat_tests, is, false_is)

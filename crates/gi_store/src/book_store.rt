@@ -14,9 +14,9 @@ ghost use Rattle.gi_store.specs.Keeping.{AddsNoOutcome, IsReady, Keeps, KeepsOrM
 
 use crate::loading::read_book;
 use crate::preparing::prepare;
-use crate::statements::add_fact;
+use crate::saving::{add_facts, known_before};
 use crate::store_fault::StoreFault;
-use gi_facts::{Fact, MOST_FACTS, encode_batch};
+use gi_facts::Fact;
 use sqlite::{Alter, Connection};
 use std::alloc::Global;
 use std::marker::Model;
@@ -181,20 +181,9 @@ impl<S: Alter> BookStore<S> {
         ensures loaded { OnOk result (self.new.loaded ≡ counted (n + length facts.now - 1)) }
         ensures not_loaded { IfErr result (λ fault. IsFailure fault → self.new.loaded ≡ None) }
     {
-        let loaded = self.loaded;
-        if facts.is_empty() || MOST_FACTS < facts.len() {
-            return Err(StoreFault::BatchSize);
-        }
-        let Some(known) = loaded else {
-            return Err(StoreFault::NotLoaded);
-        };
-        let expected = known + 1;
-        if n != expected {
-            return Err(StoreFault::NotNext { expected });
-        }
+        let known = known_before(self.loaded, n, facts)?;
         self.loaded = None;
-        let body = encode_batch(self.alloc, facts)?;
-        add_fact(&mut self.connection, n, body.as_slice())?;
+        add_facts(self.alloc, &mut self.connection, n, facts)?;
         self.loaded = counted(known as usize + facts.len());
         Ok(())
     }

@@ -11,6 +11,9 @@
 //! book.save_batch(n + 1, &facts)?;           // up to 64 facts in one row, by one insert
 //! ```
 //!
+//! The book in a file is opened by the file's name ([`book_of_file`]), and its facts are read so
+//! ([`facts_of_file`]); nothing is said of what a file holds.
+//!
 //! A crash at any moment of a save leaves the rows as before or with that one. After a refused save
 //! the row may be there or not, so the book has to be loaded again. What is said of a database
 //! stands under one premise: nobody else wrote the file, and the disk returned what was written
@@ -19,11 +22,13 @@
 
 mod batches;
 mod book_store;
+mod files;
 mod laws;
 mod loading;
 mod making;
 mod preparing;
 mod reading;
+mod saving;
 mod statements;
 mod store_fault;
 mod tables;
@@ -31,6 +36,7 @@ mod version;
 
 pub use batches::{MOST_BYTES, fitting};
 pub use book_store::BookStore;
+pub use files::{book_of_file, facts_of_file};
 pub use laws::memory_is_clean;
 pub use preparing::prepare;
 pub use store_fault::StoreFault;

@@ -1,4 +1,4 @@
-use Rattle.std.proofs.Common.{◌≡◌, inl, inr, ◌+◌, ◌++◌, length, Some, sym, ap, subst, ◌∙◌, arith}
+use Rattle.std.proofs.Common.{◌≡◌, inl, inr, ◌+◌, ◌++◌, length, Some, refl, sym, ap, subst, ◌∙◌, arith}
 use Rattle.sqlite.specs.Held.{state}
 use Rattle.gi_facts.specs.Batch.{batch_of, batch_text}
 use Rattle.gi_facts.proofs.BatchLemmas.{batch_again}
@@ -6,72 +6,69 @@ use Rattle.gi_store.specs.Tables.{HasTables}
 use Rattle.gi_store.specs.Rows.{fact_rows}
 use Rattle.gi_store.specs.Facts.{AreFacts}
 use Rattle.gi_store.specs.Book.{AddsFacts, IsKnown}
-use Rattle.gi_store.proofs.Numbering.{as_many, counted_low, known_if, leaves_rows, saved_facts, saved_known, saves, some_facts}
+use Rattle.gi_store.proofs.Numbering.{as_many, counted_low, known_if, leaves_rows, saved_facts, saved_known, saves}
+use Rattle.gi_store.proofs.Fronts.{few_facts, some_facts}
 use Rattle.gi_store.proofs.book_store.BookStore.save_batch.Goals as goal
 
-pub returns-in_err-add_fact-clause-crash : goal.returns-in_err-add_fact-clause-crash
-returns-in_err-add_fact-clause-crash g c clean db leaves =
+pub returns-in_err-add_facts-clause-crash : goal.returns-in_err-add_facts-clause-crash
+returns-in_err-add_facts-clause-crash g c clean db leaves =
     let old = state g.S.Store c.self.inside.connection in
-    let new = state g.S.Store c.add_fact.new.connection in
+    let new = state g.S.Store c.add_facts.new.connection in
     let facts = c.args.facts.now in
-    let next : c.args.n ≡ c.in-Some.known + 1 = c.if-n-expected.false in
-    let text : c.as_slice.result.now ≡ batch_text facts = c.as_slice.ensures.value ∙ c.in_ok-body.ensures.text in
-    let early = c.add_fact.ensures.early clean in
-    let known : IsKnown old c.in-Some.known = rw c.in-Some.is at ((c.self.invariant.1 early).known) in
-    let puts = c.add_fact.ensures.crash clean db leaves in
+    let next : c.args.n ≡ c.in_ok-known.known + 1 = c.in_ok-known.ensures.next.1 in
+    let early = c.add_facts.ensures.early clean in
+    let known : IsKnown old c.in_ok-known.known = rw c.in_ok-known.ensures.next.0 at ((c.self.invariant.1 early).known) in
+    let puts = c.add_facts.ensures.crash clean db leaves in
     rw (← c.self.view_is) (elim puts [
       | inl was ↦ inl was
-      | inr put ↦ inr (saves old c.args.n c.in-Some.known facts c.as_slice.result.now db known next text put)
+      | inr put ↦ inr (saves old c.args.n c.in_ok-known.known facts (batch_text facts) db known next refl put)
     ])
 
 pub returns-clause-crash : goal.returns-clause-crash
 returns-clause-crash g c clean db leaves =
     let old = state g.S.Store c.self.inside.connection in
-    let new = state g.S.Store c.add_fact.new.connection in
+    let new = state g.S.Store c.add_facts.new.connection in
     let facts = c.args.facts.now in
-    let next : c.args.n ≡ c.in-Some.known + 1 = c.if-n-expected.false in
-    let text : c.as_slice.result.now ≡ batch_text facts = c.as_slice.ensures.value ∙ c.in_ok-body.ensures.text in
-    let early = c.add_fact.ensures.early clean in
-    let known : IsKnown old c.in-Some.known = rw c.in-Some.is at ((c.self.invariant.1 early).known) in
-    let puts = c.add_fact.ensures.crash clean db leaves in
+    let next : c.args.n ≡ c.in_ok-known.known + 1 = c.in_ok-known.ensures.next.1 in
+    let early = c.add_facts.ensures.early clean in
+    let known : IsKnown old c.in_ok-known.known = rw c.in_ok-known.ensures.next.0 at ((c.self.invariant.1 early).known) in
+    let puts = c.add_facts.ensures.crash clean db leaves in
     rw (← c.self.view_is) (elim puts [
       | inl was ↦ inl was
-      | inr put ↦ inr (saves old c.args.n c.in-Some.known facts c.as_slice.result.now db known next text put)
+      | inr put ↦ inr (saves old c.args.n c.in_ok-known.known facts (batch_text facts) db known next refl put)
     ])
 
 pub invariant_of-self-2 : goal.invariant_of-self-2
 invariant_of-self-2 g c = rw c.counted-self-inside.ensures (
-  counted_low (c.in-Some.known + length c.args.facts.now),
+  counted_low (c.in_ok-known.known + length c.args.facts.now),
   λ clean.
       let old = state g.S.Store c.self.inside.connection in
-      let new = state g.S.Store c.add_fact.new.connection in
+      let new = state g.S.Store c.add_facts.new.connection in
       let facts = c.args.facts.now in
-      let next : c.args.n ≡ c.in-Some.known + 1 = c.if-n-expected.false in
-      let text : c.as_slice.result.now ≡ batch_text facts = c.as_slice.ensures.value ∙ c.in_ok-body.ensures.text in
-      let early = c.add_fact.ensures.early clean in
-      let known : IsKnown old c.in-Some.known = rw c.in-Some.is at ((c.self.invariant.1 early).known) in
-      let w = c.in_ok-add_fact.ensures.written clean in
-      let adds : AddsFacts old.now.schema c.args.n facts old.now.trees new.now.trees = saves old c.args.n c.in-Some.known facts c.as_slice.result.now new.now.trees known next text w.3 in
-      let reads : batch_of (batch_text facts) ≡ Some facts = batch_again facts c.requires (some_facts facts c.is_empty.result c.is_empty.ensures c.if-is_empty.false) (omega arith) in
+      let next : c.args.n ≡ c.in_ok-known.known + 1 = c.in_ok-known.ensures.next.1 in
+      let early = c.add_facts.ensures.early clean in
+      let known : IsKnown old c.in_ok-known.known = rw c.in_ok-known.ensures.next.0 at ((c.self.invariant.1 early).known) in
+      let w = c.in_ok-add_facts.ensures.written clean in
+      let adds : AddsFacts old.now.schema c.args.n facts old.now.trees new.now.trees = saves old c.args.n c.in_ok-known.known facts (batch_text facts) new.now.trees known next refl w.3 in
+      let reads : batch_of (batch_text facts) ≡ Some facts = batch_again facts c.requires (some_facts facts c.in_ok-known.ensures.batch) (few_facts facts c.in_ok-known.ensures.batch) in
       record {
-        idle = c.add_fact.ensures.idle clean;
-        known = known_if new (c.in-Some.known + length facts) (saved_known old new c.args.n c.in-Some.known facts known w.1 w.2 next reads adds);
+        idle = c.add_facts.ensures.idle clean;
+        known = known_if new (c.in_ok-known.known + length facts) (saved_known old new c.args.n c.in_ok-known.known facts known w.1 w.2 next reads adds);
       },
 )
 
 pub returns-clause-saved : goal.returns-clause-saved
 returns-clause-saved g c clean =
     let old = state g.S.Store c.self.inside.connection in
-    let new = state g.S.Store c.add_fact.new.connection in
+    let new = state g.S.Store c.add_facts.new.connection in
     let facts = c.args.facts.now in
-    let next : c.args.n ≡ c.in-Some.known + 1 = c.if-n-expected.false in
-    let text : c.as_slice.result.now ≡ batch_text facts = c.as_slice.ensures.value ∙ c.in_ok-body.ensures.text in
-    let early = c.add_fact.ensures.early clean in
-    let known : IsKnown old c.in-Some.known = rw c.in-Some.is at ((c.self.invariant.1 early).known) in
-    let w = c.in_ok-add_fact.ensures.written clean in
-    let adds : AddsFacts old.now.schema c.args.n facts old.now.trees new.now.trees = saves old c.args.n c.in-Some.known facts c.as_slice.result.now new.now.trees known next text w.3 in
-    let idle = c.add_fact.ensures.idle clean in
-    let law = g.met.S.Store.settled c.add_fact.new.connection.store in
+    let next : c.args.n ≡ c.in_ok-known.known + 1 = c.in_ok-known.ensures.next.1 in
+    let early = c.add_facts.ensures.early clean in
+    let known : IsKnown old c.in_ok-known.known = rw c.in_ok-known.ensures.next.0 at ((c.self.invariant.1 early).known) in
+    let w = c.in_ok-add_facts.ensures.written clean in
+    let adds : AddsFacts old.now.schema c.args.n facts old.now.trees new.now.trees = saves old c.args.n c.in_ok-known.known facts (batch_text facts) new.now.trees known next refl w.3 in
+    let idle = c.add_facts.ensures.idle clean in
+    let law = g.met.S.Store.settled c.add_facts.new.connection.store in
     rw (← c.self.view_is) (record {
       is_open = w.1;
       tables = subst HasTables (sym w.2) known.tables;
@@ -83,50 +80,47 @@ returns-clause-saved g c clean =
 pub returns-clause-facts : goal.returns-clause-facts
 returns-clause-facts g c clean had =
     let old = state g.S.Store c.self.inside.connection in
-    let new = state g.S.Store c.add_fact.new.connection in
+    let new = state g.S.Store c.add_facts.new.connection in
     let facts = c.args.facts.now in
-    let next : c.args.n ≡ c.in-Some.known + 1 = c.if-n-expected.false in
-    let text : c.as_slice.result.now ≡ batch_text facts = c.as_slice.ensures.value ∙ c.in_ok-body.ensures.text in
-    let early = c.add_fact.ensures.early clean in
-    let known : IsKnown old c.in-Some.known = rw c.in-Some.is at ((c.self.invariant.1 early).known) in
-    let w = c.in_ok-add_fact.ensures.written clean in
-    let adds : AddsFacts old.now.schema c.args.n facts old.now.trees new.now.trees = saves old c.args.n c.in-Some.known facts c.as_slice.result.now new.now.trees known next text w.3 in
-    let reads : batch_of (batch_text facts) ≡ Some facts = batch_again facts c.requires (some_facts facts c.is_empty.result c.is_empty.ensures c.if-is_empty.false) (omega arith) in
+    let next : c.args.n ≡ c.in_ok-known.known + 1 = c.in_ok-known.ensures.next.1 in
+    let early = c.add_facts.ensures.early clean in
+    let known : IsKnown old c.in_ok-known.known = rw c.in_ok-known.ensures.next.0 at ((c.self.invariant.1 early).known) in
+    let w = c.in_ok-add_facts.ensures.written clean in
+    let adds : AddsFacts old.now.schema c.args.n facts old.now.trees new.now.trees = saves old c.args.n c.in_ok-known.known facts (batch_text facts) new.now.trees known next refl w.3 in
+    let reads : batch_of (batch_text facts) ≡ Some facts = batch_again facts c.requires (some_facts facts c.in_ok-known.ensures.batch) (few_facts facts c.in_ok-known.ensures.batch) in
     rw (← c.self.view_is) (λ are. subst (λ s. AreFacts (fact_rows s new.now.trees) (had ++ facts)) (sym w.2)
-    (saved_facts old.now.schema c.args.n c.in-Some.known facts had old.now.trees new.now.trees (as_many _ had known.facts are known.rows ∙ known.count) next reads adds are))
+    (saved_facts old.now.schema c.args.n c.in_ok-known.known facts had old.now.trees new.now.trees (as_many _ had known.facts are known.rows ∙ known.count) next reads adds are))
 
-pub returns-in_err-add_fact-clause-before : goal.returns-in_err-add_fact-clause-before
-returns-in_err-add_fact-clause-before g c clean =
+pub returns-in_err-add_facts-clause-before : goal.returns-in_err-add_facts-clause-before
+returns-in_err-add_facts-clause-before g c clean =
     let old = state g.S.Store c.self.inside.connection in
-    let new = state g.S.Store c.add_fact.new.connection in
+    let new = state g.S.Store c.add_facts.new.connection in
     let facts = c.args.facts.now in
-    let next : c.args.n ≡ c.in-Some.known + 1 = c.if-n-expected.false in
-    let text : c.as_slice.result.now ≡ batch_text facts = c.as_slice.ensures.value ∙ c.in_ok-body.ensures.text in
-    let early = c.add_fact.ensures.early clean in
-    let known : IsKnown old c.in-Some.known = rw c.in-Some.is at ((c.self.invariant.1 early).known) in
+    let next : c.args.n ≡ c.in_ok-known.known + 1 = c.in_ok-known.ensures.next.1 in
+    let early = c.add_facts.ensures.early clean in
+    let known : IsKnown old c.in_ok-known.known = rw c.in_ok-known.ensures.next.0 at ((c.self.invariant.1 early).known) in
     let kept = c.self.invariant.1 early in
     let law = g.met.S.Store.settled c.self.inside.connection.store in
-    rw (← c.self.view_is) (rw c.in-Some.is (λ db leaves. elim (c.add_fact.ensures.crash clean db leaves) [
+    rw (← c.self.view_is) (rw c.in_ok-known.ensures.next.0 (λ db leaves. elim (c.add_facts.ensures.crash clean db leaves) [
       | inl was ↦ inl (law db known.is_open was ∙ sym (ap (λ d. d.trees) (kept.idle.settled known.is_open)))
-      | inr put ↦ inr (saves old c.args.n c.in-Some.known facts c.as_slice.result.now db known next text put)
+      | inr put ↦ inr (saves old c.args.n c.in_ok-known.known facts (batch_text facts) db known next refl put)
     ]))
 
 pub returns-clause-before : goal.returns-clause-before
 returns-clause-before g c clean =
     let old = state g.S.Store c.self.inside.connection in
-    let new = state g.S.Store c.add_fact.new.connection in
+    let new = state g.S.Store c.add_facts.new.connection in
     let facts = c.args.facts.now in
-    let next : c.args.n ≡ c.in-Some.known + 1 = c.if-n-expected.false in
-    let text : c.as_slice.result.now ≡ batch_text facts = c.as_slice.ensures.value ∙ c.in_ok-body.ensures.text in
-    let early = c.add_fact.ensures.early clean in
-    let known : IsKnown old c.in-Some.known = rw c.in-Some.is at ((c.self.invariant.1 early).known) in
+    let next : c.args.n ≡ c.in_ok-known.known + 1 = c.in_ok-known.ensures.next.1 in
+    let early = c.add_facts.ensures.early clean in
+    let known : IsKnown old c.in_ok-known.known = rw c.in_ok-known.ensures.next.0 at ((c.self.invariant.1 early).known) in
     let kept = c.self.invariant.1 early in
     let law = g.met.S.Store.settled c.self.inside.connection.store in
-    rw (← c.self.view_is) (rw c.in-Some.is (λ db leaves. elim (c.add_fact.ensures.crash clean db leaves) [
+    rw (← c.self.view_is) (rw c.in_ok-known.ensures.next.0 (λ db leaves. elim (c.add_facts.ensures.crash clean db leaves) [
       | inl was ↦ inl (law db known.is_open was ∙ sym (ap (λ d. d.trees) (kept.idle.settled known.is_open)))
-      | inr put ↦ inr (saves old c.args.n c.in-Some.known facts c.as_slice.result.now db known next text put)
+      | inr put ↦ inr (saves old c.args.n c.in_ok-known.known facts (batch_text facts) db known next refl put)
     ]))
 
-pub returns-then-is_empty-clause-before : goal.returns-then-is_empty-clause-before
-returns-then-is_empty-clause-before g c =
+pub returns-in_err-known-clause-before : goal.returns-in_err-known-clause-before
+returns-in_err-known-clause-before g c =
     rw (← c.self.view_is) (λ clean. leaves_rows c.args.n c.args.facts.now c.self.inside.loaded (state g.S.Store c.self.inside.connection) (c.self.invariant.1 clean) (g.met.S.Store.settled c.self.inside.connection.store))

@@ -1,7 +1,10 @@
+//! Books in files.
+
 ghost use Rattle.std.specs.Prelude.{◌≡◌, None, IfOk};
 
+use crate::book_store::BookStore;
+use crate::store_fault::StoreFault;
 use gi_facts::Fact;
-use gi_store::{BookStore, StoreFault};
 use sqlite::{Connection, File, FileStore};
 use std::fs;
 
