@@ -1,0 +1,5 @@
+pub mod HoursLemmas
+pub mod MatchLemmas
+pub mod ShapeLemmas
+pub mod CommandLemmas
+pub mod Outcomes
