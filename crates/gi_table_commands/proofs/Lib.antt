@@ -3,3 +3,4 @@ pub mod MatchLemmas
 pub mod ShapeLemmas
 pub mod CommandLemmas
 pub mod Outcomes
+pub mod Unasked

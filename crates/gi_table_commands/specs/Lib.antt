@@ -6,3 +6,4 @@ pub mod LineText
 pub mod Lines
 pub mod Match
 pub mod Laws
+pub mod Tables
