@@ -1,7 +1,2 @@
 mod ExplainingLemmas
-pub mod HoursLemmas
-pub mod MatchLemmas
-pub mod ShapeLemmas
-pub mod CommandLemmas
-pub mod Outcomes
 pub mod SimulatingLemmas

@@ -7,15 +7,16 @@ use Rattle.gi_pairs.specs.declared.side.Side.{Side}
 use Rattle.gi_command_line.specs.Asked.{Asked, audit, explain, hours, match_tables, mistaken, report, simulate}
 use Rattle.gi_commands.specs.Auditing.{Audits, IsFirstAuditFault, LeavesAudit}
 use Rattle.gi_commands.specs.Explaining.{Asks, IsQuestionFault, NamesNoCodes}
-use Rattle.gi_commands.specs.Hours.{IsFirstHoursFault, TellsHours}
-use Rattle.gi_commands.specs.Match.{Answers, IsFirstFault}
 use Rattle.gi_commands.specs.Reporting.{IsFirstFileFault, ReportsBook}
 use Rattle.gi_commands.specs.Simulating.{CutsShort, HasReport, HasScript, IsFirstScriptFault, Reports, Simulates}
 use Rattle.gi_explanations.specs.declared.question.Question.{Question}
 use Rattle.gi_commands.specs.declared.desk_report.DeskReport.{DeskReport}
 use Rattle.gi_commands.specs.declared.desk_report.DeskReport.TheVariants.{Explanation, Listed}
-use Rattle.gi_commands.specs.declared.fault.Fault.{Fault}
-use Rattle.gi_commands.specs.declared.fault.Fault.TheVariants as fault
+use Rattle.gi_table_commands.specs.Hours.{IsFirstHoursFault, TellsHours}
+use Rattle.gi_table_commands.specs.Leaving.{LeavesNothing}
+use Rattle.gi_table_commands.specs.Match.{Answers, IsFirstFault}
+use Rattle.gi_table_commands.specs.declared.fault.Fault.{Fault}
+use Rattle.gi_table_commands.specs.declared.fault.Fault.TheVariants as fault
 
 -- ---- what is told of a side's desk: after a script, or in the book of that file and point
 
@@ -62,12 +63,8 @@ IsFaultOf (explain side words book) remaining why =
 IsFaultOf (audit initiating matching point) remaining why = IsFirstAuditFault point why
 IsFaultOf mistaken remaining why = (why ≡ fault.CommandLine) ⊎ (why ≡ fault.OutOfMemory)
 
--- After a fault nothing is written, but where a writer failed.
-abbrev pub LeavesNothing : Option (List ℕ) → Option (List ℕ) → Fault → Type 0
-LeavesNothing old new fault.Write = Unit {0}
-LeavesNothing old new _ = Keeps old new
-
--- of a script, where memory ran out, the lines of the first steps may be
+-- After a fault nothing is written, but where a writer failed; of a script, where memory ran out, the lines of the first
+-- steps may be.
 abbrev pub LeavesFront : Bool → Option (List ℕ) → Option (List ℕ) → Option (List ℕ) → Fault → Type 0
 LeavesFront trace remaining old new fault.Write = Unit {0}
 LeavesFront trace remaining old new fault.OutOfMemory = IfSome remaining (λ input. CutsShort trace input old new)

@@ -1,10 +1,3 @@
-pub mod Fault
-pub mod Hours
-pub mod Input
-pub mod LineText
-pub mod Lines
-pub mod Match
-pub mod Laws
 pub mod Reporting
 pub mod Simulating
 pub mod Explaining

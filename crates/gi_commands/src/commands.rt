@@ -1,66 +1,25 @@
 ghost use Rattle.std.specs.Prelude.{◌≡◌, IfErr, IfSome, OnOk, Err};
-ghost use Rattle.std.specs.Io.KnownBytes.{Appends};
 ghost use Rattle.gi_pairs.specs.Code.{IsCode};
 ghost use Rattle.gi_command_line.specs.Asked.{book_of, explain as asks_explanation, meaning, quantity_words};
 ghost use Rattle.gi_commands.specs.Auditing.{Audits, IsFirstAuditFault, LeavesAudit};
-ghost use Rattle.gi_commands.specs.Commands.{Does, HasNoCode, HasNoPoint, IsDeskFault, IsFaultOf, Leaves, LeavesFront, LeavesNothing, MayRead, ReadsUnlessBook, TellsDesk};
-ghost use Rattle.gi_commands.specs.Fault.{no_code};
-ghost use Rattle.gi_commands.specs.Hours.{IsFirstHoursFault, TellsHours};
-ghost use Rattle.gi_commands.specs.Match.{Answers, IsFirstFault};
+ghost use Rattle.gi_commands.specs.Commands.{Does, HasNoCode, HasNoPoint, IsDeskFault, IsFaultOf, Leaves, LeavesFront, MayRead, ReadsUnlessBook, TellsDesk};
 ghost use Rattle.gi_commands.specs.Reporting.{IsFirstFileFault, ReportsBook};
 ghost use Rattle.gi_commands.specs.Simulating.{HasReport, HasScript, IsFirstScriptFault, Reports, Simulates};
+ghost use Rattle.gi_table_commands.specs.Fault.{no_code};
+ghost use Rattle.gi_table_commands.specs.Leaving.{LeavesNothing};
 
 use crate::auditing::file_audit;
 use crate::books::file_report;
 use crate::desk_report::DeskReport;
 use crate::explaining::question;
-use crate::fault::Fault;
-use crate::hours::hours_text;
-use crate::input::{Calls, read_input};
-use crate::matching::answer;
 use crate::reporting::script_report;
 use crate::simulating::simulated;
 use gi_command_line::{BookFile, BookFiles, Explanation, Request};
 use gi_pairs::Side;
+use gi_table_commands::{Calls, Fault, match_tables, read_input, tell_hours, write_text};
 use std::alloc::Global;
 use std::io::{Read, Write};
 use std::thread::Threads;
-
-fn match_tables<R: Read, W: Write>(
-    threads: &(impl Threads + Sync),
-    alloc: Global,
-    input: &mut R,
-    output: &mut W,
-) -> Result<(), Fault>
-    ensures done { OnOk result (IfSome (R.remaining input.old) (λ bytes.
-        Answers bytes (W.contents output.old) (W.contents output.new))) }
-    ensures leaves { IfErr result (LeavesNothing (W.contents output.old) (W.contents output.new)) }
-    ensures first { IfErr result (λ fault. IfSome (R.remaining input.old) (λ bytes.
-        IsFirstFault bytes fault)) }
-{
-    let bytes = read_input(alloc, input, &mut Calls::none())?;
-    let text = answer(threads, alloc, bytes.as_slice())?;
-    write_text(text.as_slice(), output)
-}
-
-fn tell_hours<W: Write>(alloc: Global, day: &str, output: &mut W) -> Result<(), Fault>
-    ensures done { OnOk result (TellsHours day.now (W.contents output.old) (W.contents output.new)) }
-    ensures leaves { IfErr result (LeavesNothing (W.contents output.old) (W.contents output.new)) }
-    ensures first { IfErr result (IsFirstHoursFault day.now) }
-{
-    let text = hours_text(alloc, day)?;
-    write_text(text.as_bytes(), output)
-}
-
-fn write_text<W: Write>(text: &[u8], output: &mut W) -> Result<(), Fault>
-    ensures written { OnOk result (Appends (W.contents output.old) (W.contents output.new) text.now) }
-    ensures failed { IfErr result (λ fault. fault ≡ Fault.Write) }
-{
-    match output.write_all(text) {
-        Ok(()) => Ok(()),
-        Err(_) => Err(Fault::Write),
-    }
-}
 
 fn simulate_script<R: Read, W: Write>(
     alloc: Global,

@@ -7,10 +7,10 @@ use Rattle.clap.specs.declared.error.Error.{Error}
 use Rattle.clap.specs.declared.error.kind.ErrorKind.TheVariants as kind
 use Rattle.gi_command_line.specs.Asked.{Wanted, at_once, audit, explain, hours, match_tables, mistaken, report, serve, simulate}
 use Rattle.gi_command_line.specs.CommandLine.{IsMistaken, objections}
-use Rattle.gi_commands.specs.Match.{IsFirstFault}
+use Rattle.gi_table_commands.specs.Match.{IsFirstFault}
 use Rattle.gi_commands.specs.Simulating.{CutsShort, HasReport, HasScript, IsFirstScriptFault}
 use Rattle.gi_commands.specs.declared.desk_report.DeskReport.TheVariants.{Listed}
-use Rattle.gi_commands.specs.declared.fault.Fault.TheVariants as fault
+use Rattle.gi_table_commands.specs.declared.fault.Fault.TheVariants as fault
 use Rattle.gi_service.specs.Serving.{IsFirstServeFault}
 use Rattle.gi_service.specs.Tasks.{IsTaskFault, LeavesTask, MayReadTask}
 use Rattle.gi_service.specs.declared.program_fault.ProgramFault.{ProgramFault}

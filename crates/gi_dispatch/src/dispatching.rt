@@ -7,9 +7,9 @@ ghost use Rattle.gi_service.specs.Tasks.{DoesTask, IsTaskFault, LeavesTask, Leav
 use clap::Error;
 use clap::error::ErrorKind;
 use gi_command_line::{Mistake, Request, Task, requested};
-use gi_commands::Fault;
 use gi_service::{ProgramFault, perform_task};
 use gi_serving::Watch;
+use gi_table_commands::Fault;
 use std::convert::AsStr;
 use std::io::{Read, Write};
 use std::sync::Wait;

@@ -5,8 +5,8 @@ mod dispatching;
 mod progress;
 
 use dispatching::{dispatch, reported};
-use gi_commands::Fault;
 use gi_service::ProgramFault;
+use gi_table_commands::Fault;
 use progress::Progress;
 use std::env;
 use std::io::ErrorKind;

@@ -1,11 +1,11 @@
 ghost use Rattle.std.specs.Prelude.{◌≡◌};
 ghost use Rattle.gi_service.specs.Status.{program_status, serve_status};
 
-use gi_commands::Fault;
 use gi_desk::Refusal;
 use gi_office::{OfficeFault, SaveFault, Unreconciled};
 use gi_serving::ServeFault;
 use gi_store::StoreFault;
+use gi_table_commands::Fault;
 use thiserror::Error;
 
 /// Why the program gave up.

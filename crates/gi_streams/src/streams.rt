@@ -1,9 +1,10 @@
 //! Readers and writers that fail in mid-stream, and inputs at the limit.
 
 use gi_command_line::{Format, Report, ReportKind, Request};
-use gi_commands::{Fault, perform};
+use gi_commands::perform;
 use gi_pairs::Side;
 use gi_script::ScriptFault;
+use gi_table_commands::Fault;
 use std::io;
 use std::io::{ErrorKind, Read, Write};
 use std::test::Fail;
