@@ -1,13 +1,18 @@
-//! Both running offices as a command: their script and their books, what is written, and the faults
-//! in their order.
+//! The program but its `main`: from the words of a command line to what is written and the fault, all
+//! commands together. And both running offices as a command: their script and their books, what is
+//! written, and the faults in their order.
 #![tactic(auto)]
 
+mod dispatching;
 mod places;
 mod program_fault;
+mod progress;
 mod service;
 mod stations;
 mod tasks;
 
+pub use dispatching::dispatch;
 pub use program_fault::ProgramFault;
+pub use progress::Progress;
 pub use service::serve_script;
 pub use tasks::perform_task;

@@ -3,8 +3,9 @@ use Rattle.std.specs.Prelude.{IfErr}
 use Rattle.gi_command_line.specs.CommandLine.{asked}
 use Rattle.gi_service.specs.Tasks.{IsTaskFault, LeavesTask}
 use Rattle.gi_service.specs.declared.program_fault.ProgramFault.{ProgramFault}
-use Rattle.gi_dispatch.proofs.Unasked.{may_keep, may_leave, may_want, memory_alone, no_command}
-use Rattle.gi_dispatch.proofs.dispatching.dispatch.Goals as goal
+use Rattle.gi_table_commands.proofs.Unasked.{memory_alone}
+use Rattle.gi_service.proofs.Unasked.{may_keep, may_leave, may_want, no_command}
+use Rattle.gi_service.proofs.dispatching.dispatch.Goals as goal
 
 pub returns-in-Err-clause-first : goal.returns-in-Err-clause-first
 returns-in-Err-clause-first g c = λ none.

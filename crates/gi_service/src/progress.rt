@@ -1,5 +1,8 @@
+ghost use Rattle.std.specs.Prelude.{◌≡◌};
+
 use gi_serving::Watch;
 use std::io::{IsTerminal, Stderr, Write};
+use std::marker::Model;
 
 /// The least lines of a script of which it is told how far it is.
 const LONG: usize = 1000;
@@ -15,8 +18,20 @@ pub struct Progress {
     hundredths: usize,
 }
 
+impl Model for Progress {
+    ghost use Rattle.std.specs.Prelude.{ℕ};
+
+    /// How many lines it was last told are made.
+    ghost Value = { ℕ };
+
+    ghost view = { λ progress. progress.lines };
+}
+
 impl Progress {
-    pub fn new(errors: Stderr) -> Progress {
+    /// Nothing is told yet.
+    pub fn new(errors: Stderr) -> Progress
+        ensures { result ≡ 0 }
+    {
         let is_told = errors.is_terminal();
         Progress {
             errors,
@@ -28,7 +43,7 @@ impl Progress {
 }
 
 impl Watch for Progress {
-    ghost told = { λ progress. progress.lines };
+    ghost told = { λ progress. progress };
 
     fn made(&mut self, lines: usize, all: usize) {
         self.lines = lines;

@@ -8,6 +8,7 @@ use Rattle.clap.specs.declared.error.kind.ErrorKind.TheVariants as kind
 use Rattle.gi_command_line.specs.Asked.{Wanted, at_once, audit, explain, hours, match_tables, mistaken, report, serve, simulate}
 use Rattle.gi_command_line.specs.CommandLine.{IsMistaken, objections}
 use Rattle.gi_table_commands.specs.Match.{IsFirstFault}
+use Rattle.gi_table_commands.proofs.Unasked.{if_some, keeps_same}
 use Rattle.gi_commands.specs.Simulating.{CutsShort, HasReport, HasScript, IsFirstScriptFault}
 use Rattle.gi_commands.specs.declared.desk_report.DeskReport.TheVariants.{Listed}
 use Rattle.gi_table_commands.specs.declared.fault.Fault.TheVariants as fault
@@ -15,15 +16,6 @@ use Rattle.gi_service.specs.Serving.{IsFirstServeFault}
 use Rattle.gi_service.specs.Tasks.{IsTaskFault, LeavesTask, MayReadTask}
 use Rattle.gi_service.specs.declared.program_fault.ProgramFault.{ProgramFault}
 use Rattle.gi_service.specs.declared.program_fault.ProgramFault.TheVariants.{Command}
-
--- where nothing is objected to, an error is want of memory
-pub memory_alone : (kinds : Kinds) (said : Error) → HasKind kinds said → kinds ≡ [] → kind_of said ≡ kind.OutOfMemory
-memory_alone kinds said (inl memory) none = memory
-memory_alone kinds said (inr among) none = absurd (subst (IsAmong (kind_of said)) none among)
-
-if_some : (remaining : Option (List ℕ)) (P : List ℕ → Type 0) → ((input : List ℕ) → P input) → IfSome remaining P
-if_some None P all = tt
-if_some (Some input) P all = all input
 
 -- memory may run out of each command
 pub may_want : (wanted : Wanted) (remaining : Option (List ℕ)) → IsTaskFault wanted remaining (Command fault.OutOfMemory)
@@ -39,10 +31,6 @@ may_want (at_once mistaken) remaining = inr refl
 may_want (serve sessions books) remaining = if_some remaining (λ input. IsFirstServeFault sessions input (Command fault.OutOfMemory)) (λ input. inl tt)
 
 -- each command may have read nothing
-keeps_same : (remaining : Option (List ℕ)) → Keeps remaining remaining
-keeps_same None = tt
-keeps_same (Some input) = refl
-
 pub may_leave : (wanted : Wanted) (remaining : Option (List ℕ)) → MayReadTask wanted remaining remaining
 may_leave (at_once match_tables) remaining = tt
 may_leave (at_once (hours day)) remaining = keeps_same remaining

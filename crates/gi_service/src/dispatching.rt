@@ -1,34 +1,22 @@
+//! From the words of a command line to what is written, and the fault: all commands together.
+
 ghost use Rattle.std.specs.Prelude.{◌≡◌, ◌≢◌, ◌⊎◌, [], IfErr, IsErrAnd, OnOk, Err, map};
 ghost use Rattle.std.specs.Io.KnownBytes.{Keeps};
 ghost use Rattle.clap.specs.Words.{kind_of};
 ghost use Rattle.gi_command_line.specs.CommandLine.{AsksForHelp, IsMistaken, asked, objections};
 ghost use Rattle.gi_service.specs.Tasks.{DoesTask, IsTaskFault, LeavesTask, LeavesNothingBut, MayReadTask, NamesNoCode, no_task_code};
 
+use crate::program_fault::ProgramFault;
+use crate::tasks::perform_task;
 use clap::Error;
 use clap::error::ErrorKind;
 use gi_command_line::{Mistake, Request, Task, requested};
-use gi_service::{ProgramFault, perform_task};
 use gi_serving::Watch;
-use gi_table_commands::Fault;
+use gi_table_commands::{Fault, reported};
 use std::convert::AsStr;
 use std::io::{Read, Write};
 use std::sync::Wait;
 use std::thread::Threads;
-
-/// Writes the one line that names the fault, where there is one. A writer that fails leaves it at
-/// that.
-pub fn reported<E: Write>(
-    done: Result<(), ProgramFault>,
-    errors: &mut E,
-) -> Result<(), ProgramFault>
-    ensures same { result ≡ done }
-    ensures silent { OnOk result (Keeps (E.contents errors.old) (E.contents errors.new)) }
-{
-    if let Err(fault) = &done {
-        let _ = writeln!(errors, "gi_dispatch: {fault}");
-    }
-    done
-}
 
 /// Writes what `clap` says in place of a command: help and the version to the output, and what is
 /// wrong with the words to the errors.
@@ -47,24 +35,19 @@ fn explain<W: Write, E: Write>(
     ensures silent { OnOk result (Keeps (E.contents errors.old) (E.contents errors.new)) }
     ensures leaves { IfErr result (LeavesNothingBut (W.contents output.old) (W.contents output.new)) }
 {
-    if said.kind() == ErrorKind::OutOfMemory {
-        return reported(Err(ProgramFault::Command(Fault::OutOfMemory)), errors);
-    }
-    if said.use_stderr() {
-        let _ = write!(errors, "{said}");
-        return Err(ProgramFault::Command(Fault::CommandLine));
-    }
-    match write!(output, "{said}") {
+    match gi_table_commands::explain(said, output, errors) {
         Ok(()) => Ok(()),
-        Err(_) => reported(Err(ProgramFault::Command(Fault::Write)), errors),
+        Err(fault) => Err(ProgramFault::Command(fault)),
     }
 }
 
 fn point_out<E: Write>(mistake: Mistake<'_>, errors: &mut E) -> Result<(), ProgramFault>
     ensures { result ≡ Err (ProgramFault.Command Fault.CommandLine) }
 {
-    let _ = write!(errors, "{mistake}\nFor more information, try '--help'.\n");
-    Err(ProgramFault::Command(Fault::CommandLine))
+    match gi_table_commands::point_out(mistake, errors) {
+        Ok(()) => Ok(()),
+        Err(fault) => Err(ProgramFault::Command(fault)),
+    }
 }
 
 /// Does what the words ask for, the first being the program's own name, and answers the fault, if
