@@ -1,5 +1,5 @@
 -- What a turn comes to, from what its parts do.
-use Rattle.std.proofs.Common.{◌≡◌, ◌≤◌, inl, inr, ℕ, ◌+◌, ◌-◌, ◌^◌, true, false, List, length, take, drop, Some, Result, ap, sym, ◌∙◌, subst, arith}
+use Rattle.std.proofs.Common.{◌≡◌, ◌≤◌, inl, inr, ℕ, ◌+◌, ◌-◌, ◌^◌, true, false, List, length, take, drop, Some, Result, ap, sym, subst, arith}
 use Rattle.std.specs.List.{AllByRecursion}
 use Rattle.std.proofs.lemmas.List.{length-take}
 use Rattle.sqlite_trees.specs.declared.store.Store.{Ghosts}
@@ -32,10 +32,10 @@ copied_next s n copies seen are same count writable numbers some = subst (λ (fs
     drop_saved : DeskState → List Fact
     drop_saved d = drop d.saved d.facts
 
-module _ {S : Type 0} (side : Side) (store : Ghosts S) (before after : BookState S) (n : ℕ) (given first slice : List Fact) (front : ℕ) where
+module _ {S : Type 0} (side : Side) (store : Ghosts S) (before after : BookState S) (n : ℕ) (given slice : List Fact) (front : ℕ) where
   pub stood :
-      (items taken : List Fact) (count : ℕ) (old : SeatState) (result : Result Turn SaveFault) (new : SeatState)
-      → items ≡ given → first ≡ items → slice ≡ items → taken ≡ take count items → IsLongestFront first front
+      (count : ℕ) (old : SeatState) (result : Result Turn SaveFault) (new : SeatState)
+      → slice ≡ given → IsLongestFront given front
       → (IsClean store after.connection → IsClean store before.connection)
       → (IsClean store after.connection → WritesAtMost n (take front slice) (state store before.connection) (state store after.connection))
       → (is_ahead n before.loaded ≡ true → IsClean store after.connection → WritesNothing (state store before.connection) (state store after.connection))
@@ -43,42 +43,38 @@ module _ {S : Type 0} (side : Side) (store : Ghosts S) (before after : BookState
       → (IsClean store after.connection → Stand n (take count slice) (state store after.connection))
       → (is_ahead n before.loaded ≡ true → IsClean store after.connection → HasFrom n (take count slice) (state store after.connection))
       → (is_ahead n before.loaded ≡ false → (before.loaded ≡ Some (n - 1)) × (count ≡ front))
-      → MarksAll side n taken old result new
+      → MarksAll side n (take count given) old result new
       → Saves side store before after n given old result new
-  stood items taken count old result new is one two cut longest early writes unwritten within stand ahead behind marks =
-      let same : slice ≡ given = two ∙ is in
-      record {
-        front = front;
-        longest = subst (λ (fs : List Fact). IsLongestFront fs front) (one ∙ is) longest;
-        early = early;
-        writes = λ clean. subst (λ (fs : List Fact). WritesAtMost n (take front fs) (state store before.connection) (state store after.connection)) same (writes clean);
-        unwritten = unwritten;
-        told = inl (record {
-          count = count;
-          within = subst (λ (fs : List Fact). count ≤ length fs) same within;
-          stand = λ clean. subst (λ (fs : List Fact). Stand n (take count fs) (state store after.connection)) same (stand clean);
-          ahead = λ is_so clean. subst (λ (fs : List Fact). HasFrom n (take count fs) (state store after.connection)) same (ahead is_so clean);
-          behind = behind;
-          marks = subst (λ (fs : List Fact). MarksAll side n fs old result new) (cut ∙ ap (λ (fs : List Fact). take count fs) is) marks;
-        });
-      }
+  stood count old result new same longest early writes unwritten within stand ahead behind marks = record {
+    front = front;
+    longest = longest;
+    early = early;
+    writes = λ clean. subst (λ (fs : List Fact). WritesAtMost n (take front fs) (state store before.connection) (state store after.connection)) same (writes clean);
+    unwritten = unwritten;
+    told = inl (record {
+      count = count;
+      within = subst (λ (fs : List Fact). count ≤ length fs) same within;
+      stand = λ clean. subst (λ (fs : List Fact). Stand n (take count fs) (state store after.connection)) same (stand clean);
+      ahead = λ is_so clean. subst (λ (fs : List Fact). HasFrom n (take count fs) (state store after.connection)) same (ahead is_so clean);
+      behind = behind;
+      marks = marks;
+    });
+  }
 
   pub stood_not :
-      (items : List Fact) (fault : StoreFault) (old : SeatState) (result : Result Turn SaveFault) (new : SeatState)
-      → items ≡ given → first ≡ items → slice ≡ items → IsLongestFront first front
+      (fault : StoreFault) (old : SeatState) (result : Result Turn SaveFault) (new : SeatState)
+      → slice ≡ given → IsLongestFront given front
       → (IsClean store after.connection → IsClean store before.connection)
       → (IsClean store after.connection → WritesAtMost n (take front slice) (state store before.connection) (state store after.connection))
       → (is_ahead n before.loaded ≡ true → IsClean store after.connection → WritesNothing (state store before.connection) (state store after.connection))
       → IsWriteFault store before after n slice front fault
       → Halts side fault old result new
       → Saves side store before after n given old result new
-  stood_not items fault old result new is one two longest early writes unwritten why halts =
-      let same : slice ≡ given = two ∙ is in
-      record {
-        front = front;
-        longest = subst (λ (fs : List Fact). IsLongestFront fs front) (one ∙ is) longest;
-        early = early;
-        writes = λ clean. subst (λ (fs : List Fact). WritesAtMost n (take front fs) (state store before.connection) (state store after.connection)) same (writes clean);
-        unwritten = unwritten;
-        told = inr (record { fault = fault; why = subst (λ (fs : List Fact). IsWriteFault store before after n fs front fault) same why; halts = halts });
-      }
+  stood_not fault old result new same longest early writes unwritten why halts = record {
+    front = front;
+    longest = longest;
+    early = early;
+    writes = λ clean. subst (λ (fs : List Fact). WritesAtMost n (take front fs) (state store before.connection) (state store after.connection)) same (writes clean);
+    unwritten = unwritten;
+    told = inr (record { fault = fault; why = subst (λ (fs : List Fact). IsWriteFault store before after n fs front fault) same why; halts = halts });
+  }

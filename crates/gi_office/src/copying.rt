@@ -1,7 +1,8 @@
 //! Copies: equal replies, and the facts that are to be saved.
 
-ghost use Rattle.std.specs.Prelude.{◌≡◌, ◌≤◌, ◌+◌, ◌^◌, IfOk, length};
+ghost use Rattle.std.specs.Prelude.{◌≡◌, ◌≤◌, ◌+◌, ◌^◌, IfOk, Some, length};
 ghost use Rattle.std.specs.List.{AllByRecursion};
+ghost use Rattle.gi_desk.specs.Queries.{fact_at};
 ghost use Rattle.gi_facts.specs.Grammar.{IsWritable};
 ghost use Rattle.gi_office.specs.Saving.{next_facts as next_facts_of};
 
@@ -28,6 +29,16 @@ pub(crate) fn reply_copy(alloc: Global, reply: &Reply) -> Result<Reply, AllocErr
     })
 }
 
+fn fact_copy<R: Role>(desk: &Desk<R>, n: u32) -> Result<Fact, AllocError>
+    requires some { 1 ≤ n }
+    requires within { n ≤ length desk.now.facts }
+    ensures value { IfOk result (λ copy. fact_at desk.now.facts n ≡ Some copy) }
+    ensures writable { IfOk result IsWritable }
+{
+    let fact = desk.fact(n).unwrap();
+    fact.copy()
+}
+
 pub(crate) fn next_facts<R: Role>(alloc: Global, desk: &Desk<R>) -> Result<Vec<Fact>, AllocError>
     ensures facts { IfOk result (λ copies. copies.items ≡ next_facts_of desk.now) }
     ensures writable { IfOk result (λ copies. AllByRecursion IsWritable copies.items) }
@@ -37,8 +48,7 @@ pub(crate) fn next_facts<R: Role>(alloc: Global, desk: &Desk<R>) -> Result<Vec<F
     let count = (desk.len() - saved).min(MOST_FACTS as u32);
     let mut copies = Vec::with_capacity(alloc, count as usize)?;
     for before in 0..count {
-        let fact = desk.fact(saved + before + 1).unwrap();
-        copies.push(fact.copy()?)?;
+        copies.push_reserved(fact_copy(desk, saved + before + 1)?);
     }
     Ok(copies)
 }

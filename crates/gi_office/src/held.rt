@@ -1,5 +1,5 @@
-ghost use Rattle.std.specs.Prelude.{◌≡◌, ◌≢◌, IfSome, ◌<◌, ◌≤◌, ◌↔◌, Err, IfOk, OnErr, OnOk, false, length, vec_capacity, vec_len};
-ghost use Rattle.gi_desk.specs.Machine.{after, reply as reply_of};
+ghost use Rattle.std.specs.Prelude.{◌≡◌, ◌≢◌, IfSome, ◌<◌, ◌≤◌, ◌↔◌, ◌+◌, [], ◌∷◌, ◌++◌, Err, IfErr, IfOk, OnErr, OnOk, false, length, vec_capacity, vec_len};
+ghost use Rattle.gi_desk.specs.Machine.{after, prepared as prepared_of, reply as reply_of};
 ghost use Rattle.gi_office.specs.Entering.{entered, noted, receipt_of};
 ghost use Rattle.gi_office.specs.Keeping.{IsFull, IsKept};
 ghost use Rattle.gi_office.specs.Limits.{most_seats};
@@ -22,7 +22,7 @@ use crate::settled::Settled;
 use crate::settling::{first_fault, merge};
 use crate::unsettled::Unsettled;
 use crate::waited::Waited;
-use gi_desk::{Call, Desk, Reply, Role, only_appends};
+use gi_desk::{Call, Desk, Prepared, Reply, Role, only_appends};
 use std::alloc::{AllocError, Global};
 use std::marker::Model;
 use std::sync::ledger::{Blank, Book, Ledger};
@@ -71,9 +71,38 @@ fn written(
     ensures entry { IfOk result (λ both. both.0 ≡ record { seat = number; call = call; reply = reply.now }) }
     ensures note { IfOk result (λ both. both.1 ≡ record { place = place; call = call; reply = reply.now }) }
 {
-    let entry = entry_of(alloc, number, &call, reply)?;
-    let note = note_of(alloc, place, call, reply)?;
+    let Ok(entry) = entry_of(alloc, number, &call, reply) else {
+        drop(call);
+        return Err(AllocError);
+    };
+    let Ok(note) = note_of(alloc, place, call, reply) else {
+        drop(entry);
+        return Err(AllocError);
+    };
     Ok((entry, note))
+}
+
+/// A step that is prepared, and what is kept of its call.
+fn prepared<R: Role>(
+    alloc: Global,
+    desk: &Desk<R>,
+    number: u8,
+    place: u64,
+    call: Call,
+) -> Result<(Prepared, (Entry, Note)), AllocError>
+    ensures step { IfOk result (λ both. both.0 ≡ prepared_of R.SIDE desk.now call) }
+    ensures entry { IfOk result (λ both. both.1.0 ≡ record { seat = number; call = call; reply = reply_of R.SIDE desk.now call }) }
+    ensures note { IfOk result (λ both. both.1.1 ≡ record { place = place; call = call; reply = reply_of R.SIDE desk.now call }) }
+{
+    let Ok(prepared) = desk.prepare(&call) else {
+        drop(call);
+        return Err(AllocError);
+    };
+    let Ok(copies) = written(alloc, number, place, call, prepared.reply()) else {
+        drop(prepared);
+        return Err(AllocError);
+    };
+    Ok((prepared, copies))
 }
 
 /// Makes a step of the desk, and gives its reply and what is kept of it. The copies are made before
@@ -91,10 +120,53 @@ fn step<R: Role>(
     ensures next { OnOk result (desk.new ≡ after R.SIDE desk.old call) }
     ensures kept { OnErr result (desk.new ≡ desk.old) }
 {
-    let prepared = desk.prepare(&call)?;
-    let copies = written(alloc, number, place, call, prepared.reply())?;
-    let reply = desk.make(prepared)?;
+    let (prepared, copies) = prepared(alloc, desk, number, place, call)?;
+    let Ok(reply) = desk.make(prepared) else {
+        drop(copies);
+        return Err(AllocError);
+    };
     Ok((reply, copies))
+}
+
+fn keep(trail: &mut Vec<Entry>, notes: &mut Vec<Note>, copies: (Entry, Note))
+    requires entry { vec_len trail.old < vec_capacity trail.old }
+    requires note { vec_len notes.old < vec_capacity notes.old }
+    ensures trail { trail.new.items ≡ trail.old.items ++ copies.0 ∷ [] }
+    ensures notes { notes.new.items ≡ notes.old.items ++ copies.1 ∷ [] }
+{
+    let (entry, note) = copies;
+    trail.push_reserved(entry);
+    notes.push_reserved(note);
+}
+
+/// Makes a step of the desk, and puts what is kept of it behind the trail and the notes. Room is made
+/// first, so that all is as before where memory is refused.
+fn taken<R: Role>(
+    alloc: Global,
+    desk: &mut Desk<R>,
+    trail: &mut Vec<Entry>,
+    notes: &mut Vec<Note>,
+    number: u8,
+    call: Call,
+) -> Result<Receipt, AllocError>
+    ensures receipt { IfOk result (λ receipt. receipt ≡ record { seat = number; place = length trail.old.items + 1; reply = reply_of R.SIDE desk.old call }) }
+    ensures next { OnOk result (desk.new ≡ after R.SIDE desk.old call) }
+    ensures trail { OnOk result (trail.new.items ≡ trail.old.items ++ record { seat = number; call = call; reply = reply_of R.SIDE desk.old call } ∷ []) }
+    ensures notes { OnOk result (notes.new.items ≡ notes.old.items ++ record { place = length trail.old.items + 1; call = call; reply = reply_of R.SIDE desk.old call } ∷ []) }
+    ensures kept { OnErr result ((desk.new ≡ desk.old) × (trail.new.items ≡ trail.old.items) × (notes.new.items ≡ notes.old.items)) }
+{
+    if let Err(refused) = room(trail, notes) {
+        drop(call);
+        return Err(refused);
+    }
+    let place = trail.len() as u64 + 1;
+    let (reply, copies) = step(alloc, desk, number, place, call)?;
+    keep(trail, notes, copies);
+    Ok(Receipt {
+        seat: number,
+        place,
+        reply,
+    })
 }
 
 /// What the lock of an office keeps: the desk, and the trail of all calls since it was opened.
@@ -120,6 +192,40 @@ impl<R: Role, L: Ledger> Model for Held<R, L> {
     ghost invariant = { λ h. IsKept R.SIDE (record { opening = h.opening; seats = h.seats; desk = h.desk; trail = h.trail.items; total = h.book.total }) };
 }
 
+/// The office over a desk, and its seats, among which the parts of the ledger are split.
+fn opened<R: Role, L: Ledger>(
+    alloc: Global,
+    blank: Blank,
+    desk: Desk<R>,
+    seats: u8,
+) -> Result<(Held<R, L>, Vec<Seat<L>>), OpenFault>
+    requires name { blank.name ≡ L.name }
+    requires whole { blank.parts ≡ L.parts }
+    requires parts { blank.parts ≡ 16 }
+    requires saved { desk.saved ≡ length desk.facts }
+    requires runs { desk.halted ≡ false }
+    requires some { 1 ≤ seats }
+    requires few { seats ≤ most_seats }
+    ensures held { IfOk result (λ office. office.0 ≡ new_held desk seats) }
+    ensures seats { IfOk result (λ office. office.1.items ≡ new_seats seats) }
+    ensures fault { IfErr result (λ fault. fault ≡ OpenFault.OutOfMemory) }
+{
+    let (book, share) = blank.open::<L>();
+    let Ok(places) = seats_of(alloc, share, seats) else {
+        drop(desk);
+        return Err(OpenFault::OutOfMemory);
+    };
+    let held = Held {
+        alloc,
+        opening: desk.len(),
+        seats,
+        desk,
+        trail: Vec::new(alloc),
+        book,
+    };
+    Ok((held, places))
+}
+
 impl<R: Role, L: Ledger> Held<R, L> {
     /// A desk that is not halted and whose facts are all saved, with so many seats, from 1 to 16, else
     /// `SeatCount`; then `OutOfMemory`. It opens the ledger and splits it by seat.
@@ -139,19 +245,10 @@ impl<R: Role, L: Ledger> Held<R, L> {
         ensures seats { IfOk result (λ office. office.1.items ≡ new_seats seats) }
     {
         if seats < 1 || MOST_SEATS < seats {
+            drop(desk);
             return Err(OpenFault::SeatCount);
         }
-        let (book, share) = blank.open::<L>();
-        let places = seats_of(alloc, share, seats as u8)?;
-        let held = Held {
-            alloc,
-            opening: desk.len(),
-            seats: seats as u8,
-            desk,
-            trail: Vec::new(alloc),
-            book,
-        };
-        Ok((held, places))
+        opened(alloc, blank, desk, seats as u8)
     }
 
     /// The facts that the desk was opened with and the calls since then are a legal life, of which
@@ -174,19 +271,20 @@ impl<R: Role, L: Ledger> Held<R, L> {
         ensures kept { OnErr result ((self.new ≡ self.old) × (seat.new ≡ seat.old)) }
     {
         if seat.notes.len() >= MOST_NOTES {
+            drop(call);
             return Err(OfficeFault::SeatFull);
         }
         only_appends();
-        room(&mut self.trail, &mut seat.notes)?;
-        let place = self.trail.len() as u64 + 1;
-        let (reply, (entry, note)) = step(self.alloc, &mut self.desk, seat.number, place, call)?;
-        let receipt = Receipt {
-            seat: seat.number,
-            place,
-            reply,
+        let Ok(receipt) = taken(
+            self.alloc,
+            &mut self.desk,
+            &mut self.trail,
+            &mut seat.notes,
+            seat.number,
+            call,
+        ) else {
+            return Err(OfficeFault::OutOfMemory);
         };
-        self.trail.push_reserved(entry);
-        seat.notes.push_reserved(note);
         self.book.add(&mut seat.share, 1);
         Ok(receipt)
     }
@@ -254,7 +352,11 @@ impl<R: Role, L: Ledger> Held<R, L> {
         } = self;
         merge(book, seats);
         match unsettled {
-            Some(fault) => Err(fault),
+            Some(fault) => {
+                drop(desk);
+                drop(trail);
+                Err(fault)
+            }
             None => Ok(Settled {
                 earlier: Vec::new(alloc),
                 before: 0,

@@ -1,7 +1,7 @@
 //! The lives of two offices of one operator, joined where the later one was opened with what the
 //! former one left.
 
-ghost use Rattle.std.specs.Prelude.{◌≡◌, ◌≤◌, ◌↔◌, ◌∷◌, ◌++◌, IfOk, IsTrue, MatchOption, OnOk, length, take};
+ghost use Rattle.std.specs.Prelude.{◌≡◌, ◌≤◌, ◌↔◌, ◌∷◌, ◌++◌, IfErr, IfOk, IsTrue, MatchOption, OnOk, length, take};
 ghost use Rattle.std.specs.Option.{option_copied};
 ghost use Rattle.gi_office.specs.Joining.{Breaks, IsOther, Joins, joined_of, opening_of};
 ghost use Rattle.gi_office.specs.Settling.{GoesOn};
@@ -68,9 +68,10 @@ fn append(
     trail.append(further_trail)
 }
 
-fn joined<R: Role>(former: Settled<R>, later: Settled<R>) -> Result<Settled<R>, AllocError>
+fn joined<R: Role>(former: Settled<R>, later: Settled<R>) -> Result<Settled<R>, LifeFault>
     requires { GoesOn former.desk later.desk.point (opening_of later.lives) }
-    ensures { IfOk result (λ joined. joined ≡ joined_of former later) }
+    ensures value { IfOk result (λ joined. joined ≡ joined_of former later) }
+    ensures fault { IfErr result (λ fault. fault ≡ LifeFault.OutOfMemory) }
 {
     let Settled {
         earlier,
@@ -115,8 +116,12 @@ pub fn join_lives<R: Role>(former: Settled<R>, later: Settled<R>) -> Result<Sett
     ensures { Joins former later result }
 {
     let opening = later.first_opening();
-    if let Some(n) = break_of(former.desk(), later.desk(), opening) {
-        return Err(LifeFault::LifeBroken(n));
+    match break_of(former.desk(), later.desk(), opening) {
+        Some(n) => {
+            drop(former);
+            drop(later);
+            Err(LifeFault::LifeBroken(n))
+        }
+        None => joined(former, later),
     }
-    Ok(joined(former, later)?)
 }

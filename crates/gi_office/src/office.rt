@@ -53,7 +53,7 @@ fn number_of(answer: &Answer) -> Option<u32>
 }
 
 /// `known` comes first: of what a lock gives nothing is known before.
-pub(crate) fn asked<R: Role, L: Ledger>(
+fn asked<R: Role, L: Ledger>(
     held: &mut Held<R, L>,
     seat: &mut Seat<L>,
     call: Call,
@@ -100,6 +100,20 @@ impl<R: Role, L: Ledger> Office<R, L> {
         ensures { IsAnswered R.SIDE seat.old call result seat.new }
     {
         asked(&mut *self.held.lock(rt), seat, call)
+    }
+
+    /// A call after which a fact may be saved or the desk halted: all that wait for that are woken.
+    fn ask_and_wake<W: Wait>(
+        &self,
+        rt: &W,
+        seat: &mut Seat<L>,
+        call: Call,
+    ) -> Result<Receipt, OfficeFault>
+        ensures { IsAnswered R.SIDE seat.old call result seat.new }
+    {
+        let answer = self.ask_from(rt, seat, call);
+        self.changed.notify_all();
+        answer
     }
 
     fn ask<W: Wait>(

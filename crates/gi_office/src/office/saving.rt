@@ -1,13 +1,14 @@
 //! The turn that saves: it looks at the next facts under the lock, has the first of them stand in the
 //! book with no lock held, and marks them under the lock.
 
-ghost use Rattle.std.specs.Prelude.{◌≡◌, ◌⊎◌, IfOk};
+ghost use Rattle.std.specs.Prelude.{◌≡◌, ◌⊎◌, ◌≤◌, Err, IfErr, IfOk, Ok, OnOk, length, take};
+ghost use Rattle.gi_store.specs.Batches.{IsLongestFront};
 ghost use Rattle.gi_office.specs.Saving.{AreNext, CanBeWritten, Halts, IsSeen, Marks, MarksAll, Saves, TakesNone, TakesTurn, turn_of as turn_of_mark};
 
 use crate::facts::Facts;
 use crate::held::Held;
 use crate::look::Look;
-use crate::office::{Office, asked};
+use crate::office::Office;
 use crate::office_fault::OfficeFault;
 use crate::receipt::Receipt;
 use crate::save_fault::SaveFault;
@@ -65,6 +66,13 @@ impl<R: Role, L: Ledger> Office<R, L> {
         (seat, turn)
     }
 
+    fn look<W: Wait>(&self, rt: &W) -> Result<Look, AllocError>
+        ensures seen { IfOk result (IsSeen R.SIDE) }
+        ensures writable { IfOk result CanBeWritten }
+    {
+        looked(&*self.held.lock(rt))
+    }
+
     fn turn<S: Alter, W: Wait>(
         &self,
         rt: &W,
@@ -73,8 +81,7 @@ impl<R: Role, L: Ledger> Office<R, L> {
     ) -> Result<Turn, SaveFault>
         ensures { TakesTurn R.SIDE S.Store book.old book.new seat.old result seat.new }
     {
-        let look = looked(&*self.held.lock(rt));
-        match look {
+        match self.look(rt) {
             Ok(Look::Next { n, facts }) => self.save(rt, seat, book, n, facts),
             Ok(Look::Nothing) => Ok(Turn::Nothing),
             Ok(Look::Halted) => Err(SaveFault::Halted),
@@ -93,17 +100,48 @@ impl<R: Role, L: Ledger> Office<R, L> {
         requires { AreNext n facts }
         ensures { TakesNone book.old book.new seat.old result seat.new ⊎ Saves R.SIDE S.Store book.old book.new n facts seat.old result seat.new }
     {
-        let mut facts = facts.into_vec();
+        let facts = facts.into_vec();
         let Ok(front) = fitting(*facts.allocator(), &facts) else {
             return Err(SaveFault::Office(OfficeFault::OutOfMemory));
         };
+        self.save_front(rt, seat, book, n, facts, front)
+    }
+
+    fn save_front<S: Alter, W: Wait>(
+        &self,
+        rt: &W,
+        seat: &mut Seat<L>,
+        book: &mut BookStore<S>,
+        n: u32,
+        facts: Vec<Fact>,
+        front: usize,
+    ) -> Result<Turn, SaveFault>
+        requires next { AreNext n facts.items }
+        requires longest { IsLongestFront facts.items front }
+        ensures { Saves R.SIDE S.Store book.old book.new n facts.items seat.old result seat.new }
+    {
         match write(book, n, &facts, front) {
-            Ok(count) => {
-                facts.truncate(count);
-                self.mark_all(rt, seat, n, facts)
-            }
+            Ok(count) => self.mark_first(rt, seat, n, facts, count),
             Err(fault) => self.stop(rt, seat, fault),
         }
+    }
+
+    fn mark_first<W: Wait>(
+        &self,
+        rt: &W,
+        seat: &mut Seat<L>,
+        n: u32,
+        facts: Vec<Fact>,
+        count: usize,
+    ) -> Result<Turn, SaveFault>
+        requires next { AreNext n facts.items }
+        requires some { 1 ≤ count }
+        requires within { count ≤ length facts.items }
+        ensures { MarksAll R.SIDE n (take count facts.items) seat.old result seat.new }
+    {
+        let mut facts = facts;
+        facts.truncate(count);
+        self.mark_all(rt, seat, n, facts)
     }
 
     fn mark_all<W: Wait>(
@@ -119,13 +157,31 @@ impl<R: Role, L: Ledger> Office<R, L> {
         let mut turn = Turn::Nothing;
         let mut marked = 0;
         for fact in facts {
-            match self.mark(rt, seat, n + marked, fact) {
-                Ok(saved) => turn = saved,
-                Err(fault) => return Err(fault),
+            match self.mark_next(rt, seat, n + marked, fact, &mut turn) {
+                Ok(()) => marked += 1,
+                Err(fault) => {
+                    drop(turn);
+                    return Err(fault);
+                }
             }
-            marked += 1;
         }
         Ok(turn)
+    }
+
+    /// What the last mark came to is what the turn comes to.
+    fn mark_next<W: Wait>(
+        &self,
+        rt: &W,
+        seat: &mut Seat<L>,
+        n: u32,
+        fact: Fact,
+        turn: &mut Turn,
+    ) -> Result<(), SaveFault>
+        ensures marked { OnOk result (Marks R.SIDE n fact seat.old (Ok turn.new) seat.new) }
+        ensures refused { IfErr result (λ fault. Marks R.SIDE n fact seat.old (Err fault) seat.new) }
+    {
+        *turn = self.mark(rt, seat, n, fact)?;
+        Ok(())
     }
 
     fn mark<W: Wait>(
@@ -137,9 +193,7 @@ impl<R: Role, L: Ledger> Office<R, L> {
     ) -> Result<Turn, SaveFault>
         ensures { Marks R.SIDE n fact seat.old result seat.new }
     {
-        let answer = asked(&mut *self.held.lock(rt), seat, Call::MarkSaved { n, fact });
-        self.changed.notify_all();
-        turn_of(answer)
+        turn_of(self.ask_and_wake(rt, seat, Call::MarkSaved { n, fact }))
     }
 
     fn stop<W: Wait>(
@@ -150,9 +204,7 @@ impl<R: Role, L: Ledger> Office<R, L> {
     ) -> Result<Turn, SaveFault>
         ensures { Halts R.SIDE fault seat.old result seat.new }
     {
-        let answer = asked(&mut *self.held.lock(rt), seat, Call::Halt);
-        self.changed.notify_all();
-        match answer {
+        match self.ask_and_wake(rt, seat, Call::Halt) {
             Ok(_) => Err(SaveFault::Store(fault)),
             Err(refused) => Err(SaveFault::Office(refused)),
         }

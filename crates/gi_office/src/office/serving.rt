@@ -1,8 +1,10 @@
 //! Sessions that are served at the same time: a worker for each, in a thread of its own.
 
 ghost use Rattle.std.specs.Prelude.{◌≡◌, ◌≤◌, ◌<◌, ◌+◌, ◌^◌, [], All, IfErr, IfOk, length, map, vec_capacity};
+ghost use Rattle.gi_desk.specs.declared.call.Call.TheVariants as calls;
+ghost use Rattle.gi_office.specs.Entering.{IsAnswered};
 ghost use Rattle.gi_office.specs.Serving.{AreServed, IsServed, Submits};
-ghost use Rattle.gi_office.specs.Working.{IsReady, served_of, session_of};
+ghost use Rattle.gi_office.specs.Working.{AreRooms, IsReady, served_of, session_of};
 
 use crate::gate::Gate;
 use crate::office::Office;
@@ -18,6 +20,23 @@ use std::thread::Threads;
 use std::{mem, thread};
 
 impl<R: Role, L: Ledger> Office<R, L> {
+    /// Tells the gate once the call is answered.
+    fn submit_told<W: Wait, G: Gate>(
+        &self,
+        rt: &W,
+        gate: &G,
+        number: usize,
+        call: usize,
+        seat: &mut Seat<L>,
+        body: Body,
+    ) -> Result<Receipt, OfficeFault>
+        ensures { IsAnswered R.SIDE seat.old (calls.Submit body) result seat.new }
+    {
+        let answer = self.ask_from(rt, seat, Call::Submit(body));
+        gate.answered(rt, number, call);
+        answer
+    }
+
     /// `Err(None)` where the gate ends the session.
     fn submit_next<W: Wait, G: Gate>(
         &self,
@@ -33,9 +52,7 @@ impl<R: Role, L: Ledger> Office<R, L> {
         if !gate.hold(rt, number, call) {
             return Err(None);
         }
-        let answer = self.ask_from(rt, seat, Call::Submit(body));
-        gate.answered(rt, number, call);
-        match answer {
+        match self.submit_told(rt, gate, number, call, seat, body) {
             Ok(receipt) => Ok(receipt),
             Err(fault) => Err(Some(fault)),
         }
@@ -95,6 +112,25 @@ impl<R: Role + Send, L: Ledger + Send> Office<R, L> {
         );
     }
 
+    fn serve_all<T: Threads + Wait + Sync, G: Gate + Sync>(
+        &self,
+        rt: &T,
+        gate: &G,
+        sessions: Vec<Session<L>>,
+        rooms: Vec<Vec<Receipt>>,
+        works: Vec<Work<L>>,
+        served: Vec<Served<L>>,
+    ) -> Vec<Served<L>>
+        requires rooms { AreRooms sessions.items rooms.items }
+        requires works { (works.items ≡ []) × (length sessions.items ≤ vec_capacity works) }
+        requires served { (served.items ≡ []) × (length sessions.items ≤ vec_capacity served) }
+        ensures { AreServed R.SIDE (G.may_end gate.now) 1 sessions.items result.items }
+    {
+        let mut works = begun(sessions, rooms, works);
+        self.run_all(rt, gate, &mut works);
+        ended(works, served)
+    }
+
     /// Serves sessions, numbered from 1 in this order, and gives what came of each, in the same order.
     /// Each has a worker, which submits its bodies one after the other; it asks the gate before each
     /// call, and tells it after. A session ends at its first fault, and where the gate says so. Each
@@ -114,8 +150,6 @@ impl<R: Role + Send, L: Ledger + Send> Office<R, L> {
         let Ok((rooms, works, served)) = growths(&sessions) else {
             return Err((sessions, OfficeFault::OutOfMemory));
         };
-        let mut works = begun(sessions, rooms, works);
-        self.run_all(rt, gate, &mut works);
-        Ok(ended(works, served))
+        Ok(self.serve_all(rt, gate, sessions, rooms, works, served))
     }
 }

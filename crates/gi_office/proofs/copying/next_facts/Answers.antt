@@ -1,18 +1,18 @@
-use Rattle.std.proofs.Common.{rules, ◌≡◌, ◌+◌, Some, arith}
-use Rattle.gi_desk.specs.Queries.{fact_at}
-use Rattle.gi_facts.specs.Grammar.{IsWritable}
+use Rattle.std.proofs.Common.{◌≡◌, length, ap, arith}
+use Rattle.std.proofs.lemmas.List.{length_push}
 use Rattle.gi_office.proofs.NextFacts.{next_pushed, next_taken, writable_pushed}
 use Rattle.gi_office.proofs.copying.next_facts.Goals as goal
 
 pub loop-before-preserved : goal.loop-before-preserved
 loop-before-preserved g c =
     let at = c.loop-before in
-    let copy = c.in_ok-copy.field-0 in
-    let found : fact_at c.args.desk.now.facts (c.saved-saved.result + at.before + 1) ≡ Some copy = search rules in
-    let writable : IsWritable copy = search rules in
+    let copy = c.in_ok-fact_copy.field-0 in
+    let pushed = c.push_reserved.ensures.items in
     record {
-      copies = next_pushed c.saved-saved.result at.before c.args.desk.now.facts at.copies.items c.push.new.self.items copy found at.invariant.copies c.in_ok-push.ensures.items;
-      writable = writable_pushed at.copies.items c.push.new.self.items copy c.in_ok-push.ensures.items at.invariant.writable writable;
+      copies = next_pushed c.saved-saved.result at.before c.args.desk.now.facts at.copies.items c.push_reserved.new.self.items copy c.in_ok-fact_copy.ensures.value at.invariant.copies pushed;
+      writable = writable_pushed at.copies.items c.push_reserved.new.self.items copy pushed at.invariant.writable c.in_ok-fact_copy.ensures.writable;
+      counted = omega (arith, ap length pushed, length_push at.copies.items copy, at.invariant.counted);
+      room = omega (arith, at.invariant.room, c.push_reserved.ensures.capacity);
     }
 
 pub returns-clause-facts : goal.returns-clause-facts

@@ -24,8 +24,8 @@ invariant_of-result g c =
     (joined-kept side former.desk later.desk former.earlier.items later.earlier.items former.before former.opening later.opening later.before former.trail.items later.trail.items
     calls c.former.invariant c.later.invariant number goes)
 
-pub returns : goal.returns
-returns g c =
+pub returns-clause-value : goal.returns-clause-value
+returns-clause-value g c =
     let side = g.R.Role.SIDE in
     let former = c.former.inside in
     let later = c.later.inside in

@@ -1,7 +1,4 @@
-use Rattle.std.proofs.Common.{◌≡◌, [], ◌∷◌, ◌++◌, ◌∙◌}
-use Rattle.gi_desk.specs.Machine.{reply}
 use Rattle.gi_office.specs.Keeping.{HeldState, SeatState}
-use Rattle.gi_office.specs.declared.entry.Entry.{Entry}
 use Rattle.gi_office.proofs.Runs.{entered_kept}
 use Rattle.gi_office.proofs.held.Held.enter.Goals as goal
 
@@ -11,6 +8,4 @@ invariant_of-self-2 g c =
     let inside = c.self.inside in
     let held : HeldState = record { opening = inside.opening; seats = inside.seats; desk = inside.desk; trail = inside.trail.items; total = inside.book.total } in
     let seat : SeatState = record { number = c.seat.inside.number; notes = c.seat.inside.notes.items; amount = c.seat.inside.share.amount; parts = c.seat.inside.share.parts } in
-    let entry : Entry = record { seat = seat.number; call = c.args.call; reply = reply side held.desk c.args.call } in
-    let trail : c.push_reserved.new.self.items ≡ held.trail ++ entry ∷ [] = c.push_reserved.ensures.items ∙ (λ i. c.room.ensures.trail i ++ c.in_ok-reply.ensures.entry i ∷ []) in
-    rw (c.in_ok-reply.ensures.next, trail, c.add.ensures.total) (entered_kept c.only_appends.ensures side held seat c.args.call c.self.invariant)
+    rw (c.in-Ok.ensures.next, c.in-Ok.ensures.trail, c.add.ensures.total) (entered_kept c.only_appends.ensures side held seat c.args.call c.self.invariant)

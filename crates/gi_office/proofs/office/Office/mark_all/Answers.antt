@@ -12,16 +12,16 @@ pub loop-fact-preserved : goal.loop-fact-preserved
 loop-fact-preserved g c =
     let at = c.loop-fact in
     record {
-      marks = goes_on g.R.Role.SIDE c.args.n c.args.facts.items (into_iter_items at.fact-iterator) (into_iter_items c.next.new.self) c.in-Some.fact c.args.seat.now at.turn at.seat at.marked c.in-Ok.saved c.mark.new.seat
-          at.invariant.marks c.in-Some.ensures.steps.0 c.in-Ok.ensures;
+      marks = goes_on g.R.Role.SIDE c.args.n c.args.facts.items (into_iter_items at.fact-iterator) (into_iter_items c.next.new.self) c.in-Some.fact c.args.seat.now at.turn at.seat at.marked c.mark_next.new.turn c.mark_next.new.seat
+          at.invariant.marks c.in-Some.ensures.steps.0 c.in-Ok.ensures.marked;
       left = search rules;
     }
 
 pub returns-in-Err : goal.returns-in-Err
 returns-in-Err g c =
     let at = c.loop-fact in
-    stops g.R.Role.SIDE c.args.n c.args.facts.items (into_iter_items at.fact-iterator) (into_iter_items c.next.new.self) c.in-Some.fact c.args.seat.now at.turn at.seat at.marked c.in-Err.fault c.mark.new.seat
-    at.invariant.marks c.in-Some.ensures.steps.0 c.in-Err.ensures
+    stops g.R.Role.SIDE c.args.n c.args.facts.items (into_iter_items at.fact-iterator) (into_iter_items c.next.new.self) c.in-Some.fact c.args.seat.now at.turn at.seat at.marked c.in-Err.fault c.mark_next.new.seat
+    at.invariant.marks c.in-Some.ensures.steps.0 c.in-Err.ensures.refused
 
 pub returns : goal.returns
 returns g c =
