@@ -7,6 +7,7 @@ use gi_book_cases::Books;
 use gi_calls::{Fault, answered};
 use gi_capacity_cases::{Nominations, Processing, Repeated};
 use gi_desk_cases::{Desks, Roles};
+use gi_desk_days::DrawnDays;
 use gi_message_cases::{Facts, Messages};
 use gi_office_cases::office_answers;
 use gi_script_cases::{Carriers, Reports, Scripts};
@@ -31,6 +32,7 @@ fn answers<W: Wait>(
         "cycles" => answered(rt, Cycles::new(), cases),
         "days" => answered(rt, Days::new(), cases),
         "desks" => answered(rt, Desks::new(alloc), cases),
+        "drawn" => answered(rt, DrawnDays, cases),
         "facts" => answered(rt, Facts::new(), cases),
         "messages" => answered(rt, Messages::new(), cases),
         "nominations" => answered(rt, Repeated::of(Nominations::new()), cases),

@@ -1,16 +1,15 @@
 //! A desk and a plain desk, side by side over days that are drawn.
 
-use crate::drawing::{Names, drawn};
+use crate::drawing::drawn;
+use crate::memory::{put, written};
+use crate::names::Names;
 use crate::plain::{Plain, number};
 use crate::random::Random;
 use gi_day::Calendar;
-use gi_desk::{Call, Desk, Packet, Role};
-use gi_initiator::Initiating;
-use gi_matcher::Matching;
-use gi_messages::{Message, Nomres, encode};
+use gi_desk::{Call, Desk, Fact, Packet, Role};
+use gi_messages::Message;
 use gi_pairs::{Code, CycleId, Table};
-use std::alloc::{AllocError, Global};
-use std::test::Fail;
+use std::alloc::Global;
 
 /// Whether both are to the same recipient, and of the same bytes.
 fn is_same(packet: &Packet, other: &Packet) -> bool {
@@ -31,20 +30,30 @@ fn are_same(packets: &[Packet], others: &[Packet]) -> bool {
 }
 
 /// Makes the call at both: whether they reply the same.
-fn step<R: Role>(desk: &mut Desk<R>, plain: &mut Plain, call: &Call) -> Result<bool, Fail> {
+fn step<R: Role>(desk: &mut Desk<R>, plain: &mut Plain, call: &Call) -> bool {
     let mut out = Vec::new(plain.alloc);
-    let answer = plain.step(&mut out, call)?;
+    let answer = plain.step(&mut out, call);
     let reply = desk.step(call);
-    Ok(reply.answer == answer && are_same(reply.out.as_slice(), &out))
+    reply.answer == answer && are_same(reply.out.as_slice(), &out)
 }
 
-/// Whether both have the same facts, and as many of them saved.
-fn have_same_facts<R: Role>(desk: &Desk<R>, plain: &Plain) -> bool {
-    if desk.halted() != plain.halted || desk.saved() != number(plain.saved) {
-        return false;
+/// Makes a call that is drawn at both: whether they reply the same.
+fn step_drawn<R: Role>(
+    desk: &mut Desk<R>,
+    plain: &mut Plain,
+    names: &Names,
+    random: &mut Random,
+) -> bool {
+    match drawn(plain, names, random) {
+        Some(call) => step(desk, plain, &call),
+        None => false,
     }
+}
+
+/// Whether both have the same facts.
+fn have_same_facts<R: Role>(desk: &Desk<R>, facts: &[Fact]) -> bool {
     let mut n = 0u32;
-    for fact in &plain.facts {
+    for fact in facts {
         n = n.wrapping_add(1);
         match desk.fact(n) {
             Some(other) if other.is(fact) => {}
@@ -54,11 +63,19 @@ fn have_same_facts<R: Role>(desk: &Desk<R>, plain: &Plain) -> bool {
     desk.len() == n
 }
 
-/// The bytes of what is told; none of nothing.
-fn text_of(alloc: Global, told: Option<Nomres>) -> Result<Vec<u8>, AllocError> {
-    match told {
-        Some(told) => encode(alloc, &Message::Nomres(told)),
-        None => Ok(Vec::new(alloc)),
+/// The bytes of what a desk tells the portfolio of a cycle; no byte of nothing.
+fn told_by<R: Role>(alloc: Global, desk: &Desk<R>, portfolio: Code, id: &CycleId) -> Vec<u8> {
+    match desk.told(portfolio, *id) {
+        Ok(Some(told)) => written(alloc, Message::Nomres(told)),
+        _ => Vec::new(alloc),
+    }
+}
+
+/// The same of a plain desk, where this is the confirmed table.
+fn told_plainly(plain: &Plain, portfolio: Code, id: &CycleId, confirmed: &Table) -> Vec<u8> {
+    match plain.told(portfolio, id, confirmed) {
+        Some(told) => written(plain.alloc, Message::Nomres(told)),
+        None => Vec::new(plain.alloc),
     }
 }
 
@@ -69,10 +86,9 @@ fn tell_it_same<R: Role>(
     portfolio: Code,
     id: &CycleId,
     confirmed: &Table,
-) -> Result<bool, AllocError> {
-    let told = text_of(plain.alloc, desk.told(portfolio, *id)?)?;
-    let other = text_of(plain.alloc, plain.told(portfolio, id, confirmed)?)?;
-    Ok(told.as_slice() == other.as_slice())
+) -> bool {
+    let told = told_by(plain.alloc, desk, portfolio, id);
+    told.as_slice() == told_plainly(plain, portfolio, id, confirmed).as_slice()
 }
 
 /// Whether both tell each portfolio the same.
@@ -82,70 +98,76 @@ fn tell_same<R: Role>(
     names: &Names,
     id: &CycleId,
     confirmed: &Table,
-) -> Result<bool, AllocError> {
+) -> bool {
     for number in 0..3 {
-        if !tell_it_same(desk, plain, names.portfolio(number), id, confirmed)? {
-            return Ok(false);
+        if !tell_it_same(desk, plain, names.portfolio(number), id, confirmed) {
+            return false;
         }
     }
-    Ok(true)
+    true
 }
 
-/// Whether the cycle is as far at both, and both confirm the same of it.
-fn say_same<R: Role>(
-    desk: &Desk<R>,
-    plain: &Plain,
-    names: &Names,
-    id: &CycleId,
-) -> Result<bool, Fail> {
-    if desk.state(*id) != plain.state(id) {
-        return Ok(false);
+/// Whether a desk tells the portfolio nothing of a cycle.
+fn tells_nothing<R: Role>(desk: &Desk<R>, portfolio: Code, id: &CycleId) -> bool {
+    match desk.told(portfolio, *id) {
+        Ok(told) => told.is_none(),
+        Err(_) => false,
     }
-    match (plain.confirmed(id)?, desk.confirmed(*id)) {
-        (Some(other), Some(table)) => {
-            Ok(*table == other && tell_same(desk, plain, names, id, &other)?)
-        }
-        (None, None) => Ok(desk.told(names.portfolio(0), *id)?.is_none()),
-        _ => Ok(false),
+}
+
+/// Whether a plain desk confirms this table of the cycle.
+fn confirms(plain: &Plain, id: &CycleId, table: &Table) -> bool {
+    match plain.confirmed(id) {
+        Some(other) => *table == other,
+        None => false,
+    }
+}
+
+/// Whether both confirm the same of the cycle, and tell it.
+fn confirm_same<R: Role>(desk: &Desk<R>, plain: &Plain, names: &Names, id: &CycleId) -> bool {
+    match desk.confirmed(*id) {
+        Some(table) => confirms(plain, id, table) && tell_same(desk, plain, names, id, table),
+        None => plain.confirmed(id).is_none() && tells_nothing(desk, names.portfolio(0), id),
     }
 }
 
 /// Whether both have come to the same of a gas day's cycles.
-fn end_day_same<R: Role>(
-    desk: &Desk<R>,
-    plain: &Plain,
-    names: &Names,
-    number: u8,
-) -> Result<bool, Fail> {
+fn end_day_same<R: Role>(desk: &Desk<R>, plain: &Plain, names: &Names, number: u8) -> bool {
     let day = names.gas_day(number);
     for cycle in [0, 20, 21, 33, 34, 35] {
-        if !say_same(desk, plain, names, &CycleId { day, cycle })? {
-            return Ok(false);
+        let id = CycleId { day, cycle };
+        if desk.state(id) != plain.state(&id) || !confirm_same(desk, plain, names, &id) {
+            return false;
         }
     }
-    Ok(true)
+    true
 }
 
 /// Whether both have come to the same.
-fn end_same<R: Role>(desk: &Desk<R>, plain: &Plain, names: &Names) -> Result<bool, Fail> {
-    Ok(
-        have_same_facts(desk, plain)
-            && end_day_same(desk, plain, names, 0)?
-            && end_day_same(desk, plain, names, 1)?,
-    )
+fn end_same<R: Role>(desk: &Desk<R>, plain: &Plain, names: &Names) -> bool {
+    desk.halted() == plain.halted
+        && desk.saved() == number(plain.saved)
+        && have_same_facts(desk, &plain.facts)
+        && end_day_same(desk, plain, names, 0)
+        && end_day_same(desk, plain, names, 1)
 }
 
-/// Starts both again with so many of their facts.
-fn restarted<R: Role>(plain: &mut Plain, keep: usize) -> Result<Desk<R>, Fail> {
-    plain.facts.truncate(keep);
-    plain.saved = plain.facts.len();
-    plain.halted = false;
-    let calendar = Calendar::new()?;
-    let mut kept = Vec::new(plain.alloc);
-    for fact in &plain.facts {
-        kept.push(fact.copy()?)?;
+/// Copies of the facts.
+fn copies(alloc: Global, facts: &[Fact]) -> Vec<Fact> {
+    let mut copies = Vec::new(alloc);
+    for fact in facts {
+        if let Ok(copy) = fact.copy() {
+            put(&mut copies, copy);
+        }
     }
-    Ok(Desk::replay(plain.alloc, calendar, plain.point, kept)?)
+    copies
+}
+
+/// A desk of a plain desk's facts.
+fn desk_of<R: Role>(plain: &Plain) -> Option<Desk<R>> {
+    let calendar = Calendar::new().ok()?;
+    let facts = copies(plain.alloc, &plain.facts);
+    Desk::replay(plain.alloc, calendar, plain.point, facts).ok()
 }
 
 /// Makes so many calls at both: whether they replied and came to the same.
@@ -155,11 +177,10 @@ fn goes_on<R: Role>(
     names: &Names,
     random: &mut Random,
     calls: u8,
-) -> Result<bool, Fail> {
+) -> bool {
     for _ in 0..calls {
-        let call = drawn(plain, names, random)?;
-        if !step(desk, plain, &call)? {
-            return Ok(false);
+        if !step_drawn(desk, plain, names, random) {
+            return false;
         }
     }
     end_same(desk, plain, names)
@@ -172,9 +193,12 @@ fn goes_on_with<R: Role>(
     random: &mut Random,
     keep: usize,
     calls: u8,
-) -> Result<bool, Fail> {
-    let mut desk = restarted::<R>(plain, keep)?;
-    goes_on(&mut desk, plain, names, random, calls)
+) -> bool {
+    plain.restart(keep);
+    match desk_of::<R>(plain) {
+        Some(mut desk) => goes_on(&mut desk, plain, names, random, calls),
+        None => false,
+    }
 }
 
 /// How many facts are kept: those that are saved, and of the others some.
@@ -186,31 +210,24 @@ fn kept(plain: &Plain, random: &mut Random) -> usize {
 }
 
 /// A day of 60 calls, with a restart at one of them: whether both were the same all along.
-fn are_same_all_day<R: Role>(alloc: Global, names: &Names, seed: u64) -> Result<bool, Fail> {
-    let mut plain = Plain::new(alloc, R::SIDE, names.point)?;
+fn are_same_over<R: Role>(plain: &mut Plain, names: &Names, seed: u64) -> bool {
     let mut random = Random::new(seed);
     let calls = random.below(61);
-    if !goes_on_with::<R>(&mut plain, names, &mut random, 0, calls)? {
-        return Ok(false);
+    if !goes_on_with::<R>(plain, names, &mut random, 0, calls) {
+        return false;
     }
-    let keep = kept(&plain, &mut random);
+    let keep = kept(plain, &mut random);
     let calls = 60u8.saturating_sub(calls);
-    goes_on_with::<R>(&mut plain, names, &mut random, keep, calls)
+    goes_on_with::<R>(plain, names, &mut random, keep, calls)
 }
 
-// A thousand days, half of them of either side: less than a second, but minutes as `rt try` runs them.
-#[test]
-fn replies_as_the_plain_desk_does(rt: HostRuntime) -> Result<(), Fail> {
-    let names = Names::read()?;
-    for seed in 0..500 {
-        assert!(rt;
-            are_same_all_day::<Initiating>(rt.alloc(), &names, seed)?,
-            "initiating, {seed}"
-        );
-        assert!(rt;
-            are_same_all_day::<Matching>(rt.alloc(), &names, seed)?,
-            "matching, {seed}"
-        );
+/// The same, of a new desk and a new plain desk.
+pub fn are_same_all_day<R: Role>(alloc: Global, seed: u64) -> bool {
+    let Some(names) = Names::read() else {
+        return false;
+    };
+    match Plain::new(alloc, R::SIDE, names.point()) {
+        Some(mut plain) => are_same_over::<R>(&mut plain, &names, seed),
+        None => false,
     }
-    Ok(())
 }

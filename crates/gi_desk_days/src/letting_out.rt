@@ -1,23 +1,17 @@
 //! What a plain desk lets out.
 
+use crate::memory::{put, written};
 use crate::plain::Plain;
-use crate::processing::lesser_of;
 use crate::reading::{meeting, number_of_closing};
 use gi_desk::{Body, Fact, Outcome, Packet, Recipient};
-use gi_messages::{Acknow, Delord, Delres, Line, Lines, Message, Nomint, Nomres, encode};
+use gi_messages::{Acknow, Delord, Delres, Line, Lines, Message, Nomint, Nomres};
 use gi_pairs::{Code, CycleId, Row, Side, Table};
-use std::alloc::{AllocError, Global};
-use std::test::Fail;
+use std::alloc::Global;
 
 /// Adds a packet.
-fn add_packet(
-    packets: &mut Vec<Packet>,
-    to: Recipient,
-    message: &Message,
-) -> Result<(), AllocError> {
-    let body = Body::from(encode(*packets.allocator(), message)?);
-    packets.push(Packet { to, body })?;
-    Ok(())
+fn add_packet(packets: &mut Vec<Packet>, to: Recipient, message: Message) {
+    let body = Body::from(written(*packets.allocator(), message));
+    put(packets, Packet { to, body });
 }
 
 /// Whether the code is above the last one, where there is one.
@@ -44,34 +38,37 @@ fn next_code(rows: &[Row], side: Side, last: &Option<Code>) -> Option<Code> {
     least
 }
 
+/// Adds the row as a line.
+fn add_line(lines: &mut Vec<Line>, side: Side, row: &Row) {
+    if let Ok(hours) = row.hours.copy() {
+        let line = Line {
+            counterparty: row.pair.at(side.other()),
+            direction: row.direction,
+            hours,
+        };
+        put(lines, line);
+    }
+}
+
 /// The rows of a portfolio as lines.
-fn lines_of(alloc: Global, side: Side, portfolio: Code, rows: &[Row]) -> Result<Lines, AllocError> {
+fn lines_of(alloc: Global, side: Side, portfolio: Code, rows: &[Row]) -> Lines {
     let mut lines = Vec::new(alloc);
     for row in rows {
         if row.pair.at(side) == portfolio {
-            lines.push(Line {
-                counterparty: row.pair.at(side.other()),
-                direction: row.direction,
-                hours: row.hours.copy()?,
-            })?;
+            add_line(&mut lines, side, row);
         }
     }
-    Ok(Lines::from(lines))
+    Lines::from(lines)
 }
 
 impl Plain {
     /// What a portfolio is told by a confirmed table, where it stands in one of its rows.
-    pub fn told(
-        &self,
-        portfolio: Code,
-        id: &CycleId,
-        confirmed: &Table,
-    ) -> Result<Option<Nomres>, AllocError> {
-        let lines = lines_of(self.alloc, self.side, portfolio, confirmed.rows())?;
+    pub fn told(&self, portfolio: Code, id: &CycleId, confirmed: &Table) -> Option<Nomres> {
+        let lines = lines_of(self.alloc, self.side, portfolio, confirmed.rows());
         if lines.as_slice().is_empty() {
-            return Ok(None);
+            return None;
         }
-        Ok(Some(Nomres {
+        Some(Nomres {
             point: self.point,
             portfolio,
             day: id.day,
@@ -79,163 +76,131 @@ impl Plain {
             first: confirmed.first(),
             last: confirmed.last(),
             lines,
-        }))
+        })
     }
 
-    fn acknowledge(&self, packets: &mut Vec<Packet>, document: &Nomint) -> Result<(), AllocError> {
+    fn acknowledge(&self, packets: &mut Vec<Packet>, document: &Nomint) {
         let message = Message::Acknow(Acknow {
             point: self.point,
             portfolio: document.portfolio,
             day: document.day,
             version: document.version,
         });
-        add_packet(packets, Recipient::User(document.portfolio), &message)
+        add_packet(packets, Recipient::User(document.portfolio), message);
     }
 
     /// Adds the order of the cycle, at the initiating side.
-    fn order(&self, packets: &mut Vec<Packet>, id: &CycleId) -> Result<(), Fail> {
+    fn order(&self, packets: &mut Vec<Packet>, id: &CycleId) {
         if self.side == Side::M {
-            return Ok(());
+            return;
         }
-        let Some(processed) = self.frozen(id)? else {
-            return Ok(());
-        };
-        let message = Message::Delord(Delord {
+        if let Some(processed) = self.frozen(id) {
+            let message = Message::Delord(Delord {
+                point: self.point,
+                day: id.day,
+                cycle: id.cycle,
+                processed,
+            });
+            add_packet(packets, Recipient::Peer, message);
+        }
+    }
+
+    /// The response of the cycle with this confirmed table.
+    fn response(&self, id: &CycleId, confirmed: Table) -> Option<Message> {
+        let processed = self.frozen(id)?;
+        Some(Message::Delres(Delres {
             point: self.point,
             day: id.day,
             cycle: id.cycle,
             processed,
-        });
-        Ok(add_packet(packets, Recipient::Peer, &message)?)
+            confirmed,
+        }))
     }
 
     /// Adds the response of the cycle, at the matching side.
-    fn respond(
-        &self,
-        packets: &mut Vec<Packet>,
-        id: &CycleId,
-        own: &Table,
-        confirmed: &Table,
-    ) -> Result<(), AllocError> {
+    fn respond(&self, packets: &mut Vec<Packet>, id: &CycleId, confirmed: Table) {
         if self.side == Side::I {
-            return Ok(());
+            return;
         }
-        let processed = own.copy()?;
-        let message = Message::Delres(Delres {
-            point: self.point,
-            day: id.day,
-            cycle: id.cycle,
-            processed,
-            confirmed: confirmed.copy()?,
-        });
-        add_packet(packets, Recipient::Peer, &message)
+        if let Some(message) = self.response(id, confirmed) {
+            add_packet(packets, Recipient::Peer, message);
+        }
     }
 
     /// Adds what a portfolio is told.
-    fn tell(
-        &self,
-        packets: &mut Vec<Packet>,
-        portfolio: Code,
-        id: &CycleId,
-        confirmed: &Table,
-    ) -> Result<(), AllocError> {
-        match self.told(portfolio, id, confirmed)? {
-            Some(told) => {
-                let message = Message::Nomres(told);
-                add_packet(packets, Recipient::User(portfolio), &message)
-            }
-            None => Ok(()),
+    fn tell(&self, packets: &mut Vec<Packet>, portfolio: Code, id: &CycleId, confirmed: &Table) {
+        if let Some(told) = self.told(portfolio, id, confirmed) {
+            add_packet(packets, Recipient::User(portfolio), Message::Nomres(told));
         }
     }
 
     /// Adds what each portfolio is told, by code.
-    fn tell_all(
-        &self,
-        packets: &mut Vec<Packet>,
-        id: &CycleId,
-        confirmed: &Table,
-    ) -> Result<(), AllocError> {
+    fn tell_all(&self, packets: &mut Vec<Packet>, id: &CycleId, confirmed: &Table) {
         let mut last = None;
         for _ in 0..confirmed.rows().len() {
             let Some(portfolio) = next_code(confirmed.rows(), self.side, &last) else {
-                return Ok(());
+                return;
             };
-            self.tell(packets, portfolio, id, confirmed)?;
+            self.tell(packets, portfolio, id, confirmed);
             last = Some(portfolio);
         }
-        Ok(())
     }
 
-    /// Adds what a meeting lets out: where it is a repeat, the response alone.
-    fn add_confirmed(
-        &self,
-        packets: &mut Vec<Packet>,
-        id: &CycleId,
-        own: &Table,
-        confirmed: &Table,
-        is_again: bool,
-    ) -> Result<(), AllocError> {
-        self.respond(packets, id, own, confirmed)?;
-        if is_again {
-            return Ok(());
+    /// Adds the response to a meeting with the peer's table.
+    fn answer_met(&self, packets: &mut Vec<Packet>, id: &CycleId, peer: &Table) {
+        if let Some(confirmed) = self.lesser(id, peer) {
+            self.respond(packets, id, confirmed);
         }
-        self.tell_all(packets, id, confirmed)
     }
 
-    fn add_met(
-        &self,
-        packets: &mut Vec<Packet>,
-        id: &CycleId,
-        peer: &Table,
-        is_again: bool,
-    ) -> Result<(), Fail> {
-        let Some(own) = self.frozen(id)? else {
-            return Ok(());
-        };
-        match lesser_of(self.alloc, &own, peer)? {
-            Some(confirmed) => Ok(self.add_confirmed(packets, id, &own, &confirmed, is_again)?),
-            None => Ok(()),
+    /// Adds what the portfolios are told of a meeting with the peer's table.
+    fn tell_met(&self, packets: &mut Vec<Packet>, id: &CycleId, peer: &Table) {
+        if let Some(confirmed) = self.lesser(id, peer) {
+            self.tell_all(packets, id, &confirmed);
         }
     }
 
     /// Adds what fact number `n` lets out; where it is a repeat, of a meeting the response alone.
-    fn add(&self, packets: &mut Vec<Packet>, n: usize, is_again: bool) -> Result<(), Fail> {
+    fn add(&self, packets: &mut Vec<Packet>, n: usize, is_again: bool) {
         match self.facts.get(n.wrapping_sub(1)) {
-            Some(Fact::Nominated(document)) => Ok(self.acknowledge(packets, document)?),
+            Some(Fact::Nominated(document)) => self.acknowledge(packets, document),
             Some(Fact::Closed(id)) => self.order(packets, id),
-            Some(Fact::Met { id, peer }) => self.add_met(packets, id, peer, is_again),
-            _ => Ok(()),
+            Some(Fact::Met { id, peer }) => {
+                self.answer_met(packets, id, peer);
+                if !is_again {
+                    self.tell_met(packets, id, peer);
+                }
+            }
+            _ => {}
         }
     }
 
     /// The same, where the fact is saved.
-    fn add_saved(&self, packets: &mut Vec<Packet>, n: usize, is_again: bool) -> Result<(), Fail> {
-        if n > self.saved {
-            return Ok(());
+    fn add_saved(&self, packets: &mut Vec<Packet>, n: usize, is_again: bool) {
+        if n <= self.saved {
+            self.add(packets, n, is_again);
         }
-        self.add(packets, n, is_again)
     }
 
     /// Adds again what the closing and the meeting of the cycle let out.
-    fn add_cycle(&self, packets: &mut Vec<Packet>, id: &CycleId) -> Result<(), Fail> {
+    fn add_cycle(&self, packets: &mut Vec<Packet>, id: &CycleId) {
         if let Some(n) = number_of_closing(&self.facts, id) {
-            self.add_saved(packets, n, false)?;
+            self.add_saved(packets, n, false);
         }
-        match meeting(&self.facts, id) {
-            Some((n, _)) => self.add_saved(packets, n, false),
-            None => Ok(()),
+        if let Some((n, _)) = meeting(&self.facts, id) {
+            self.add_saved(packets, n, false);
         }
     }
 
     /// Adds the packets of the reply to what a call comes to.
-    pub fn let_out(&self, packets: &mut Vec<Packet>, outcome: &Outcome) -> Result<(), Fail> {
+    pub fn let_out(&self, packets: &mut Vec<Packet>, outcome: &Outcome) {
         match outcome {
             Outcome::RepeatsNomination { n } | Outcome::RepeatsMeeting { n } => {
-                self.add_saved(packets, *n as usize, true)
+                self.add_saved(packets, *n as usize, true);
             }
             Outcome::Saves { n } => self.add(packets, *n as usize, false),
             Outcome::Resends(id) => self.add_cycle(packets, id),
-            _ => Ok(()),
+            _ => {}
         }
     }
 }

@@ -1,20 +1,20 @@
-//! Desks over whole days: days drawn at random, beside a plain desk, which goes through all facts
-//! for each answer, and a day on which memory may be refused. There is nothing here but tests.
+//! Desks over whole days that are drawn, beside a plain desk, which goes through all facts for each
+//! answer: what the cases about them call.
+//!
+//! Nothing here is refused. Where there is no memory for a part of what the plain desk makes it is
+//! left out, so that both desks differ.
 #![tactic(auto)]
 
-#[cfg(test)]
 mod beside;
-#[cfg(test)]
+mod days;
 mod drawing;
-#[cfg(test)]
+mod frames;
 mod letting_out;
-#[cfg(test)]
+mod memory;
+mod names;
 mod plain;
-#[cfg(test)]
 mod processing;
-#[cfg(test)]
 mod random;
-#[cfg(test)]
 mod reading;
-#[cfg(test)]
-mod refused;
+
+pub use days::DrawnDays;

@@ -1,18 +1,19 @@
 //! A plain desk: it keeps its facts, how many of them are saved, and whether it is halted, and goes
 //! through all facts for each answer.
 
+use crate::frames::{cycle_count, hours};
+use crate::memory::put;
 use crate::processing::{lesser_of, processed};
 use crate::reading::{
     in_force, is_known, last_closed, meeting, number_of_closing, number_of_taking,
 };
-use gi_day::Calendar;
+use gi_day::{Calendar, GasDay};
 use gi_desk::{Answer, Body, Call, Fact, Outcome, Packet, Refusal, StageName};
 use gi_messages::{Delord, Delres, Line, Message, Nomint, decode};
 use gi_nominations::NominationFault;
 use gi_pairs::{Code, CycleId, Row, Side, Table};
 use gi_processing::Notice;
-use std::alloc::{AllocError, Global};
-use std::test::Fail;
+use std::alloc::Global;
 
 #[derive(Drop)]
 pub struct Plain {
@@ -97,10 +98,10 @@ fn not_the_lesser(confirmed: Option<&Table>, lesser: &Table) -> Option<Refusal> 
 
 impl Plain {
     /// A desk without facts.
-    pub fn new(alloc: Global, side: Side, point: Code) -> Result<Plain, Fail> {
-        Ok(Plain {
+    pub fn new(alloc: Global, side: Side, point: Code) -> Option<Plain> {
+        Some(Plain {
             alloc,
-            calendar: Calendar::new()?,
+            calendar: Calendar::new().ok()?,
             side,
             point,
             facts: Vec::new(alloc),
@@ -109,130 +110,156 @@ impl Plain {
         })
     }
 
-    /// The frozen table of the cycle, once it is closed: that of the facts before its closing.
-    pub fn frozen(&self, id: &CycleId) -> Result<Option<Table>, Fail> {
-        let Some(n) = number_of_closing(&self.facts, id) else {
-            return Ok(None);
-        };
-        let before = self.facts.get(..n.wrapping_sub(1)).unwrap_or(&[]);
-        let table = processed(self.alloc, &self.calendar, before, self.side, id)?;
-        Ok(Some(table))
+    /// Starts again with so many of its facts, all saved.
+    pub fn restart(&mut self, keep: usize) {
+        self.facts.truncate(keep);
+        self.saved = self.facts.len();
+        self.halted = false;
     }
 
-    fn noticed(&self, notice: &Notice) -> Result<Outcome, Fail> {
-        let hours = self.calendar.frame(notice.day)?.hours();
+    /// The frozen table of the cycle, once it is closed: that of the facts before its closing.
+    pub fn frozen(&self, id: &CycleId) -> Option<Table> {
+        let n = number_of_closing(&self.facts, id)?;
+        let before = self.facts.get(..n.wrapping_sub(1))?;
+        processed(self.alloc, &self.calendar, before, self.side, id)
+    }
+
+    /// The lesser of the cycle's frozen table and the peer's, where both are of the same hours.
+    pub fn lesser(&self, id: &CycleId, peer: &Table) -> Option<Table> {
+        match self.frozen(id) {
+            Some(own) => lesser_of(self.alloc, &own, peer),
+            None => None,
+        }
+    }
+
+    fn noticed(&self, notice: &Notice) -> Outcome {
+        let hours = hours(&self.calendar, notice.day);
         if notice.first < 1 || notice.last < notice.first || hours < notice.last {
-            return Ok(Outcome::Refuses(Refusal::NoticeRange));
+            return Outcome::Refuses(Refusal::NoticeRange);
         }
         if notice.firm > 1000 || notice.interruptible > 1000 {
-            return Ok(Outcome::Refuses(Refusal::PermilleRange));
+            return Outcome::Refuses(Refusal::PermilleRange);
         }
-        Ok(Outcome::Records(Fact::Noticed(*notice)))
+        Outcome::Records(Fact::Noticed(*notice))
     }
 
-    fn nomination_fault(&self, document: &Nomint) -> Result<Option<NominationFault>, Fail> {
+    /// Whether the gas day's last cycle is closed.
+    fn is_over(&self, day: GasDay) -> bool {
+        let cycle = cycle_count(&self.calendar, day).wrapping_sub(1);
+        number_of_closing(&self.facts, &CycleId { day, cycle }).is_some()
+    }
+
+    fn nomination_fault(&self, document: &Nomint) -> Option<NominationFault> {
         if document.point != self.point {
-            return Ok(Some(NominationFault::WrongPoint));
+            return Some(NominationFault::WrongPoint);
         }
         if !is_known(&self.facts, document.portfolio, document.day) {
-            return Ok(Some(NominationFault::UnknownPortfolio));
+            return Some(NominationFault::UnknownPortfolio);
         }
-        let frame = self.calendar.frame(document.day)?;
-        if let Some(fault) = lines_fault(document.lines.as_slice(), frame.hours()) {
-            return Ok(Some(fault));
+        let hours = hours(&self.calendar, document.day);
+        if let Some(fault) = lines_fault(document.lines.as_slice(), hours) {
+            return Some(fault);
         }
-        let last = CycleId {
-            day: document.day,
-            cycle: frame.cycle_count().wrapping_sub(1),
-        };
-        if number_of_closing(&self.facts, &last).is_some() {
-            return Ok(Some(NominationFault::DayOver));
+        if self.is_over(document.day) {
+            return Some(NominationFault::DayOver);
         }
-        Ok(
-            match in_force(&self.facts, document.portfolio, document.day) {
-                Some(held) => version_fault(held, document),
-                None => None,
-            },
-        )
+        match in_force(&self.facts, document.portfolio, document.day) {
+            Some(held) => version_fault(held, document),
+            None => None,
+        }
     }
 
-    fn nominated(&self, document: Nomint) -> Result<Outcome, Fail> {
-        if let Some(fault) = self.nomination_fault(&document)? {
-            return Ok(Outcome::Refuses(Refusal::Nomination(fault)));
+    fn nominated(&self, document: Nomint) -> Outcome {
+        if let Some(fault) = self.nomination_fault(&document) {
+            return Outcome::Refuses(Refusal::Nomination(fault));
         }
-        Ok(match number_of_taking(&self.facts, &document) {
+        match number_of_taking(&self.facts, &document) {
             Some(n) => Outcome::RepeatsNomination { n: number(n) },
             None => Outcome::Records(Fact::Nominated(document)),
-        })
+        }
     }
 
-    fn submitted(&self, body: &Body) -> Result<Outcome, Fail> {
+    fn submitted(&self, body: &Body) -> Outcome {
         match decode(self.alloc, body.as_slice()) {
             Ok(Message::Nomint(document)) => self.nominated(document),
-            Ok(_) => Ok(Outcome::Refuses(Refusal::WrongKind)),
-            Err(fault) => Ok(Outcome::Refuses(Refusal::Message(fault))),
+            Ok(_) => Outcome::Refuses(Refusal::WrongKind),
+            Err(fault) => Outcome::Refuses(Refusal::Message(fault)),
         }
     }
 
-    fn closed(&self, id: &CycleId) -> Result<Outcome, Fail> {
-        if id.cycle >= self.calendar.frame(id.day)?.cycle_count() {
-            return Ok(Outcome::Refuses(Refusal::NoSuchCycle));
+    fn closed(&self, id: &CycleId) -> Outcome {
+        if id.cycle >= cycle_count(&self.calendar, id.day) {
+            return Outcome::Refuses(Refusal::NoSuchCycle);
         }
         if number_of_closing(&self.facts, id).is_some() {
-            return Ok(Outcome::Refuses(Refusal::AlreadyClosed));
+            return Outcome::Refuses(Refusal::AlreadyClosed);
         }
-        Ok(match last_closed(&self.facts, id.day) {
+        match last_closed(&self.facts, id.day) {
             Some(last) if last > id.cycle => Outcome::Refuses(Refusal::OutOfOrder { last }),
             _ => Outcome::Records(Fact::Closed(*id)),
-        })
+        }
     }
 
-    /// What stands against a meeting: at the initiating side also that something else is confirmed.
+    /// What stands against a meeting at that side: at the initiating one also that something else is
+    /// confirmed.
     fn meeting_fault(
         &self,
+        side: Side,
         point: Code,
         id: &CycleId,
         peer: &Table,
         confirmed: Option<&Table>,
-    ) -> Result<Option<Refusal>, Fail> {
-        if point != self.point {
-            return Ok(Some(Refusal::WrongPoint));
+    ) -> Option<Refusal> {
+        if side != self.side {
+            return Some(Refusal::WrongKind);
         }
-        let Some(own) = self.frozen(id)? else {
-            return Ok(Some(Refusal::NotClosed));
-        };
-        match lesser_of(self.alloc, &own, peer)? {
-            Some(lesser) => Ok(not_the_lesser(confirmed, &lesser)),
-            None => Ok(Some(Refusal::ShapeDiffers)),
+        if point != self.point {
+            return Some(Refusal::WrongPoint);
+        }
+        if number_of_closing(&self.facts, id).is_none() {
+            return Some(Refusal::NotClosed);
+        }
+        match self.lesser(id, peer) {
+            Some(lesser) => not_the_lesser(confirmed, &lesser),
+            None => Some(Refusal::ShapeDiffers),
         }
     }
 
-    fn met(&self, id: &CycleId, peer: Table) -> Outcome {
-        match meeting(&self.facts, id) {
+    /// What a meeting comes to that nothing stands against.
+    fn met(&self, id: CycleId, peer: Table) -> Outcome {
+        match meeting(&self.facts, &id) {
             Some((n, met)) if *met == peer => Outcome::RepeatsMeeting { n: number(n) },
             Some(_) => Outcome::Refuses(Refusal::Conflict),
-            None => Outcome::Records(Fact::Met { id: *id, peer }),
+            None => Outcome::Records(Fact::Met { id, peer }),
         }
     }
 
-    fn order_met(&self, order: Delord) -> Result<Outcome, Fail> {
+    /// What the peer's message to that side comes to, with this table of its own.
+    fn met_by(
+        &self,
+        side: Side,
+        point: Code,
+        id: CycleId,
+        peer: Table,
+        confirmed: Option<&Table>,
+    ) -> Outcome {
+        match self.meeting_fault(side, point, &id, &peer, confirmed) {
+            Some(refusal) => Outcome::Refuses(refusal),
+            None => self.met(id, peer),
+        }
+    }
+
+    fn order_met(&self, order: Delord) -> Outcome {
         let Delord {
             point,
             day,
             cycle,
             processed,
         } = order;
-        if self.side == Side::I {
-            return Ok(Outcome::Refuses(Refusal::WrongKind));
-        }
-        let id = CycleId { day, cycle };
-        match self.meeting_fault(point, &id, &processed, None)? {
-            Some(refusal) => Ok(Outcome::Refuses(refusal)),
-            None => Ok(self.met(&id, processed)),
-        }
+        self.met_by(Side::M, point, CycleId { day, cycle }, processed, None)
     }
 
-    fn response_met(&self, response: Delres) -> Result<Outcome, Fail> {
+    fn response_met(&self, response: Delres) -> Outcome {
         let Delres {
             point,
             day,
@@ -240,22 +267,21 @@ impl Plain {
             processed,
             confirmed,
         } = response;
-        if self.side == Side::M {
-            return Ok(Outcome::Refuses(Refusal::WrongKind));
-        }
-        let id = CycleId { day, cycle };
-        match self.meeting_fault(point, &id, &processed, Some(&confirmed))? {
-            Some(refusal) => Ok(Outcome::Refuses(refusal)),
-            None => Ok(self.met(&id, processed)),
-        }
+        self.met_by(
+            Side::I,
+            point,
+            CycleId { day, cycle },
+            processed,
+            Some(&confirmed),
+        )
     }
 
-    fn delivered(&self, body: &Body) -> Result<Outcome, Fail> {
+    fn delivered(&self, body: &Body) -> Outcome {
         match decode(self.alloc, body.as_slice()) {
             Ok(Message::Delord(order)) => self.order_met(order),
             Ok(Message::Delres(response)) => self.response_met(response),
-            Ok(_) => Ok(Outcome::Refuses(Refusal::WrongKind)),
-            Err(fault) => Ok(Outcome::Refuses(Refusal::Message(fault))),
+            Ok(_) => Outcome::Refuses(Refusal::WrongKind),
+            Err(fault) => Outcome::Refuses(Refusal::Message(fault)),
         }
     }
 
@@ -278,19 +304,19 @@ impl Plain {
     }
 
     /// What the call comes to.
-    fn outcome(&self, call: &Call) -> Result<Outcome, Fail> {
+    fn outcome(&self, call: &Call) -> Outcome {
         if self.halted {
-            return Ok(Outcome::Refuses(Refusal::Halted));
+            return Outcome::Refuses(Refusal::Halted);
         }
         match call {
-            Call::Contract(contract) => Ok(Outcome::Records(Fact::Contracted(*contract))),
+            Call::Contract(contract) => Outcome::Records(Fact::Contracted(*contract)),
             Call::Notice(notice) => self.noticed(notice),
             Call::Submit(body) => self.submitted(body),
             Call::Close(id) => self.closed(id),
             Call::Deliver(body) => self.delivered(body),
-            Call::Resend(id) => Ok(self.resent(id)),
-            Call::MarkSaved { n, fact } => Ok(self.marked(*n, fact)),
-            Call::Halt => Ok(Outcome::Stops),
+            Call::Resend(id) => self.resent(id),
+            Call::MarkSaved { n, fact } => self.marked(*n, fact),
+            Call::Halt => Outcome::Stops,
         }
     }
 
@@ -311,23 +337,22 @@ impl Plain {
     }
 
     /// Makes its change.
-    fn apply(&mut self, outcome: Outcome) -> Result<(), AllocError> {
+    fn apply(&mut self, outcome: Outcome) {
         match outcome {
-            Outcome::Records(fact) => self.facts.push(fact)?,
+            Outcome::Records(fact) => put(&mut self.facts, fact),
             Outcome::Saves { n } => self.saved = n as usize,
             Outcome::Stops => self.halted = true,
             _ => {}
         }
-        Ok(())
     }
 
     /// Makes the call, and adds the packets that it lets out; its answer.
-    pub fn step(&mut self, packets: &mut Vec<Packet>, call: &Call) -> Result<Answer, Fail> {
-        let outcome = self.outcome(call)?;
+    pub fn step(&mut self, packets: &mut Vec<Packet>, call: &Call) -> Answer {
+        let outcome = self.outcome(call);
         let answer = self.answer(&outcome);
-        self.let_out(packets, &outcome)?;
-        self.apply(outcome)?;
-        Ok(answer)
+        self.let_out(packets, &outcome);
+        self.apply(outcome);
+        answer
     }
 
     /// How far the cycle is.
@@ -342,14 +367,9 @@ impl Plain {
     }
 
     /// The confirmed table, once a saved fact met the peer's.
-    pub fn confirmed(&self, id: &CycleId) -> Result<Option<Table>, Fail> {
-        let saved = self.facts.get(..self.saved).unwrap_or(&[]);
-        let Some((_, peer)) = meeting(saved, id) else {
-            return Ok(None);
-        };
-        match self.frozen(id)? {
-            Some(own) => Ok(lesser_of(self.alloc, &own, peer)?),
-            None => Ok(None),
-        }
+    pub fn confirmed(&self, id: &CycleId) -> Option<Table> {
+        let saved = self.facts.get(..self.saved)?;
+        let (_, peer) = meeting(saved, id)?;
+        self.lesser(id, peer)
     }
 }

@@ -1,13 +1,14 @@
 //! The processed table of a list of facts, line by line by the two sums of the definition.
 
+use crate::frames::{first_hour, hours};
+use crate::memory::put;
 use crate::reading::{available, in_force};
-use gi_day::Calendar;
+use gi_day::{Calendar, GasDay};
 use gi_desk::Fact;
 use gi_lesser::lesser;
 use gi_messages::{Line, Nomint};
 use gi_pairs::{CycleId, Hours, MOST_PROCESSED_ROWS, Pair, Quantity, Row, Side, Table};
-use std::alloc::{AllocError, Global};
-use std::test::Fail;
+use std::alloc::Global;
 
 /// What a line nominates in an hour, from 1.
 fn nominated(line: &Line, hour: u8) -> u64 {
@@ -51,43 +52,55 @@ fn processed_in(facts: &[Fact], document: &Nomint, line: &Line, hour: u8) -> u64
     up_to.wrapping_sub(others)
 }
 
-/// The row of a line.
-fn row_of(
+/// What of a line is processed in each of the hours, from the first to the last.
+fn processed_hours(
     alloc: Global,
     facts: &[Fact],
-    side: Side,
     document: &Nomint,
     line: &Line,
     hours: (u8, u8),
-) -> Result<Row, Fail> {
+) -> Hours {
     let mut quantities = Vec::new(alloc);
     for hour in hours.0..hours.1.wrapping_add(1) {
-        quantities.push(Quantity::new(processed_in(facts, document, line, hour))?)?;
+        if let Ok(quantity) = Quantity::new(processed_in(facts, document, line, hour)) {
+            put(&mut quantities, quantity);
+        }
     }
-    Ok(Row {
-        pair: Pair::of(side, document.portfolio, line.counterparty),
-        direction: line.direction,
-        hours: Hours::from(quantities),
-    })
+    Hours::from(quantities)
 }
 
-/// Adds the rows of a nomination, where it is the one in force.
-fn add_rows(
-    rows: &mut Vec<Row>,
-    facts: &[Fact],
-    side: Side,
-    document: &Nomint,
-    hours: (u8, u8),
-) -> Result<(), Fail> {
+/// Adds the rows of a nomination.
+fn add_rows(rows: &mut Vec<Row>, facts: &[Fact], side: Side, document: &Nomint, hours: (u8, u8)) {
     let alloc = *rows.allocator();
-    let held = in_force(facts, document.portfolio, document.day);
-    if !matches!(held, Some(held) if held.version == document.version) {
-        return Ok(());
-    }
     for line in document.lines.as_slice() {
-        rows.push(row_of(alloc, facts, side, document, line, hours)?)?;
+        let row = Row {
+            pair: Pair::of(side, document.portfolio, line.counterparty),
+            direction: line.direction,
+            hours: processed_hours(alloc, facts, document, line, hours),
+        };
+        put(rows, row);
     }
-    Ok(())
+}
+
+/// Whether the nomination is the one in force.
+fn is_in_force(facts: &[Fact], document: &Nomint) -> bool {
+    match in_force(facts, document.portfolio, document.day) {
+        Some(held) => held.version == document.version,
+        None => false,
+    }
+}
+
+/// The rows of all nominations in force for a gas day.
+fn rows_of(alloc: Global, facts: &[Fact], side: Side, day: GasDay, hours: (u8, u8)) -> Vec<Row> {
+    let mut rows = Vec::new(alloc);
+    for fact in facts {
+        if let Fact::Nominated(document) = fact {
+            if document.day == day && is_in_force(facts, document) {
+                add_rows(&mut rows, facts, side, document, hours);
+            }
+        }
+    }
+    rows
 }
 
 /// The processed table of a cycle by these facts.
@@ -97,27 +110,20 @@ pub fn processed(
     facts: &[Fact],
     side: Side,
     id: &CycleId,
-) -> Result<Table, Fail> {
-    let frame = calendar.frame(id.day)?;
-    let hours = (frame.first_hour(id.cycle)?, frame.hours());
-    let mut rows = Vec::new(alloc);
-    for fact in facts {
-        if let Fact::Nominated(document) = fact {
-            if document.day == id.day {
-                add_rows(&mut rows, facts, side, document, hours)?;
-            }
-        }
-    }
-    Ok(Table::build(hours.0, hours.1, rows)?)
+) -> Option<Table> {
+    let first = first_hour(calendar, id)?;
+    let last = hours(calendar, id.day);
+    let rows = rows_of(alloc, facts, side, id.day, (first, last));
+    Table::build(first, last, rows).ok()
 }
 
 /// The lesser of two small tables of the same hours.
-pub fn lesser_of(alloc: Global, own: &Table, peer: &Table) -> Result<Option<Table>, AllocError> {
+pub fn lesser_of(alloc: Global, own: &Table, peer: &Table) -> Option<Table> {
     if !own.covers_same_hours(peer)
         || own.rows().len() > MOST_PROCESSED_ROWS
         || peer.rows().len() > MOST_PROCESSED_ROWS
     {
-        return Ok(None);
+        return None;
     }
-    Ok(Some(lesser(alloc, own, peer)?))
+    lesser(alloc, own, peer).ok()
 }
