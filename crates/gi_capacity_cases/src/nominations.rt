@@ -50,12 +50,14 @@ fn read_offer(alloc: Global, mut words: Words<'_>) -> Result<Option<Offer>, Faul
     let (Some(known), Some(last_closed)) = (known(&mut words), last_closed(&mut words)) else {
         return Ok(None);
     };
-    let nomint = nomint(alloc, words.rest())?;
-    Ok(nomint.map(|nomint| Offer {
-        known,
-        last_closed,
-        nomint,
-    }))
+    match nomint(alloc, words.rest())? {
+        Some(nomint) => Ok(Some(Offer {
+            known,
+            last_closed,
+            nomint,
+        })),
+        None => Ok(None),
+    }
 }
 
 /// The verdict on the nomination, by the frame of its gas day.

@@ -3,7 +3,6 @@
 //! `[10x24]` stands for 24 times 10, and a line with `"B<0-63>"` for 64 lines, with B0 to B63.
 
 use crate::numbers::numbers;
-use gi_calls::Fault;
 use gi_messages::{Message, Nomint, decode};
 use std::alloc::{AllocError, Global};
 use std::fmt::Write;
@@ -37,6 +36,12 @@ fn many_lines(text: &str) -> Option<ManyLines<'_>> {
     })
 }
 
+/// Adds one of the lines.
+fn add_line(many: &ManyLines<'_>, number: u8, text: &mut String) -> Result<(), AllocError> {
+    let comma = if number > many.first { "," } else { "" };
+    write!(text, "{comma}{{{}{number}{}}}", many.start, many.end)
+}
+
 /// The text with all of its lines.
 fn with_lines(alloc: Global, text: &str) -> Result<String, AllocError> {
     let Some(many) = many_lines(text) else {
@@ -44,8 +49,7 @@ fn with_lines(alloc: Global, text: &str) -> Result<String, AllocError> {
     };
     let mut full = String::from_str(alloc, many.before)?;
     for number in many.first..=many.last {
-        let comma = if number > many.first { "," } else { "" };
-        write!(full, "{comma}{{{}{number}{}}}", many.start, many.end)?;
+        add_line(&many, number, &mut full)?;
     }
     full.push_str(many.after)?;
     Ok(full)
@@ -94,12 +98,22 @@ fn with_quantities(alloc: Global, text: &str) -> Result<String, AllocError> {
     Ok(full)
 }
 
-/// The nomination that the text is.
-pub(crate) fn nomint(alloc: Global, text: &str) -> Result<Option<Nomint>, Fault> {
+/// The text with all of its lines and quantities.
+fn full_text(alloc: Global, text: &str) -> Result<String, AllocError> {
     let lines = with_lines(alloc, text)?;
-    let full = with_quantities(alloc, lines.as_str())?;
-    match decode(alloc, full.as_bytes()) {
-        Ok(Message::Nomint(nomint)) => Ok(Some(nomint)),
-        _ => Ok(None),
+    with_quantities(alloc, lines.as_str())
+}
+
+/// The nomination that the bytes are.
+fn decoded(alloc: Global, bytes: &[u8]) -> Option<Nomint> {
+    match decode(alloc, bytes) {
+        Ok(Message::Nomint(nomint)) => Some(nomint),
+        _ => None,
     }
+}
+
+/// The nomination that the text is.
+pub(crate) fn nomint(alloc: Global, text: &str) -> Result<Option<Nomint>, AllocError> {
+    let full = full_text(alloc, text)?;
+    Ok(decoded(alloc, full.as_bytes()))
 }

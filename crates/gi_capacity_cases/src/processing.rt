@@ -8,6 +8,7 @@ mod reducing;
 
 use crate::hours_text::add_table;
 use gi_calls::{Answer, Fault, Subject, Words};
+use gi_day::NoSuchCycle;
 use gi_pairs::Table;
 use gi_processing::{ContractFault, MOST_PERMILLE, MOST_PORTFOLIOS, NoticeFault};
 use one_by_one::reduce_triples;
@@ -32,6 +33,27 @@ pub struct Processing {
     table: Option<Table>,
 }
 
+/// Adds why a notice is refused, if it is.
+fn add_fault(words: Words<'_>, text: &mut Answer) -> bool {
+    let Some(notice) = notice(words) else {
+        return false;
+    };
+    match fault(&notice) {
+        Some(fault) => text.show(&fault),
+        None => text.add("none"),
+    }
+    true
+}
+
+/// Adds a table, all of it or how many rows it has, or the refusal in its place.
+fn add_processed(table: &Result<Table, NoSuchCycle>, whole: bool, text: &mut Answer) {
+    match table {
+        Ok(table) if whole => add_table(table, text),
+        Ok(table) => text.show(&table.rows().len()),
+        Err(fault) => text.show(fault),
+    }
+}
+
 /// The answer of a call that stands alone.
 fn answer_alone(
     alloc: Global,
@@ -40,24 +62,23 @@ fn answer_alone(
     text: &mut Answer,
 ) -> Result<bool, Fault> {
     match name {
-        "fault" => {
-            let Some(notice) = notice(words) else {
-                return Ok(false);
-            };
-            match fault(&notice) {
-                Some(fault) => text.show(&fault),
-                None => text.add("none"),
-            }
-        }
-        "reduce" => return reduce(alloc, words, false, text),
-        "reduce_mixed" => return reduce(alloc, words, true, text),
-        "reduce_triples" => return reduce_triples(alloc, words, text),
+        "reduce" => reduce(alloc, words, false, text),
+        "reduce_mixed" => reduce(alloc, words, true, text),
+        "reduce_triples" => reduce_triples(alloc, words, text),
+        _ => Ok(answer_plain(name, words, text)),
+    }
+}
+
+/// The answer of a call that takes no memory of its own.
+fn answer_plain(name: &str, words: Words<'_>, text: &mut Answer) -> bool {
+    match name {
+        "fault" => return add_fault(words, text),
         "most_portfolios" => text.show(&MOST_PORTFOLIOS),
         "most_permille" => text.show(&MOST_PERMILLE),
         "faults" => add_faults(text),
-        _ => return Ok(false),
+        _ => return false,
     }
-    Ok(true)
+    true
 }
 
 /// Adds the faults of `set` and of `notice`.
@@ -84,13 +105,18 @@ impl Processing {
         }
     }
 
+    /// Keeps a table, or none, in the place of the one before, which is let go here alone.
+    fn keep(&mut self, table: Option<Table>) {
+        self.table = table;
+    }
+
     /// Begins a side.
     fn begin(&mut self, alloc: Global, mut words: Words<'_>, text: &mut Answer) -> bool {
         let Some(point) = words.code() else {
             return false;
         };
         self.records = Some(Records::new(alloc, point));
-        self.table = None;
+        self.keep(None);
         text.add("ok");
         true
     }
@@ -106,20 +132,29 @@ impl Processing {
         let Some(records) = &self.records else {
             return Ok(false);
         };
-        let (Some(side), Some(day), Some(cycle)) = (words.side(), words.day(), words.byte()) else {
+        let (Some(side), Some(id)) = (words.side(), words.cycle()) else {
             return Ok(false);
         };
-        let table = records.processed(alloc, side, day, cycle)?;
-        match &table {
-            Ok(table) if whole => add_table(table, text),
-            Ok(table) => {
-                let count = table.rows().len();
-                text.show(&count);
-            }
-            Err(fault) => text.show(fault),
-        }
-        self.table = table.ok();
+        let table = records.processed(alloc, side, id.day, id.cycle)?;
+        add_processed(&table, whole, text);
+        self.keep(table.ok());
         Ok(true)
+    }
+
+    /// The answer of a call to what is recorded, or of one that stands alone.
+    fn answer_other(
+        &mut self,
+        alloc: Global,
+        name: &str,
+        words: Words<'_>,
+        text: &mut Answer,
+    ) -> Result<bool, Fault> {
+        if let Some(records) = &mut self.records {
+            if answer_recorded(alloc, records, name, words, text)? {
+                return Ok(true);
+            }
+        }
+        answer_alone(alloc, name, words, text)
     }
 
     /// Adds what the table reads.
@@ -139,17 +174,11 @@ impl Subject for Processing {
         let mut words = Words::of(call);
         let name = words.next();
         match name {
-            "new" => return Ok(self.begin(alloc, words, text)),
-            "processed" => return self.process(alloc, words, true, text),
-            "row_count" => return self.process(alloc, words, false, text),
-            "at" => return Ok(self.at(words, text)),
-            _ => {}
+            "new" => Ok(self.begin(alloc, words, text)),
+            "processed" => self.process(alloc, words, true, text),
+            "row_count" => self.process(alloc, words, false, text),
+            "at" => Ok(self.at(words, text)),
+            _ => self.answer_other(alloc, name, words, text),
         }
-        if let Some(records) = &mut self.records {
-            if answer_recorded(alloc, records, name, words, text)? {
-                return Ok(true);
-            }
-        }
-        answer_alone(alloc, name, words, text)
     }
 }

@@ -35,9 +35,39 @@ fn add_run(first: u8, last: u8, answer: &Answer, text: &mut Answer) {
     text.end_line();
 }
 
+/// The numbers so far whose answers are equal: the first one, and their answer.
+#[derive(Drop)]
+struct Run {
+    first: u8,
+    answer: Answer,
+}
+
+impl Run {
+    /// Takes the answer for the next number; where it is another one, the run so far is added.
+    fn follow(&mut self, number: u8, answer: Answer, text: &mut Answer) {
+        if number > self.first && answer != self.answer {
+            add_run(self.first, number - 1, &self.answer, text);
+            self.first = number;
+        }
+        self.answer = answer;
+    }
+}
+
 impl<S: Subject> Repeated<S> {
     pub fn of(subject: S) -> Repeated<S> {
         Repeated { subject }
+    }
+
+    /// Makes the call for a number.
+    fn one(
+        &mut self,
+        rt: &HostRuntime,
+        call: &str,
+        number: u8,
+        text: &mut Answer,
+    ) -> Result<bool, Fault> {
+        let call = with_number(rt.alloc(), call, number)?;
+        self.subject.answer(rt, call.as_str(), text)
     }
 
     /// Makes the call for each number.
@@ -50,20 +80,18 @@ impl<S: Subject> Repeated<S> {
     ) -> Result<bool, Fault> {
         let alloc = rt.alloc();
         let (first, last) = range;
-        let mut run = (first, Answer::new(alloc));
+        let mut run = Run {
+            first,
+            answer: Answer::new(alloc),
+        };
         for number in first..=last {
-            let call = with_number(alloc, call, number)?;
             let mut answer = Answer::new(alloc);
-            if !self.subject.answer(rt, call.as_str(), &mut answer)? {
+            if !self.one(rt, call, number, &mut answer)? {
                 return Ok(false);
             }
-            if number > first && answer != run.1 {
-                add_run(run.0, number - 1, &run.1, text);
-                run.0 = number;
-            }
-            run.1 = answer;
+            run.follow(number, answer, text);
         }
-        add_run(run.0, last, &run.1, text);
+        add_run(run.first, last, &run.answer, text);
         Ok(true)
     }
 }

@@ -2,7 +2,7 @@
 
 use crate::table_text::{add_table, table_of};
 use gi_calls::{Answer, Fault, Subject, Words};
-use gi_cycles::{Collecting, CycleState, Frozen, MeetFault};
+use gi_cycles::{Collecting, CycleState, Frozen, Matched, MeetFault};
 use gi_lesser::lesser;
 use gi_pairs::{CycleId, Key, MOST_PROCESSED_ROWS, Table};
 use std::alloc::Global;
@@ -34,18 +34,23 @@ fn add_lesser(alloc: Global, own: &Table, peer: &Table, text: &mut Answer) -> Re
     Ok(true)
 }
 
+/// Adds the lesser of a table and that of the words.
+fn lesser_with(alloc: Global, own: &Table, peer: &str, text: &mut Answer) -> Result<bool, Fault> {
+    match given_table(alloc, peer)? {
+        Some(peer) => add_lesser(alloc, own, &peer, text),
+        None => Ok(false),
+    }
+}
+
 /// `lesser TABLE with TABLE`.
 fn lesser_of(alloc: Global, tables: &str, text: &mut Answer) -> Result<bool, Fault> {
     let Some((own, peer)) = tables.split_once(" with ") else {
         return Ok(false);
     };
-    let Some(own) = given_table(alloc, own)? else {
-        return Ok(false);
-    };
-    let Some(peer) = given_table(alloc, peer)? else {
-        return Ok(false);
-    };
-    add_lesser(alloc, &own, &peer, text)
+    match given_table(alloc, own)? {
+        Some(own) => lesser_with(alloc, &own, peer, text),
+        None => Ok(false),
+    }
 }
 
 /// `names`: the refusals.
@@ -56,15 +61,17 @@ fn names(text: &mut Answer) -> bool {
     true
 }
 
-/// The closed cycle, where it collects and the table has as many rows as a processed one may; else
-/// the state comes back.
-fn closed(state: CycleState, processed: Table) -> Result<Frozen, CycleState> {
-    if processed.rows().len() > MOST_PROCESSED_ROWS {
-        return Err(state);
-    }
-    match state {
-        CycleState::Collecting(collecting) => Ok(collecting.close(processed)),
-        state => Err(state),
+/// Adds what a meeting answers. The state is what it leaves.
+fn met(answer: Result<Matched, (Frozen, MeetFault)>, text: &mut Answer) -> CycleState {
+    match answer {
+        Ok(matched) => {
+            text.add("ok");
+            CycleState::Matched(matched)
+        }
+        Err((frozen, fault)) => {
+            text.show(&fault);
+            CycleState::Frozen(frozen)
+        }
     }
 }
 
@@ -129,63 +136,65 @@ impl Cycles {
         Cycles { state: None }
     }
 
+    /// Keeps a state in the place of the one before, which is let go here alone.
+    fn keep(&mut self, state: Option<CycleState>) {
+        self.state = state;
+    }
+
     /// `new DAY CYCLE`: the cycle, which collects.
     fn make(&mut self, mut words: Words<'_>, text: &mut Answer) -> bool {
         let Some(id) = words.cycle() else {
             return false;
         };
-        self.state = Some(CycleState::Collecting(Collecting::new(id)));
+        self.keep(Some(CycleState::Collecting(Collecting::new(id))));
         text.add("ok");
         true
     }
 
     /// `close TABLE`: freezes the table of a cycle that collects.
     fn close(&mut self, alloc: Global, given: &str, text: &mut Answer) -> Result<bool, Fault> {
-        let Some(processed) = given_table(alloc, given)? else {
-            return Ok(false);
-        };
-        let Some(state) = self.state.take() else {
-            return Ok(false);
-        };
-        match closed(state, processed) {
-            Ok(frozen) => {
-                self.state = Some(CycleState::Frozen(frozen));
-                text.add("ok");
-                Ok(true)
-            }
-            Err(state) => {
-                self.state = Some(state);
-                Ok(false)
-            }
+        match given_table(alloc, given)? {
+            Some(processed) => Ok(self.close_with(processed, text)),
+            None => Ok(false),
         }
+    }
+
+    /// Closes the cycle, where it collects and the table has as many rows as a processed one may.
+    fn close_with(&mut self, processed: Table, text: &mut Answer) -> bool {
+        let Some(CycleState::Collecting(collecting)) = &self.state else {
+            return false;
+        };
+        if processed.rows().len() > MOST_PROCESSED_ROWS {
+            return false;
+        }
+        let collecting = Collecting::new(collecting.id());
+        self.keep(Some(CycleState::Frozen(collecting.close(processed))));
+        text.add("ok");
+        true
     }
 
     /// `meet TABLE`: where it is refused, the frozen cycle that comes back is kept.
     fn meet(&mut self, alloc: Global, given: &str, text: &mut Answer) -> Result<bool, Fault> {
-        let Some(peer) = given_table(alloc, given)? else {
-            return Ok(false);
-        };
+        match given_table(alloc, given)? {
+            Some(peer) => Ok(self.meet_with(alloc, peer, text)),
+            None => Ok(false),
+        }
+    }
+
+    /// Makes the cycle meet the table, where it is frozen and the table has as many rows as a
+    /// processed one may.
+    fn meet_with(&mut self, alloc: Global, peer: Table, text: &mut Answer) -> bool {
         if peer.rows().len() > MOST_PROCESSED_ROWS {
-            return Ok(false);
+            return false;
         }
         match self.state.take() {
             Some(CycleState::Frozen(frozen)) => {
-                let state = match frozen.meet(alloc, peer) {
-                    Ok(matched) => {
-                        text.add("ok");
-                        CycleState::Matched(matched)
-                    }
-                    Err((frozen, fault)) => {
-                        text.show(&fault);
-                        CycleState::Frozen(frozen)
-                    }
-                };
-                self.state = Some(state);
-                Ok(true)
+                self.keep(Some(met(frozen.meet(alloc, peer), text)));
+                true
             }
             other => {
-                self.state = other;
-                Ok(false)
+                self.keep(other);
+                false
             }
         }
     }

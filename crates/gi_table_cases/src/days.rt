@@ -89,6 +89,16 @@ fn due(frame: DayFrame, mut words: Words<'_>, text: &mut Answer) -> bool {
     true
 }
 
+/// Adds a frame: its day, its hours and how many cycles it has.
+fn add_frame(frame: &DayFrame, text: &mut Answer) {
+    text.add("day");
+    text.word(&frame.day());
+    text.add(" hours");
+    text.word(&frame.hours());
+    text.add(" cycles");
+    text.word(&frame.cycle_count());
+}
+
 impl Days {
     pub fn new() -> Days {
         Days {
@@ -109,20 +119,14 @@ impl Days {
         true
     }
 
-    /// `frame DAY`: its day, its hours and how many cycles it has.
+    /// `frame DAY`.
     fn frame(&mut self, mut words: Words<'_>, text: &mut Answer) -> bool {
         let (Some(calendar), Some(day)) = (&self.calendar, words.day()) else {
             return false;
         };
         match calendar.frame(day) {
             Ok(frame) => {
-                let (day, hours, cycles) = (frame.day(), frame.hours(), frame.cycle_count());
-                text.add("day");
-                text.word(&day);
-                text.add(" hours");
-                text.word(&hours);
-                text.add(" cycles");
-                text.word(&cycles);
+                add_frame(&frame, text);
                 self.frame = Some(frame);
             }
             Err(fault) => text.show(&fault),
@@ -135,7 +139,9 @@ impl Days {
         let (Some(calendar), Some(day)) = (&self.calendar, words.day()) else {
             return Ok(false);
         };
-        let again = calendar.copy().map_err(|_| Fault::OutOfMemory)?;
+        let Ok(again) = calendar.copy() else {
+            return Err(Fault::OutOfMemory);
+        };
         let same = again.frame(day) == calendar.frame(day);
         text.add(if same { "same" } else { "other" });
         Ok(true)

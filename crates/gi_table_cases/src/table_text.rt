@@ -30,14 +30,14 @@ pub(crate) fn row_of(alloc: Global, mut words: Words<'_>) -> Result<Option<Row>,
     let Some(Key { pair, direction }) = words.key() else {
         return Ok(None);
     };
-    let Some(hours) = hours_of(alloc, words)? else {
-        return Ok(None);
-    };
-    Ok(Some(Row {
-        pair,
-        direction,
-        hours,
-    }))
+    match hours_of(alloc, words)? {
+        Some(hours) => Ok(Some(Row {
+            pair,
+            direction,
+            hours,
+        })),
+        None => Ok(None),
+    }
 }
 
 /// A row of `IM` with one quantity in each of so many hours.
@@ -53,6 +53,31 @@ fn like_row(alloc: Global, pair: Pair, quantity: Quantity, hours: u8) -> Result<
     })
 }
 
+/// The code of `B` and a number.
+fn numbered(alloc: Global, number: u32) -> Result<Option<Code>, Fault> {
+    let text = format!(in alloc; "B{number}")?;
+    Ok(Code::read(text.as_str()).ok())
+}
+
+/// Adds the row of a number.
+fn push_like_row(
+    alloc: Global,
+    number: u32,
+    (initiating, quantity): (Code, Quantity),
+    hours: u8,
+    rows: &mut Vec<Row>,
+) -> Result<bool, Fault> {
+    let Some(matching) = numbered(alloc, number)? else {
+        return Ok(false);
+    };
+    let pair = Pair {
+        initiating,
+        matching,
+    };
+    rows.push(like_row(alloc, pair, quantity, hours)?)?;
+    Ok(true)
+}
+
 /// The rows of the words: the initiating code, how many there are, and the quantity.
 fn like_rows(alloc: Global, mut words: Words<'_>, hours: u8) -> Result<Option<Vec<Row>>, Fault> {
     let (Some(initiating), Some(count), Some(quantity)) = (
@@ -64,15 +89,9 @@ fn like_rows(alloc: Global, mut words: Words<'_>, hours: u8) -> Result<Option<Ve
     };
     let mut rows = Vec::new(alloc);
     for number in 0..count {
-        let matching = format!(in alloc; "B{number}")?;
-        let Ok(matching) = Code::read(matching.as_str()) else {
+        if !push_like_row(alloc, number, (initiating, quantity), hours, &mut rows)? {
             return Ok(None);
-        };
-        let pair = Pair {
-            initiating,
-            matching,
-        };
-        rows.push(like_row(alloc, pair, quantity, hours)?)?;
+        }
     }
     Ok(Some(rows))
 }
@@ -86,25 +105,43 @@ fn rows_of(alloc: Global, mut words: Words<'_>, hours: u8) -> Result<Option<Vec<
     }
 }
 
+/// The first and the last hour, and the rows that come before the first bar.
+fn begun(alloc: Global, text: &str) -> Result<Option<(u8, u8, Vec<Row>)>, Fault> {
+    let mut words = Words::of(text);
+    let (Some(first), Some(last)) = (words.byte(), words.byte()) else {
+        return Ok(None);
+    };
+    let hours = last.saturating_sub(first).saturating_add(1);
+    match rows_of(alloc, words, hours)? {
+        Some(rows) => Ok(Some((first, last, rows))),
+        None => Ok(None),
+    }
+}
+
+/// Adds the row of the words, where they are one.
+fn push_row(alloc: Global, text: &str, rows: &mut Vec<Row>) -> Result<bool, Fault> {
+    match row_of(alloc, Words::of(text))? {
+        Some(row) => {
+            rows.push(row)?;
+            Ok(true)
+        }
+        None => Ok(false),
+    }
+}
+
 /// What `Table::build` answers to the hours and rows of a call.
 pub(crate) fn table_of(
     alloc: Global,
     text: &str,
 ) -> Result<Option<Result<Table, TableFault>>, Fault> {
     let mut parts = text.split(" | ");
-    let mut words = Words::of(parts.next().unwrap_or(""));
-    let (Some(first), Some(last)) = (words.byte(), words.byte()) else {
-        return Ok(None);
-    };
-    let hours = last.saturating_sub(first).saturating_add(1);
-    let Some(mut rows) = rows_of(alloc, words, hours)? else {
+    let Some((first, last, mut rows)) = begun(alloc, parts.next().unwrap_or(""))? else {
         return Ok(None);
     };
     for part in parts {
-        let Some(row) = row_of(alloc, Words::of(part))? else {
+        if !push_row(alloc, part, &mut rows)? {
             return Ok(None);
-        };
-        rows.push(row)?;
+        }
     }
     Ok(Some(Table::build(first, last, rows)))
 }

@@ -6,7 +6,7 @@ use crate::table_text::{add_hours, add_key, add_row, add_table, hours_of, row_of
 use gi_calls::{Answer, Fault, Subject, Words};
 use gi_pairs::{
     Code, CodeText, Direction, Hours, Key, LAST_HOUR, MOST_PROCESSED_ROWS, MOST_ROWS, Quantity,
-    QuantityRange, Side, Table, TableFault,
+    QuantityRange, Row, Side, Table, TableFault,
 };
 use std::alloc::Global;
 
@@ -54,7 +54,10 @@ fn quantity(mut words: Words<'_>, text: &mut Answer) -> bool {
 
 /// How the next two values stand to each other, where both could be read.
 fn order_of_both<T: Ord + Copy>(left: Option<T>, right: Option<T>) -> Option<&'static str> {
-    Some(order_of(left?, right?))
+    match (left, right) {
+        (Some(left), Some(right)) => Some(order_of(left, right)),
+        _ => None,
+    }
 }
 
 /// `compare KIND VALUE VALUE`.
@@ -106,20 +109,25 @@ fn copy_row(alloc: Global, words: Words<'_>, text: &mut Answer) -> Result<bool, 
     Ok(true)
 }
 
+/// Adds whether the row is that of the words.
+fn add_equal(alloc: Global, left: &Row, right: &str, text: &mut Answer) -> Result<bool, Fault> {
+    let Some(right) = row_of(alloc, Words::of(right))? else {
+        return Ok(false);
+    };
+    let equal = *left == right;
+    text.show(&equal);
+    Ok(true)
+}
+
 /// `equal ROW | ROW`: whether the rows are equal.
 fn equal(alloc: Global, rows: &str, text: &mut Answer) -> Result<bool, Fault> {
     let Some((left, right)) = rows.split_once(" | ") else {
         return Ok(false);
     };
-    let Some(left) = row_of(alloc, Words::of(left))? else {
-        return Ok(false);
-    };
-    let Some(right) = row_of(alloc, Words::of(right))? else {
-        return Ok(false);
-    };
-    let equal = left == right;
-    text.show(&equal);
-    Ok(true)
+    match row_of(alloc, Words::of(left))? {
+        Some(left) => add_equal(alloc, &left, right, text),
+        None => Ok(false),
+    }
 }
 
 /// `names`: sides, directions and refusals.
@@ -178,9 +186,30 @@ fn at(table: &Table, mut words: Words<'_>, text: &mut Answer) -> bool {
     true
 }
 
+/// The calls of values alone.
+fn on_values(name: &str, words: Words<'_>, text: &mut Answer) -> bool {
+    match name {
+        "code" => code(words.rest(), text),
+        "quantity" => quantity(words, text),
+        "compare" => compare(words, text),
+        "other" => other(words, text),
+        "pair_of" => pair_of(words, text),
+        "pair_at" => pair_at(words, text),
+        "names" => names(text),
+        "limits" => limits(text),
+        _ => false,
+    }
+}
+
 impl Tables {
     pub fn new() -> Tables {
         Tables { table: None }
+    }
+
+    /// Keeps a table in the place of the one before, which is let go here alone.
+    fn keep(&mut self, table: Table, text: &mut Answer) {
+        self.table = Some(table);
+        text.add("ok");
     }
 
     /// `build FIRST LAST ROWS`; where it is refused the table before it stays.
@@ -189,10 +218,7 @@ impl Tables {
             return Ok(false);
         };
         match built {
-            Ok(table) => {
-                self.table = Some(table);
-                text.add("ok");
-            }
+            Ok(table) => self.keep(table, text),
             Err(fault) => text.show(&fault),
         }
         Ok(true)
@@ -204,17 +230,16 @@ impl Tables {
             return Ok(false);
         };
         let copy = table.copy()?;
-        self.table = Some(copy);
-        text.add("ok");
+        self.keep(copy, text);
         Ok(true)
     }
 
     /// The calls of a table.
-    fn on_table(&self, mut words: Words<'_>, text: &mut Answer) -> bool {
+    fn on_table(&self, name: &str, words: Words<'_>, text: &mut Answer) -> bool {
         let Some(table) = &self.table else {
             return false;
         };
-        match words.next() {
+        match name {
             "rows" => {
                 add_table(table, text);
                 true
@@ -230,22 +255,14 @@ impl Subject for Tables {
         let alloc = rt.alloc();
         let mut words = Words::of(call);
         match words.next() {
-            "code" => Ok(code(words.rest(), text)),
             "long_code" => long_code(alloc, words, text),
-            "quantity" => Ok(quantity(words, text)),
-            "compare" => Ok(compare(words, text)),
             "hours" => hours(alloc, words, text),
             "key" => key(alloc, words, text),
             "copy_row" => copy_row(alloc, words, text),
             "equal" => equal(alloc, words.rest(), text),
-            "other" => Ok(other(words, text)),
-            "pair_of" => Ok(pair_of(words, text)),
-            "pair_at" => Ok(pair_at(words, text)),
-            "names" => Ok(names(text)),
-            "limits" => Ok(limits(text)),
             "build" => self.build(alloc, words.rest(), text),
             "copy" => self.copy(text),
-            _ => Ok(self.on_table(Words::of(call), text)),
+            name => Ok(on_values(name, words, text) || self.on_table(name, words, text)),
         }
     }
 }

@@ -66,14 +66,28 @@ fn hours_of(alloc: Global, values: [u64; 6], day: usize, place: usize) -> Result
     Ok(hours)
 }
 
+/// Adds the line of a day at one place of the three.
+fn add_day(
+    alloc: Global,
+    values: [u64; 6],
+    day: usize,
+    place: usize,
+    lines: &mut String,
+) -> Result<(), AllocError>
+    requires day { day < 9 }
+    requires place { place < 3 }
+{
+    let hours = hours_of(alloc, values, day, place)?;
+    add_line(OTHERS[place], "IM", hours.as_str(), lines)
+}
+
 /// The lines of a day, which are not in order of counterparty.
 fn lines_of(alloc: Global, values: [u64; 6], day: usize) -> Result<String, AllocError>
     requires { day < 9 }
 {
     let mut lines = String::new(alloc);
     for place in [1, 2, 0] {
-        let hours = hours_of(alloc, values, day, place)?;
-        add_line(OTHERS[place], "IM", hours.as_str(), &mut lines)?;
+        add_day(alloc, values, day, place, &mut lines)?;
     }
     Ok(lines)
 }
@@ -117,23 +131,29 @@ fn six_numbers(words: &mut Words<'_>) -> Option<[u64; 6]> {
     Some(values)
 }
 
-/// Answers `AVAILABLE VALUE VALUE VALUE VALUE VALUE VALUE`: whether each three of the values, 24
-/// threes in the hours of one day, are reduced as one by one.
-pub(crate) fn reduce_triples(
+/// What is processed of a day's quantities.
+fn table_of(
     alloc: Global,
-    mut words: Words<'_>,
+    values: [u64; 6],
+    day: usize,
+    available: u64,
+) -> Result<Option<Table>, AllocError>
+    requires { day < 9 }
+{
+    let lines = lines_of(alloc, values, day)?;
+    let half = available / 2;
+    processed_lines(alloc, half, available - half, lines.as_str())
+}
+
+/// Adds whether each three of the values are reduced as one by one, or the first three that are not.
+fn compare(
+    alloc: Global,
+    values: [u64; 6],
+    available: u64,
     text: &mut Answer,
 ) -> Result<bool, Fault> {
-    let Ok(available) = words.next().parse::<u64>() else {
-        return Ok(false);
-    };
-    let Some(values) = six_numbers(&mut words) else {
-        return Ok(false);
-    };
-    let half = available / 2;
     for day in 0..9 {
-        let lines = lines_of(alloc, values, day)?;
-        let Some(table) = processed_lines(alloc, half, available - half, lines.as_str())? else {
+        let Some(table) = table_of(alloc, values, day, available)? else {
             return Ok(false);
         };
         if let Some(quantities) = other_parts(&table, values, day, available) {
@@ -144,4 +164,18 @@ pub(crate) fn reduce_triples(
     }
     text.add("216 as one by one");
     Ok(true)
+}
+
+/// Answers `AVAILABLE VALUE VALUE VALUE VALUE VALUE VALUE`: whether each three of the values, 24
+/// threes in the hours of one day, are reduced as one by one.
+pub(crate) fn reduce_triples(
+    alloc: Global,
+    mut words: Words<'_>,
+    text: &mut Answer,
+) -> Result<bool, Fault> {
+    let (Ok(available), Some(values)) = (words.next().parse::<u64>(), six_numbers(&mut words))
+    else {
+        return Ok(false);
+    };
+    compare(alloc, values, available, text)
 }

@@ -5,12 +5,21 @@ use gi_processing::{Contract, Notice};
 
 /// `PORTFOLIO DAY DIRECTION FIRM INTERRUPTIBLE`.
 pub(crate) fn contract(mut words: Words<'_>) -> Option<Contract> {
+    let (Some(portfolio), Some(day), Some(direction), Some(firm), Some(interruptible)) = (
+        words.code(),
+        words.day(),
+        words.direction(),
+        words.quantity(),
+        words.quantity(),
+    ) else {
+        return None;
+    };
     Some(Contract {
-        portfolio: words.code()?,
-        day: words.day()?,
-        direction: words.direction()?,
-        firm: words.quantity()?,
-        interruptible: words.quantity()?,
+        portfolio,
+        day,
+        direction,
+        firm,
+        interruptible,
     })
 }
 
@@ -21,12 +30,23 @@ fn permille(words: &mut Words<'_>) -> Option<u16> {
 
 /// `DAY DIRECTION FIRST LAST FIRM INTERRUPTIBLE`.
 pub(crate) fn notice(mut words: Words<'_>) -> Option<Notice> {
+    let (Some(day), Some(direction), Some(first), Some(last)) = (
+        words.day(),
+        words.direction(),
+        words.byte(),
+        words.byte(),
+    ) else {
+        return None;
+    };
+    let (Some(firm), Some(interruptible)) = (permille(&mut words), permille(&mut words)) else {
+        return None;
+    };
     Some(Notice {
-        day: words.day()?,
-        direction: words.direction()?,
-        first: words.byte()?,
-        last: words.byte()?,
-        firm: permille(&mut words)?,
-        interruptible: permille(&mut words)?,
+        day,
+        direction,
+        first,
+        last,
+        firm,
+        interruptible,
     })
 }

@@ -5,7 +5,9 @@ use crate::nomint_text::nomint;
 use crate::processing::reading::{contract, notice};
 use crate::processing::records::Records;
 use gi_calls::{Answer, Fault, Words};
-use std::alloc::Global;
+use gi_messages::Nomint;
+use gi_nominations::Verdict;
+use std::alloc::{AllocError, Global};
 
 fn set(records: &mut Records, words: Words<'_>, text: &mut Answer) -> bool {
     let Some(contract) = contract(words) else {
@@ -57,6 +59,15 @@ fn available(records: &Records, mut words: Words<'_>, text: &mut Answer) -> bool
     true
 }
 
+/// The verdict on a nomination, which is taken where that is wanted and it is recordable.
+fn verdict_on(records: &mut Records, nomint: Nomint, takes: bool) -> Result<Verdict, AllocError> {
+    if takes {
+        records.take(nomint)
+    } else {
+        Ok(records.judge(&nomint))
+    }
+}
+
 /// Judges a nomination, or takes it where that is wanted and it is recordable.
 fn nominate(
     alloc: Global,
@@ -68,12 +79,7 @@ fn nominate(
     let Some(nomint) = nomint(alloc, words.rest())? else {
         return Ok(false);
     };
-    let verdict = if takes {
-        records.take(nomint)?
-    } else {
-        records.judge(&nomint)
-    };
-    add_verdict(verdict, text);
+    add_verdict(verdict_on(records, nomint, takes)?, text);
     Ok(true)
 }
 
@@ -86,13 +92,25 @@ pub(crate) fn answer_recorded(
     text: &mut Answer,
 ) -> Result<bool, Fault> {
     match name {
-        "set" => Ok(set(records, words, text)),
-        "refuses" => Ok(refuses(records, words, text)),
-        "notice" => Ok(give(records, words, text)),
-        "knows" => Ok(knows(records, words, text)),
-        "available" => Ok(available(records, words, text)),
         "judge" => nominate(alloc, records, words, false, text),
         "take" => nominate(alloc, records, words, true, text),
-        _ => Ok(false),
+        _ => Ok(answer_contracts(records, name, words, text)),
+    }
+}
+
+/// The answer of a call that contracts and notices are for.
+fn answer_contracts(
+    records: &mut Records,
+    name: &str,
+    words: Words<'_>,
+    text: &mut Answer,
+) -> bool {
+    match name {
+        "set" => set(records, words, text),
+        "refuses" => refuses(records, words, text),
+        "notice" => give(records, words, text),
+        "knows" => knows(records, words, text),
+        "available" => available(records, words, text),
+        _ => false,
     }
 }

@@ -1,13 +1,16 @@
 //! Quantities that one portfolio nominates, reduced to what is available to it: A nominates on a
 //! day of 24 hours, to B, C and D.
 
+ghost use Rattle.std.specs.Prelude.{◌<◌};
+
 use crate::hours_text::add_hours;
 use crate::nomint_text::nomint;
-use crate::processing::reading::contract;
 use crate::processing::records::Records;
 use gi_calls::{Answer, Fault, Words};
+use gi_messages::Nomint;
 use gi_nominations::Verdict;
-use gi_pairs::{Side, Table};
+use gi_pairs::{Direction, Quantity, Side, Table};
+use gi_processing::Contract;
 use std::alloc::{AllocError, Global};
 use std::fmt::Write;
 
@@ -31,6 +34,42 @@ pub(crate) fn add_line(
     )
 }
 
+/// A's nomination with these lines.
+fn nomint_with(alloc: Global, lines: &str) -> Result<Option<Nomint>, AllocError> {
+    let text = format!(in alloc; r#"{{{NOMINT},"lines":[{lines}]}}"#)?;
+    nomint(alloc, text.as_str())
+}
+
+/// The contract for `IM` of the portfolio that nominates.
+fn contract_for(nomint: &Nomint, firm: u64, interruptible: u64) -> Option<Contract> {
+    let (Ok(firm), Ok(interruptible)) = (Quantity::new(firm), Quantity::new(interruptible)) else {
+        return None;
+    };
+    Some(Contract {
+        portfolio: nomint.portfolio,
+        day: nomint.day,
+        direction: Direction::IM,
+        firm,
+        interruptible,
+    })
+}
+
+/// The processed table of cycle 0 at the initiating side, which has recorded no more than this
+/// contract and this nomination. Without the contract the nomination is refused.
+fn processed_alone(
+    alloc: Global,
+    contract: Contract,
+    nomint: Nomint,
+) -> Result<Option<Table>, AllocError> {
+    let day = nomint.day;
+    let mut records = Records::new(alloc, nomint.point);
+    let _ = records.set(contract);
+    let Verdict::Recordable = records.take(nomint)? else {
+        return Ok(None);
+    };
+    Ok(records.processed(alloc, Side::I, day, 0)?.ok())
+}
+
 /// The processed table of cycle 0 at the initiating side, where the contract of A for `IM` has a
 /// firm and an interruptible quantity and A has these lines in force.
 pub(crate) fn processed_lines(
@@ -38,24 +77,27 @@ pub(crate) fn processed_lines(
     firm: u64,
     interruptible: u64,
     lines: &str,
-) -> Result<Option<Table>, Fault> {
-    let contract_text = format!(in alloc; "A 2026-01-15 IM {firm} {interruptible}")?;
-    let Some(contract) = contract(Words::of(contract_text.as_str())) else {
+) -> Result<Option<Table>, AllocError> {
+    let Some(nomint) = nomint_with(alloc, lines)? else {
         return Ok(None);
     };
-    let nomint_text = format!(in alloc; r#"{{{NOMINT},"lines":[{lines}]}}"#)?;
-    let Some(nomint) = nomint(alloc, nomint_text.as_str())? else {
-        return Ok(None);
-    };
-    let day = nomint.day;
-    let mut records = Records::new(alloc, nomint.point);
-    let Ok(()) = records.set(contract) else {
-        return Ok(None);
-    };
-    let Verdict::Recordable = records.take(nomint)? else {
-        return Ok(None);
-    };
-    Ok(records.processed(alloc, Side::I, day, 0)?.ok())
+    match contract_for(&nomint, firm, interruptible) {
+        Some(contract) => processed_alone(alloc, contract, nomint),
+        None => Ok(None),
+    }
+}
+
+/// Adds a line in `IM` with this quantity in every hour.
+fn add_same(
+    alloc: Global,
+    place: usize,
+    quantity: &str,
+    lines: &mut String,
+) -> Result<(), AllocError>
+    requires { place < 3 }
+{
+    let hours = format!(in alloc; "{quantity}x24")?;
+    add_line(OTHERS[place], "IM", hours.as_str(), lines)
 }
 
 /// Lines in `IM` with these quantities in every hour, B's first. Where they are mixed, the last one
@@ -68,8 +110,7 @@ fn lines_of(alloc: Global, quantities: &[&str], mixed: bool) -> Result<String, A
     let count = quantities.len().min(3);
     for i in 0..count {
         let place = if mixed { count - 1 - i } else { i };
-        let hours = format!(in alloc; "{}x24", quantities[place])?;
-        add_line(OTHERS[place], "IM", hours.as_str(), &mut lines)?;
+        add_same(alloc, place, quantities[place], &mut lines)?;
     }
     Ok(lines)
 }
@@ -92,10 +133,16 @@ fn add_rows(table: &Table, text: &mut Answer) {
 /// The words of a text.
 fn words_of(alloc: Global, text: &str) -> Result<Vec<&str>, AllocError> {
     let mut words = Vec::new(alloc);
-    for word in text.split(' ').filter(|word| !word.is_empty()) {
+    for word in text.split_whitespace() {
         words.push(word)?;
     }
     Ok(words)
+}
+
+/// Lines with the quantities of a text.
+fn lines_from(alloc: Global, text: &str, mixed: bool) -> Result<String, AllocError> {
+    let quantities = words_of(alloc, text)?;
+    lines_of(alloc, &quantities, mixed)
 }
 
 /// Answers `AVAILABLE QUANTITY ..`: what is processed of the quantities.
@@ -108,8 +155,7 @@ pub(crate) fn reduce(
     let Ok(available) = words.next().parse::<u64>() else {
         return Ok(false);
     };
-    let quantities = words_of(alloc, words.rest())?;
-    let lines = lines_of(alloc, &quantities, mixed)?;
+    let lines = lines_from(alloc, words.rest(), mixed)?;
     let Some(table) = processed_lines(alloc, available, 0, lines.as_str())? else {
         return Ok(false);
     };
