@@ -1,6 +1,6 @@
 -- The word of a call is that of the reply which its seat noted.
-use Rattle.std.proofs.Common.{◌≡◌, inl, inr, refl, subst, sym, ◌++◌, ◌∷◌, [], List, true, false, is_some, Option, None, Some, Result, Ok, Err, rules}
-use Rattle.std.specs.Prelude.{IfOk, IsOk}
+use Rattle.std.proofs.Common.{◌≡◌, inl, inr, refl, subst, ◌++◌, ◌∷◌, [], List, true, false, is_some, Option, None, Some, Result, Ok, Err, rules}
+use Rattle.std.specs.Prelude.{IfOk, OnOk}
 use Rattle.gi_desk.specs.declared.call.Call.{Call}
 use Rattle.gi_office.specs.Keeping.{SeatState}
 use Rattle.gi_office.specs.declared.office_fault.OfficeFault.{OfficeFault}
@@ -29,6 +29,9 @@ pub both_known : {T E : Type 0} (r : Result T E) (P Q R : T → Type 0) → ((x 
 both_known (Ok x) P Q R of p q = of x p q
 both_known (Err e) P Q R of p q = tt
 
-pub of_value : {T E : Type 0} (r : Result T E) (x : T) (P : T → Type 0) → IsOk r → IfOk r (λ one. x ≡ one) → IfOk r P → P x
-of_value (Ok one) x P ok same p = subst P (sym same) p
-of_value (Err e) x P ok same p = let no : false ≡ true = ok in absurd cc
+pub of_value : {T E : Type 0} (r : Result T E) (x : T) (P : T → Type 0) → r ≡ Ok x → IfOk r P → P x
+of_value {T} {E} r x P same p = subst (λ (s : Result T E). IfOk s P) same p
+
+pub known_too : {T E : Type 0} (r : Result T E) (P R : T → Type 0) (Q : Type 0) → ((x : T) → P x → Q → R x) → IfOk r P → OnOk r Q → IfOk r R
+known_too (Ok x) P R Q of p q = of x p q
+known_too (Err e) P R Q of p q = tt

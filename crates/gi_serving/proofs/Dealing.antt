@@ -1,6 +1,7 @@
 -- What is dealt to a session, and its words, one line, one body or one word more.
-use Rattle.std.proofs.Common.{◌≡◌, ◌≢◌, ◌⊎◌, inl, inr, eqb, append-nil, ◌<◌, ◌≤◌, ◌==◌, nat_eq, if◌then◌else◌, cond, ℕ, suc, ◌+◌, ◌-◌, length, List, [], ◌∷◌, ◌++◌, map, take, drop, drop-drop, get_or, set, slice_get, Vec, Bool, true, false, refl, ap, ◌∙◌, sym, subst, arith}
+use Rattle.std.proofs.Common.{◌≡◌, ◌≢◌, ◌⊎◌, inl, inr, eqb, append-nil, ◌<◌, ◌≤◌, ◌==◌, nat_eq, if◌then◌else◌, cond, ℕ, suc, ◌+◌, ◌-◌, length, List, [], ◌∷◌, ◌++◌, map, take, drop, drop-drop, get_or, set, slice_get, Vec, Bool, true, false, Result, Ok, Err, refl, ap, ◌∙◌, sym, subst, arith}
 use Rattle.std.specs.List.{flat_map}
+use Rattle.std.specs.Prelude.{IfOk, IsOk, OnOk}
 use Rattle.std.proofs.lemmas.Bool.Decides.{eqb_tells}
 use Rattle.std.proofs.lemmas.List.{flat_map_more, get_or-map, get_or-set_other, get_or-set_same, length-append, length-map, length-take-le, map-append, map-set, take_more}
 use Rattle.std.proofs.lemmas.List.FromFn.{length-map-range_with_len, map-range_with_len_more}
@@ -11,7 +12,7 @@ use Rattle.gi_script.specs.declared.line.Line.{Line}
 use Rattle.gi_serving.specs.Asking.{NotesMarks}
 use Rattle.gi_serving.specs.Assigning.{sessions_of}
 use Rattle.gi_serving.specs.Batches.{submission}
-use Rattle.gi_serving.specs.Submitting.{AreWords, AreWordsOf, SessionsMake, SessionsSubmit, SubmitsBatch, bodies_in, bodies_of, body_for, dealt, dealt_to_all, in_order, word_for}
+use Rattle.gi_serving.specs.Submitting.{AreWords, AreWordsOf, HasMain, SessionsMake, SessionsSubmit, SubmitsBatch, bodies_in, bodies_of, body_for, dealt, dealt_to_all, in_order, word_for}
 use Rattle.gi_serving.specs.declared.word.Word.{Word}
 
 -- ---- the bodies
@@ -236,3 +237,11 @@ submits_batch side sessions bodies old others back new words main after taken gi
   make = make;
   notes = notes;
 }
+
+pub main_submits : {Y Z E F : Type 0} (submitted : Result (Vec SeatState Y × Vec Word Z) E) (saved : Result (Unit {0}) F) (side : Side) (sessions : ℕ) (bodies : List (List ℕ)) (old others new : List SeatState) (words : List Word) (main after : SeatState)
+    → old ≡ others ++ main ∷ [] → IfOk submitted (λ it. SessionsMake side sessions bodies others it.1.items it.0.items) → OnOk saved (NotesMarks main after) → IsOk saved → HasMain submitted after new words
+    → SubmitsBatch side sessions bodies old words new
+main_submits (Ok it) (Ok done) side sessions bodies old others new words main after taken make notes ok has =
+    subst (λ (ws : List Word). SubmitsBatch side sessions bodies old ws new) (sym has.1) (submits_batch side sessions bodies old others it.0.items new it.1.items main after taken has.0 make notes)
+main_submits (Ok it) (Err fault) side sessions bodies old others new words main after taken make notes ok has = let no : false ≡ true = ok in absurd cc
+main_submits (Err fault) saved side sessions bodies old others new words main after taken make notes ok has = absurd has

@@ -1,5 +1,6 @@
 -- No call takes a seat's number or its parts.
 use Rattle.std.proofs.Common.{◌≡◌, ◌⊎◌, ◌<◌, ℕ, suc, ◌+◌, List, [], ◌∷◌, ◌++◌, append-nil, length, map, take, Vec, Result, Ok, Err, inl, inr, false, refl, ap, append_assoc, subst, ◌∙◌, sym, arith}
+use Rattle.std.specs.Prelude.{IfOk}
 use Rattle.std.proofs.lemmas.List.{length-map, map-append}
 use Rattle.sqlite_trees.specs.declared.store.Store.{Ghosts}
 use Rattle.gi_pairs.specs.declared.side.Side.{Side}
@@ -21,7 +22,8 @@ use Rattle.gi_office.specs.declared.save_fault.SaveFault.TheVariants as savings
 use Rattle.gi_office.specs.declared.turn.Turn.{Turn}
 use Rattle.gi_office.specs.declared.turn.Turn.TheVariants as turns
 use Rattle.gi_serving.specs.Ending.{AreSamePlaces, place_of}
-use Rattle.gi_serving.specs.Submitting.{SessionsSubmit, begun_by, bodies_in, goes_on, receipts_in, seat_in, seat_of, short_of}
+use Rattle.gi_serving.specs.Submitting.{HasMain, SessionsSubmit, begun_by, bodies_in, goes_on, receipts_in, seat_in, seat_of, short_of}
+use Rattle.gi_serving.specs.declared.word.Word.{Word}
 
 -- ---- one seat
 
@@ -166,3 +168,16 @@ with_last old others back new main after taken given same last =
     ∙ ap (λ (place : ℕ × ℕ). map place_of others ++ place ∷ []) last
     ∙ sym (map-append place_of others (main ∷ []))
     ∙ sym (ap (map place_of) taken)
+
+pub with_main : {Y Z E : Type 0} (submitted : Result (Vec SeatState Y × Vec Word Z) E) (old others new : List SeatState) (words : List Word) (main after : SeatState)
+    → old ≡ others ++ main ∷ [] → IfOk submitted (λ it. AreSamePlaces others it.0.items) → place_of after ≡ place_of main → HasMain submitted after new words → AreSamePlaces old new
+with_main (Ok it) old others new words main after taken same last has = with_last old others it.0.items new main after taken has.0 same last
+with_main (Err fault) old others new words main after taken same last has = absurd has
+
+pub has_main : {Y Z E F : Type 0} (submitted : Result (Vec SeatState Y × Vec Word Z) E) (given : Result (Vec SeatState Y × Vec Word Z) F) (made all : Vec SeatState Y × Vec Word Z) (main : SeatState)
+    → submitted ≡ Ok made → given ≡ Ok all → IfOk given (λ it. it.0.items ≡ made.0.items ++ main ∷ []) → IfOk given (λ it. it.1 ≡ made.1) → HasMain submitted main all.0.items all.1.items
+has_main {Y} {Z} {E} {F} submitted given made all main was is seats words =
+    subst (λ (s : Result (Vec SeatState Y × Vec Word Z) E). HasMain s main all.0.items all.1.items) (sym was) (
+      subst (λ (r : Result (Vec SeatState Y × Vec Word Z) F). IfOk r (λ it. it.0.items ≡ made.0.items ++ main ∷ [])) is seats,
+      ap (λ (ws : Vec Word Z). ws.items) (subst (λ (r : Result (Vec SeatState Y × Vec Word Z) F). IfOk r (λ it. it.1 ≡ made.1)) is words),
+    )

@@ -1,5 +1,5 @@
 -- What a batch submits at a side, by which session, what came of it, and what the main seat notes meanwhile.
-use Rattle.std.specs.Prelude.{◌≡◌, ◌<◌, ℕ, ◌+◌, ◌==◌, ◌||◌, if◌then◌else◌, List, [], ◌∷◌, ◌++◌, drop, get_or, length, map, reverse, slice_get, Bool, true, false, Option, None, Some, Vec}
+use Rattle.std.specs.Prelude.{◌≡◌, ◌<◌, ℕ, ◌+◌, ◌==◌, ◌||◌, if◌then◌else◌, List, [], ◌∷◌, ◌++◌, drop, get_or, length, map, reverse, slice_get, Bool, true, false, Option, None, Some, Result, Ok, Err, Vec}
 use Rattle.std.specs.List.{flat_map, range_with_len}
 use Rattle.gi_office.specs.Keeping.{SeatState}
 use Rattle.gi_office.specs.Serving.{AreServed, ServedState, SessionState}
@@ -121,3 +121,8 @@ pub record SubmitsBatch (side : Side) (sessions : ℕ) (bodies : List (List ℕ)
   pub new_is : new ≡ back ++ after ∷ []
   pub make : SessionsMake side sessions bodies others words back
   pub notes : NotesMarks main after
+
+-- it was not refused, and the main seat stands behind its seats
+abbrev pub HasMain : {Y Z E : Type 0} → Result (Vec SeatState Y × Vec Word Z) E → SeatState → List SeatState → List Word → Type 0
+HasMain (Ok submitted) main seats words = (seats ≡ submitted.0.items ++ main ∷ []) × (words ≡ submitted.1.items)
+HasMain (Err fault) main seats words = ⊥

@@ -1,13 +1,14 @@
 //! A batch at both offices at once, and the turns that save meanwhile.
 
-ghost use Rattle.std.specs.Prelude.{◌≡◌, ◌≤◌, ◌<◌, ◌+◌, ◌++◌, ◌∷◌, [], Err, IfErr, IfOk, OnOk, length};
+ghost use Rattle.std.specs.Prelude.{◌≡◌, ◌≤◌, ◌<◌, ◌+◌, ◌++◌, ◌∷◌, [], Err, IfErr, IfOk, IsOk, Ok, OnOk, length};
 ghost use Rattle.std.specs.Thread.{IsSync};
 ghost use Rattle.gi_pairs.specs.declared.side.Side.TheVariants.{I, M};
 ghost use Rattle.gi_serving.specs.Asking.{NotesMarks, OtherIs};
 ghost use Rattle.gi_serving.specs.Ending.{AreSamePlaces, IsCut, IsTurnFault, place_of};
-ghost use Rattle.gi_serving.specs.Submitting.{SessionsMake, SubmitsBatch};
+ghost use Rattle.gi_serving.specs.Submitting.{HasMain, SessionsMake, SubmitsBatch};
 
 use crate::batch::submitted;
+use crate::paired::both_of;
 use crate::running::turned;
 use crate::serve_fault::ServeFault;
 use crate::word::Word;
@@ -25,8 +26,11 @@ use std::sync::ledger::Ledger;
 use std::thread;
 use std::thread::Threads;
 
-/// What came of the bodies of an office: its sessions' seats, and a word of each body.
-type Submitted<L> = Result<(Vec<Seat<L>>, Vec<Word>), AllocError>;
+/// Seats of an office, and a word of each body that its sessions submitted.
+type Made<L> = (Vec<Seat<L>>, Vec<Word>);
+
+/// What came of the bodies of an office, with its sessions' seats.
+type Submitted<L> = Result<Made<L>, AllocError>;
 
 fn wakers(alloc: Global) -> Result<(Waker, Waker, Receiver<Side>), AllocError>
     ensures { IfOk result (λ wakers. (wakers.0 ≡ I) × (wakers.1 ≡ M)) }
@@ -152,16 +156,61 @@ fn both_submitted<L: Ledger + Send + Sync, K: Ledger + Send + Sync, T: Threads +
     )
 }
 
-fn with_main<L: Ledger>(seats: Vec<Seat<L>>, main: Seat<L>) -> Result<Vec<Seat<L>>, AllocError>
-    ensures { IfOk result (λ all. all.items ≡ seats.items ++ main ∷ []) }
+/// The seats of the sessions, and behind them the main one.
+fn parted<L: Ledger>(seats: Vec<Seat<L>>) -> (Vec<Seat<L>>, Seat<L>)
+    requires { 0 < length seats.items }
+    ensures { seats.items ≡ result.0.items ++ result.1 ∷ [] }
 {
     let mut seats = seats;
+    let main = seats.pop().unwrap();
+    (seats, main)
+}
+
+/// Want of memory comes before the fault of a turn.
+fn unless_cut<L: Ledger, K: Ledger>(
+    submitted: (Submitted<L>, Submitted<K>),
+    saved: Result<(), SaveFault>,
+) -> Result<(Made<L>, Made<K>), ServeFault>
+    requires { IfErr saved IsTurnFault }
+    ensures ours { IfOk result (λ both. submitted.0 ≡ Ok both.0) }
+    ensures theirs { IfOk result (λ both. submitted.1 ≡ Ok both.1) }
+    ensures saved { OnOk result (IsOk saved) }
+    ensures cut { IfErr result (λ fault. IsCut (Err fault)) }
+{
+    let (ours, theirs) = submitted;
+    match (both_of(ours, theirs), saved) {
+        (Ok(both), Ok(())) => Ok(both),
+        (Ok(_), Err(fault)) => Err(ServeFault::Turn(fault)),
+        (Err(_), _) => Err(ServeFault::OutOfMemory),
+    }
+}
+
+fn with_main<L: Ledger>(made: Made<L>, main: Seat<L>) -> Submitted<L>
+    ensures seats { IfOk result (λ all. all.0.items ≡ made.0.items ++ main ∷ []) }
+    ensures words { IfOk result (λ all. all.1 ≡ made.1) }
+{
+    let (mut seats, words) = made;
     seats.push(main)?;
-    Ok(seats)
+    Ok((seats, words))
+}
+
+#[tactic(auto, using(crate::proofs::Places::has_main))]
+fn whole<L: Ledger, K: Ledger>(
+    saved: (Seat<L>, Seat<K>, Result<(), SaveFault>),
+    submitted: (Submitted<L>, Submitted<K>),
+) -> Result<(Made<L>, Made<K>), ServeFault>
+    requires { IfErr saved.2 IsTurnFault }
+    ensures ours { IfOk result (λ both. HasMain submitted.0 saved.0 both.0.0.items both.0.1.items) }
+    ensures theirs { IfOk result (λ both. HasMain submitted.1 saved.1 both.1.0.items both.1.1.items) }
+    ensures saved { OnOk result (IsOk saved.2) }
+    ensures cut { IfErr result (λ fault. IsCut (Err fault)) }
+{
+    let (main, peer_main, saved) = saved;
+    let (ours, theirs) = unless_cut(submitted, saved)?;
+    Ok(both_of(with_main(ours, main), with_main(theirs, peer_main))?)
 }
 
 /// Where no thread can be started the sessions come first, so that the turns wait for nobody.
-#[tactic(auto, using(crate::proofs::Places::with_last, crate::proofs::Dealing::submits_batch))]
 pub(crate) fn at_once<
     L: Ledger + Send + Sync,
     K: Ledger + Send + Sync,
@@ -179,7 +228,7 @@ pub(crate) fn at_once<
     peer_book: &mut BookStore<S>,
     peer_seats: Vec<Seat<K>>,
     peer_bodies: Vec<Body>,
-) -> Result<((Vec<Seat<L>>, Vec<Word>), (Vec<Seat<K>>, Vec<Word>)), ServeFault>
+) -> Result<(Made<L>, Made<K>), ServeFault>
     requires some { 1 ≤ sessions }
     requires few { sessions < 16 }
     requires ours { length seats.items ≡ sessions + 1 }
@@ -191,11 +240,9 @@ pub(crate) fn at_once<
     ensures cut { IfErr result (λ fault. IsCut (Err fault)) }
 {
     let (waker, peer_waker, notices) = wakers(alloc)?;
-    let mut seats = seats;
-    let mut peer_seats = peer_seats;
-    let main = seats.pop().unwrap();
-    let peer_main = peer_seats.pop().unwrap();
-    let ((main, peer_main, saved), (ours, theirs)) = thread::join(
+    let (seats, main) = parted(seats);
+    let (peer_seats, peer_main) = parted(peer_seats);
+    let (saved, submitted) = thread::join(
         rt,
         move || -> (Seat<L>, Seat<K>, Result<(), SaveFault>)
             ensures { (place_of result.0 ≡ place_of main) × (place_of result.1 ≡ place_of peer_main)
@@ -223,12 +270,5 @@ pub(crate) fn at_once<
             )
         },
     );
-    let (seats, words) = ours?;
-    let (peer_seats, peer_words) = theirs?;
-    if let Err(fault) = saved {
-        return Err(ServeFault::Turn(fault));
-    }
-    let seats = with_main(seats, main)?;
-    let peer_seats = with_main(peer_seats, peer_main)?;
-    Ok(((seats, words), (peer_seats, peer_words)))
+    whole(saved, submitted)
 }

@@ -1,7 +1,8 @@
 //! A batch: submissions, which the sessions of an office make at once.
 
 ghost use Rattle.std.specs.Prelude.{◌≡◌, ◌≤◌, ◌<◌, ◌++◌, [], All, IfOk, OnErr, OnOk, drop, false, length, map, slice_get, true, vec_capacity};
-ghost use Rattle.gi_serving.specs.Assigning.{IsNumber};
+ghost use Rattle.gi_pairs.specs.declared.side.Side.TheVariants.{I, M};
+ghost use Rattle.gi_serving.specs.Assigning.{IsNumber, sessions_of as sessions_for};
 ghost use Rattle.gi_serving.specs.Batches.{submission as submission_in};
 ghost use Rattle.gi_serving.specs.Ending.{AreSamePlaces};
 ghost use Rattle.gi_serving.specs.Submitting.{AreWords, SessionsMake, SessionsSubmit, begun_by, bodies_in, bodies_of, body_for, dealt, dealt_to_all, in_order, is_short, receipts_in, seat_in, short_of, word_for};
@@ -30,7 +31,7 @@ fn add_body(bodies: &mut Vec<Body>, side: Side, line: &Line) -> Result<(), Alloc
 }
 
 #[tactic(auto, using(crate::proofs::Dealing::line_more))]
-pub(crate) fn bodies_at(alloc: Global, side: Side, lines: &[Line]) -> Result<Vec<Body>, AllocError>
+fn bodies_at(alloc: Global, side: Side, lines: &[Line]) -> Result<Vec<Body>, AllocError>
     ensures { IfOk result (λ bodies. bodies.items ≡ bodies_of side lines.now) }
 {
     let mut bodies = Vec::new(alloc);
@@ -38,6 +39,18 @@ pub(crate) fn bodies_at(alloc: Global, side: Side, lines: &[Line]) -> Result<Vec
         add_body(&mut bodies, side, line)?;
     }
     Ok(bodies)
+}
+
+pub(crate) fn bodies_of_both(
+    alloc: Global,
+    lines: &[Line],
+) -> Result<(Vec<Body>, Vec<Body>), AllocError>
+    ensures ours { IfOk result (λ both. both.0.items ≡ bodies_of I lines.now) }
+    ensures theirs { IfOk result (λ both. both.1.items ≡ bodies_of M lines.now) }
+{
+    let ours = bodies_at(alloc, Side::I, lines)?;
+    let theirs = bodies_at(alloc, Side::M, lines)?;
+    Ok((ours, theirs))
 }
 
 fn given(
@@ -106,7 +119,43 @@ fn wanted(fault: &Option<OfficeFault>) -> bool
     }
 }
 
-/// The receipts of each session come back the last one first, so that `next_word` pops them in order.
+/// The receipts come back the last one first, so that `next_word` pops them in order.
+fn taken_apart<L: Ledger>(served: Served<L>) -> (Seat<L>, Vec<Receipt>, bool)
+    ensures seat { result.0 ≡ seat_in served }
+    ensures receipts { in_order result.1 ≡ receipts_in served }
+    ensures short { result.2 ≡ is_short served.fault }
+{
+    let (seat, mut receipts, fault) = served.into_parts();
+    receipts.reverse();
+    (seat, receipts, wanted(&fault))
+}
+
+/// And whether a session ended for want of memory.
+fn all_apart<L: Ledger>(
+    served: Vec<Served<L>>,
+    seats: Vec<Seat<L>>,
+    receipts: Vec<Vec<Receipt>>,
+) -> (Vec<Seat<L>>, Vec<Vec<Receipt>>, bool)
+    requires none { seats.items ≡ [] }
+    requires room { length served.items ≤ vec_capacity seats }
+    requires none_yet { receipts.items ≡ [] }
+    requires receipts { length served.items ≤ vec_capacity receipts }
+    ensures seats { result.0.items ≡ map seat_in served.items }
+    ensures receipts { map in_order result.1.items ≡ map receipts_in served.items }
+    ensures short { result.2 ≡ short_of false served.items }
+{
+    let mut seats = seats;
+    let mut receipts = receipts;
+    let mut wants = false;
+    for one in served {
+        let (seat, given, short) = taken_apart(one);
+        seats.push_reserved(seat);
+        receipts.push_reserved(given);
+        wants = wants || short;
+    }
+    (seats, receipts, wants)
+}
+
 fn ended<L: Ledger>(
     served: Vec<Served<L>>,
     seats: Vec<Seat<L>>,
@@ -121,16 +170,7 @@ fn ended<L: Ledger>(
     ensures memory { OnOk result (short_of false served.items ≡ false) }
     ensures short { OnErr result (short_of false served.items ≡ true) }
 {
-    let mut seats = seats;
-    let mut receipts = receipts;
-    let mut wants = false;
-    for one in served {
-        let (seat, mut given, fault) = one.into_parts();
-        wants = wants || wanted(&fault);
-        given.reverse();
-        seats.push_reserved(seat);
-        receipts.push_reserved(given);
-    }
+    let (seats, receipts, wants) = all_apart(served, seats, receipts);
     if wants {
         return Err(AllocError);
     }
@@ -204,6 +244,66 @@ fn serve_all<R: Role + Send, L: Ledger + Send, T: Threads + Wait + Sync>(
     }
 }
 
+/// Each session submits what it is dealt.
+fn dealt_and_served<R: Role + Send, L: Ledger + Send, T: Threads + Wait + Sync>(
+    rt: &T,
+    alloc: Global,
+    office: &Office<R, L>,
+    waker: &Waker,
+    sessions: u8,
+    seats: Vec<Seat<L>>,
+    numbers: &[u8],
+    bodies: &[Body],
+) -> Result<(Vec<Seat<L>>, Vec<Vec<Receipt>>), AllocError>
+    requires named { waker.now ≡ R.SIDE }
+    requires seats { length seats.items ≡ sessions }
+    requires numbers { length numbers.now ≡ length bodies.now }
+    ensures places { IfOk result (λ served. AreSamePlaces seats.items served.0.items) }
+    ensures count { IfOk result (λ served. length served.1.items ≡ sessions) }
+    ensures done { IfOk result (λ served. SessionsSubmit R.SIDE (dealt_to_all sessions numbers.now bodies.now) seats.items (map in_order served.1.items) served.0.items) }
+{
+    let dealt = dealt_to(alloc, sessions, numbers, bodies)?;
+    let rooms = rooms_for(alloc, seats.len())?;
+    serve_all(rt, office, waker, seats, dealt, rooms)
+}
+
+/// Each body has the next word of its own session.
+fn told<L: Ledger>(
+    alloc: Global,
+    numbers: &[u8],
+    served: (Vec<Seat<L>>, Vec<Vec<Receipt>>),
+) -> Result<(Vec<Seat<L>>, Vec<Word>), AllocError>
+    requires { All (IsNumber (length served.1.items)) numbers.now }
+    ensures seats { IfOk result (λ told. told.0 ≡ served.0) }
+    ensures words { IfOk result (λ told. AreWords numbers.now (map in_order served.1.items) told.1.items) }
+{
+    let (seats, receipts) = served;
+    let words = words_of(alloc, numbers, receipts)?;
+    Ok((seats, words))
+}
+
+/// Each session submits the bodies beside its number.
+fn numbered<R: Role + Send, L: Ledger + Send, T: Threads + Wait + Sync>(
+    rt: &T,
+    alloc: Global,
+    office: &Office<R, L>,
+    waker: &Waker,
+    sessions: u8,
+    seats: Vec<Seat<L>>,
+    numbers: &[u8],
+    bodies: &[Body],
+) -> Result<(Vec<Seat<L>>, Vec<Word>), AllocError>
+    requires named { waker.now ≡ R.SIDE }
+    requires seats { length seats.items ≡ sessions }
+    requires numbers { numbers.now ≡ sessions_for sessions bodies.now }
+    requires each { All (IsNumber sessions) numbers.now }
+    ensures places { IfOk result (λ submitted. AreSamePlaces seats.items submitted.0.items) }
+    ensures all { IfOk result (λ submitted. SessionsMake R.SIDE sessions bodies.now seats.items submitted.1.items submitted.0.items) }
+{
+    let served = dealt_and_served(rt, alloc, office, waker, sessions, seats, numbers, bodies)?;
+    told(alloc, numbers, served)
+}
+
 /// The waker is dropped when the sessions are done, which ends the loop that waits for notices.
 #[tactic(auto, using(crate::proofs::Dealing::sessions_make))]
 pub(crate) fn submitted<R: Role + Send, L: Ledger + Send, T: Threads + Wait + Sync>(
@@ -223,9 +323,7 @@ pub(crate) fn submitted<R: Role + Send, L: Ledger + Send, T: Threads + Wait + Sy
     ensures all { IfOk result (λ submitted. SessionsMake R.SIDE sessions bodies.items seats.items submitted.1.items submitted.0.items) }
 {
     let numbers = sessions_of(alloc, sessions, &bodies)?;
-    let dealt = dealt_to(alloc, sessions, &numbers, &bodies)?;
-    let rooms = rooms_for(alloc, seats.len())?;
-    let (seats, receipts) = serve_all(rt, office, &waker, seats, dealt, rooms)?;
-    let words = words_of(alloc, &numbers, receipts)?;
-    Ok((seats, words))
+    numbered(
+        rt, alloc, office, &waker, sessions, seats, &numbers, &bodies,
+    )
 }

@@ -1,6 +1,6 @@
 //! Both offices under way, and what a line or a batch of a script makes of them.
 
-ghost use Rattle.std.specs.Prelude.{◌≡◌, ◌≤◌, ◌<◌, ◌+◌, IfErr, IfOk, Err, IsOk, OnOk, false, length, string_bytes};
+ghost use Rattle.std.specs.Prelude.{◌≡◌, ◌≤◌, ◌<◌, ◌+◌, IfErr, IfOk, Err, OnOk, false, length, string_bytes};
 ghost use Rattle.gi_pairs.specs.declared.side.Side.TheVariants.{I, M};
 ghost use Rattle.gi_serving.specs.Asking.{Sends};
 ghost use Rattle.gi_serving.specs.Closing.{IsClosed};
@@ -10,12 +10,13 @@ ghost use Rattle.gi_serving.specs.Runs.{side_in};
 ghost use Rattle.gi_serving.specs.Submitting.{SubmitsBatch};
 
 use crate::at_once::at_once;
-use crate::batch::bodies_at;
+use crate::batch::bodies_of_both;
 use crate::closing::{Closed, close_both};
+use crate::paired::both_of;
 use crate::running::Running;
 use crate::serve_fault::ServeFault;
 use crate::station::Station;
-use crate::telling::{add_line, batch_text};
+use crate::telling::batch_text;
 use crate::word::Word;
 use gi_desk::Body;
 use gi_initiator::Initiating;
@@ -52,19 +53,6 @@ fn side_of(instruction: &Instruction) -> Side
         Instruction::Plan { side, .. } => *side,
         Instruction::Carry { side } => *side,
     }
-}
-
-fn both_of<A: Drop, B: Drop>(
-    ours: Result<A, AllocError>,
-    theirs: Result<B, AllocError>,
-) -> Result<(A, B), AllocError>
-    ensures ours { IfOk result (λ both. IfOk ours (λ one. both.0 ≡ one)) }
-    ensures theirs { IfOk result (λ both. IfOk theirs (λ one. both.1 ≡ one)) }
-    ensures done { OnOk result (IsOk ours × IsOk theirs) }
-{
-    let ours = ours?;
-    let theirs = theirs?;
-    Ok((ours, theirs))
 }
 
 fn put<A: Drop>(place: &mut A, value: A)
@@ -116,16 +104,14 @@ impl<L: Ledger, K: Ledger, S: Alter + Drop> Both<L, K, S> {
             (offices_of self.old.initiating self.old.matching) (string_bytes text) (offices_of self.new.initiating self.new.matching)) }
         ensures cut { IfErr result (λ fault. IsCut (Err fault)) }
     {
-        let side = side_of(&line.instruction);
-        let word = match side {
-            Side::I => self.initiating.make(rt, &line.instruction)?,
-            Side::M => self.matching.make(rt, &line.instruction)?,
+        let said = match side_of(&line.instruction) {
+            Side::I => self.initiating.line(rt, line),
+            Side::M => self.matching.line(rt, line),
         };
-        let mut text = String::new(self.alloc);
-        if let Some(word) = word {
-            add_line(self.alloc, &mut text, line.number, side, word)?;
+        match said {
+            Ok(text) => Ok(text),
+            Err(_) => Err(ServeFault::OutOfMemory),
         }
-        Ok(text)
     }
 
     fn send(&mut self) -> Result<(), AllocError>
@@ -137,10 +123,8 @@ impl<L: Ledger, K: Ledger, S: Alter + Drop> Both<L, K, S> {
         ensures orders { OnOk result (Sends self.old.initiating.sent self.old.initiating.seats.items self.new.initiating.sent self.old.matching.way self.new.matching.way) }
         ensures answers { OnOk result (Sends self.old.matching.sent self.old.matching.seats.items self.new.matching.sent self.old.initiating.way self.new.initiating.way) }
     {
-        let orders = self.initiating.let_out()?;
-        self.matching.way.send_packets(orders)?;
-        let answers = self.matching.let_out()?;
-        self.initiating.way.send_packets(answers)
+        self.initiating.send(&mut self.matching.way)?;
+        self.matching.send(&mut self.initiating.way)
     }
 
     #[tactic(auto, using(crate::proofs::Places::still_some))]
@@ -237,9 +221,11 @@ impl<L: Ledger + Send + Sync, K: Ledger + Send + Sync, S: Alter + Drop + Send> B
             (offices_of self.old.initiating self.old.matching) (string_bytes text) (offices_of self.new.initiating self.new.matching)) }
         ensures cut { IfErr result (λ fault. IsCut (Err fault)) }
     {
-        let bodies = bodies_at(self.alloc, Side::I, lines)?;
-        let peer_bodies = bodies_at(self.alloc, Side::M, lines)?;
+        let (bodies, peer_bodies) = bodies_of_both(self.alloc, lines)?;
         let (words, peer_words) = self.submit(rt, bodies, peer_bodies)?;
-        Ok(batch_text(self.alloc, lines, words, peer_words)?)
+        match batch_text(self.alloc, lines, words, peer_words) {
+            Ok(text) => Ok(text),
+            Err(_) => Err(ServeFault::OutOfMemory),
+        }
     }
 }

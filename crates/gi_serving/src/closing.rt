@@ -117,6 +117,16 @@ fn last_lines(
     }
 }
 
+fn last_lines_of(
+    alloc: Global,
+    initiating: Result<Settled<Initiating>, Unsettled>,
+    matching: Result<Settled<Matching>, Unsettled>,
+) -> Result<Closed, AllocError>
+    ensures { IfOk result (λ closed. AreLastLines initiating matching (string_bytes closed.text) closed.end) }
+{
+    last_lines(alloc, &initiating, &matching)
+}
+
 /// Hands all seats back to both offices and sets these against each other. The lines say how many facts
 /// each desk is left with, whether each office settled, and whether the two are reconciled; where one did
 /// not settle its count and the last line are missing. Only memory is refused.
@@ -131,5 +141,5 @@ pub fn close_both<L: Ledger, K: Ledger>(
 {
     let initiating = initiating.settle(seats);
     let matching = matching.settle(peer_seats);
-    last_lines(alloc, &initiating, &matching)
+    last_lines_of(alloc, initiating, matching)
 }

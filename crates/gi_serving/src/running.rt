@@ -1,25 +1,30 @@
 //! One office under way: its book, its seats, and the way to it.
 
-ghost use Rattle.std.specs.Prelude.{◌≡◌, ◌<◌, ◌+◌, ◌++◌, IfErr, IfOk, OnOk, false, is_some, length, true};
+ghost use Rattle.std.specs.Prelude.{◌≡◌, ◌<◌, ◌+◌, ◌++◌, IfErr, IfOk, OnOk, false, is_some, length, string_bytes, None, true};
+ghost use Rattle.std.specs.Option.{option_map};
 ghost use Rattle.gi_carrier.specs.Carrier.{given};
+ghost use Rattle.gi_carrier.specs.Kept.{bytes_of};
 ghost use Rattle.gi_office.specs.Opening.{new_seats};
 ghost use Rattle.gi_simulation.specs.Simulation.{moved_on, new_link};
-ghost use Rattle.gi_serving.specs.Asking.{Answers, AsksLast, Carries, LetsOut, MakesSeats, MarksLast, NotesMarks, out_behind, saved_of, way_after};
+ghost use Rattle.gi_serving.specs.Asking.{Answers, AsksLast, Carries, LetsOut, MakesAt, MakesSeats, MarksLast, NotesMarks, Sends, out_behind, saved_of, way_after};
 ghost use Rattle.gi_serving.specs.Ending.{AreSamePlaces, IsTurnFault, place_of};
-ghost use Rattle.gi_serving.specs.Runs.{is_made, is_told};
+ghost use Rattle.gi_serving.specs.Making.{state_of};
+ghost use Rattle.gi_serving.specs.Runs.{is_made, is_told, side_in};
 ghost use Rattle.gi_serving.specs.Words.{word_in};
 
 use crate::station::Station;
+use crate::telling::told_text;
 use crate::word::Word;
-use gi_desk::{Body, Call, Packet, Role};
+use gi_carrier::Plan;
+use gi_desk::{Body, Call, Desk, Packet, Role};
 use gi_office::{Note, Office, OfficeFault, Receipt, SaveFault, Seat, Turn};
-use gi_script::Instruction;
+use gi_script::{Instruction, Line};
 use gi_simulation::Link;
 use gi_store::BookStore;
 use sqlite::Alter;
 use std::alloc::{AllocError, Global};
 use std::sync::Wait;
-use std::sync::ledger::Ledger;
+use std::sync::ledger::{Blank, Ledger};
 
 #[derive(Drop)]
 pub(crate) struct Running<R: Role, L: Ledger, S: Alter + Drop> {
@@ -143,6 +148,50 @@ fn out_since(alloc: Global, notes: &[Note], sent: usize) -> Result<Vec<Packet>, 
     Ok(packets)
 }
 
+/// With so many sessions, and the main seat.
+fn opened<R: Role, L: Ledger>(
+    alloc: Global,
+    blank: Blank,
+    desk: Desk<R>,
+    sessions: u8,
+) -> Result<(Office<R, L>, Vec<Seat<L>>), AllocError>
+    requires name { blank.name ≡ L.name }
+    requires whole { blank.parts ≡ L.parts }
+    requires parts { blank.parts ≡ 16 }
+    requires few { sessions < 16 }
+    requires saved { desk.saved ≡ length desk.facts }
+    requires runs { desk.halted ≡ false }
+    ensures office { IfOk result (λ opened. opened.0.seats ≡ sessions + 1) }
+    ensures seats { IfOk result (λ opened. opened.1.items ≡ new_seats (sessions + 1)) }
+{
+    match Office::new(alloc, blank, desk, sessions as usize + 1) {
+        Ok(opened) => Ok(opened),
+        Err(_) => Err(AllocError),
+    }
+}
+
+fn just_opened<R: Role, L: Ledger, S: Alter + Drop>(
+    alloc: Global,
+    office: Office<R, L>,
+    book: BookStore<S>,
+    seats: Vec<Seat<L>>,
+    way: Link,
+) -> Running<R, L, S>
+    ensures office { result.office ≡ office }
+    ensures seats { result.seats ≡ seats }
+    ensures sent { result.sent ≡ 0 }
+    ensures way { result.way ≡ way }
+{
+    Running {
+        alloc,
+        office,
+        book,
+        seats,
+        sent: 0,
+        way,
+    }
+}
+
 impl<R: Role, L: Ledger, S: Alter + Drop> Running<R, L, S> {
     pub(crate) fn open(station: Station<R, S>, sessions: u8) -> Result<Running<R, L, S>, AllocError>
         requires name { station.blank.name ≡ L.name }
@@ -156,23 +205,16 @@ impl<R: Role, L: Ledger, S: Alter + Drop> Running<R, L, S> {
         ensures sent { IfOk result (λ running. running.sent ≡ 0) }
         ensures way { IfOk result (λ running. running.way ≡ new_link) }
     {
+        let way = Link::new(station.alloc)?;
         let Station {
             alloc,
             blank,
             desk,
             book,
         } = station;
-        let way = Link::new(alloc)?;
-        match Office::<R, L>::new(alloc, blank, desk, sessions as usize + 1) {
-            Ok((office, seats)) => Ok(Running {
-                alloc,
-                office,
-                book,
-                seats,
-                sent: 0,
-                way,
-            }),
-            Err(_) => Err(AllocError),
+        match opened(alloc, blank, desk, sessions) {
+            Ok((office, seats)) => Ok(just_opened(alloc, office, book, seats, way)),
+            Err(refused) => Err(refused),
         }
     }
 
@@ -192,6 +234,50 @@ impl<R: Role, L: Ledger, S: Alter + Drop> Running<R, L, S> {
         word_of(answer)
     }
 
+    fn ask_copy<W: Wait>(&mut self, rt: &W, call: &Call) -> Result<Option<Word>, AllocError>
+        requires { 0 < length self.old.seats.items }
+        ensures office { self.new.office ≡ self.old.office }
+        ensures seats { AreSamePlaces self.old.seats.items self.new.seats.items }
+        ensures sent { self.new.sent ≡ self.old.sent }
+        ensures way { self.new.way ≡ self.old.way }
+        ensures told { IfOk result (λ word. is_some word ≡ is_made call.now) }
+        ensures asked { IfOk result (λ word. AsksLast R.SIDE self.old.seats.items call.now word self.new.seats.items) }
+    {
+        let call = call.copy()?;
+        self.ask(rt, call)
+    }
+
+    fn set(&mut self, plan: &Plan) -> Result<Option<Word>, AllocError>
+        ensures office { self.new.office ≡ self.old.office }
+        ensures seats { self.new.seats ≡ self.old.seats }
+        ensures sent { self.new.sent ≡ self.old.sent }
+        ensures way { OnOk result (self.new.way ≡ record { carrier = self.old.way.carrier; plan = plan.now }) }
+        ensures told { IfOk result (λ word. word ≡ None) }
+    {
+        self.way.set(plan)?;
+        Ok(None)
+    }
+
+    /// Where the carrier gave nothing, none is delivered.
+    fn deliver<W: Wait>(
+        &mut self,
+        rt: &W,
+        message: Option<Vec<u8>>,
+    ) -> Result<Option<Word>, AllocError>
+        requires { 0 < length self.old.seats.items }
+        ensures office { self.new.office ≡ self.old.office }
+        ensures seats { AreSamePlaces self.old.seats.items self.new.seats.items }
+        ensures sent { self.new.sent ≡ self.old.sent }
+        ensures way { self.new.way ≡ self.old.way }
+        ensures told { IfOk result (λ word. is_some word ≡ true) }
+        ensures carried { IfOk result (λ word. Carries R.SIDE (option_map bytes_of message) self.old.seats.items word self.new.seats.items) }
+    {
+        match message {
+            Some(message) => self.ask(rt, Call::Deliver(Body::from(message))),
+            None => Ok(Some(Word::Nothing)),
+        }
+    }
+
     fn carry<W: Wait>(&mut self, rt: &W) -> Result<Option<Word>, AllocError>
         requires { 0 < length self.old.seats.items }
         ensures office { self.new.office ≡ self.old.office }
@@ -201,13 +287,11 @@ impl<R: Role, L: Ledger, S: Alter + Drop> Running<R, L, S> {
         ensures told { IfOk result (λ word. is_some word ≡ true) }
         ensures carried { IfOk result (λ word. Carries R.SIDE (given self.old.way.plan self.old.way.carrier) self.old.seats.items word self.new.seats.items) }
     {
-        match self.way.next()? {
-            Some(message) => self.ask(rt, Call::Deliver(Body::from(message))),
-            None => Ok(Some(Word::Nothing)),
-        }
+        let message = self.way.next()?;
+        self.deliver(rt, message)
     }
 
-    pub(crate) fn make<W: Wait>(
+    fn make<W: Wait>(
         &mut self,
         rt: &W,
         instruction: &Instruction,
@@ -221,14 +305,23 @@ impl<R: Role, L: Ledger, S: Alter + Drop> Running<R, L, S> {
         ensures made { IfOk result (λ word. MakesSeats R.SIDE instruction.now self.old.way self.old.seats.items word self.new.seats.items) }
     {
         match instruction {
-            Instruction::Call { side: _, call } => self.ask(rt, call.copy()?),
+            Instruction::Call { side: _, call } => self.ask_copy(rt, call),
             Instruction::Carry { side: _ } => self.carry(rt),
-            Instruction::Plan { side: _, plan } => {
-                self.way.set(plan)?;
-                Ok(None)
-            }
+            Instruction::Plan { side: _, plan } => self.set(plan),
             _ => Ok(None),
         }
+    }
+
+    /// The text of what comes of the line, which is for this side.
+    pub(crate) fn line<W: Wait>(&mut self, rt: &W, line: &Line) -> Result<String, AllocError>
+        requires some { 0 < length self.old.seats.items }
+        requires side { side_in line.now.instruction ≡ R.SIDE }
+        ensures office { self.new.office ≡ self.old.office }
+        ensures seats { AreSamePlaces self.old.seats.items self.new.seats.items }
+        ensures made { IfOk result (λ text. MakesAt R.SIDE line.now (state_of self.old) (string_bytes text) (state_of self.new)) }
+    {
+        let word = self.make(rt, &line.instruction)?;
+        told_text(self.alloc, line.number, R::SIDE, word)
     }
 
     #[tactic(auto, using(crate::proofs::Places::put_back, crate::proofs::Turning::last_marks))]
@@ -247,7 +340,7 @@ impl<R: Role, L: Ledger, S: Alter + Drop> Running<R, L, S> {
         saved
     }
 
-    pub(crate) fn let_out(&mut self) -> Result<Vec<Packet>, AllocError>
+    fn let_out(&mut self) -> Result<Vec<Packet>, AllocError>
         requires { 0 < length self.old.seats.items }
         ensures office { self.new.office ≡ self.old.office }
         ensures seats { self.new.seats ≡ self.old.seats }
@@ -258,6 +351,18 @@ impl<R: Role, L: Ledger, S: Alter + Drop> Running<R, L, S> {
         let packets = out_since(self.alloc, notes, self.sent)?;
         self.sent = notes.len();
         Ok(packets)
+    }
+
+    /// Over the way to the other office.
+    pub(crate) fn send(&mut self, way: &mut Link) -> Result<(), AllocError>
+        requires { 0 < length self.old.seats.items }
+        ensures office { self.new.office ≡ self.old.office }
+        ensures seats { self.new.seats ≡ self.old.seats }
+        ensures way { self.new.way ≡ self.old.way }
+        ensures sent { OnOk result (Sends self.old.sent self.old.seats.items self.new.sent way.old way.new) }
+    {
+        let packets = self.let_out()?;
+        way.send_packets(packets)
     }
 
     pub(crate) fn into_parts(self) -> (Office<R, L>, Vec<Seat<L>>)

@@ -10,7 +10,7 @@ use gi_pairs::Side;
 use gi_script::Line;
 use std::alloc::{AllocError, Global};
 
-pub(crate) fn add_line(
+fn add_line(
     alloc: Global,
     text: &mut String,
     number: u64,
@@ -37,6 +37,19 @@ fn add_told(
         Some(word) => add_line(alloc, text, number, side, word),
         None => Ok(()),
     }
+}
+
+pub(crate) fn told_text(
+    alloc: Global,
+    number: u64,
+    side: Side,
+    word: Option<Word>,
+) -> Result<String, AllocError>
+    ensures { IfOk result (λ text. string_bytes text ≡ told_of number side word) }
+{
+    let mut text = String::new(alloc);
+    add_told(alloc, &mut text, number, side, word)?;
+    Ok(text)
 }
 
 pub(crate) fn batch_text(

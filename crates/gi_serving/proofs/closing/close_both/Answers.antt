@@ -26,4 +26,4 @@ pub returns : goal.returns
 returns g c =
     of_both g.L.Ledger.parts c.args.initiating.seats c.args.seats.items g.K.Ledger.parts c.args.matching.seats c.args.peer_seats.items
     c.settle-initiating.result c.settle-matching.result c.settle-initiating.ensures c.settle-matching.ensures
-    c.last_lines.result c.last_lines.ensures
+    c.last_lines_of.result c.last_lines_of.ensures

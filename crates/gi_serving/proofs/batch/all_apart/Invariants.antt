@@ -1,7 +1,7 @@
 use Rattle.std.proofs.Common.{false, ◌≡◌, ◌≤◌, ◌+◌, ◌++◌, length, map, vec_capacity}
 use Rattle.std.specs.Vec.Iter.{into_iter_items, into_iter_len}
 use Rattle.gi_serving.specs.Submitting.{in_order, receipts_in, seat_in, short_of}
-use Rattle.gi_serving.proofs.batch.ended.Given as goal
+use Rattle.gi_serving.proofs.batch.all_apart.Given as goal
 
 abbrev pub invariant-loop-one : goal.invariant-loop-one
 invariant-loop-one g l = record {
