@@ -3,8 +3,8 @@
 use super::calls::{call_of, contract_of};
 use super::texts::add_reply;
 use gi_calls::{Answer, Fault, Words};
-use gi_desk::{Call, Desk, Packet, Reply, Role};
-use gi_pairs::Code;
+use gi_desk::{Call, Desk, Packet, Refusal, Reply, Role, StageName};
+use gi_pairs::{Code, CycleId};
 use std::alloc::{AllocError, Global};
 
 /// Whether two packets are the same.
@@ -36,6 +36,59 @@ fn step<R: Role>(desk: &mut Desk<R>, call: &Call, text: &mut Answer) -> Result<R
         text.add("foreseen otherwise\n");
     }
     Ok(reply)
+}
+
+/// What a call must leave where memory is refused.
+#[derive(Clone, Copy, PartialEq, Eq)]
+struct Front {
+    len: u32,
+    saved: u32,
+    halted: bool,
+    state: StageName,
+    is_confirmed: bool,
+}
+
+fn front_of<R: Role>(desk: &Desk<R>, id: &CycleId) -> Front {
+    Front {
+        len: desk.len(),
+        saved: desk.saved(),
+        halted: desk.halted(),
+        state: desk.state(*id),
+        is_confirmed: desk.confirmed(*id).is_some(),
+    }
+}
+
+/// What the call is answered, which is made again where memory is refused. A line of the text tells
+/// where the refused call let something out, or changed the desk or the cycle.
+fn made_again<R: Role>(desk: &mut Desk<R>, id: &CycleId, call: &Call, text: &mut Answer) -> Reply {
+    let before = front_of(desk, id);
+    let reply = desk.step(call);
+    if reply.answer != gi_desk::Answer::Refused(Refusal::OutOfMemory) {
+        return reply;
+    }
+    if !reply.out.as_slice().is_empty() || front_of(desk, id) != before {
+        text.add("left something\n");
+    }
+    desk.step(call)
+}
+
+/// Makes the call that stands behind a cycle, again where memory is refused.
+fn again<R: Role>(
+    alloc: Global,
+    desk: &mut Desk<R>,
+    words: Words<'_>,
+    text: &mut Answer,
+) -> Result<bool, Fault> {
+    let mut words = words;
+    let Some(id) = words.cycle() else {
+        return Ok(false);
+    };
+    let Some(call) = call_of(alloc, desk, words.rest())? else {
+        return Ok(false);
+    };
+    let reply = made_again(desk, &id, &call, text);
+    add_reply(&reply, text);
+    Ok(true)
 }
 
 /// The numbered portfolio: `P4`.
@@ -85,8 +138,10 @@ pub(crate) fn stepped<R: Role>(
 ) -> Result<bool, Fault> {
     let mut words = Words::of(line);
     let word = words.next();
-    if word == "contracts" {
-        return contracts(alloc, desk, words, text);
+    match word {
+        "again" => return again(alloc, desk, words, text),
+        "contracts" => return contracts(alloc, desk, words, text),
+        _ => {}
     }
     let foresees = word == "foresee";
     let line = if foresees { words.rest() } else { line };
