@@ -94,7 +94,7 @@ impl Answer {
     }
 
     /// The text, or that there was no memory for all of it.
-    pub(crate) fn into_text(self) -> Result<String, Fault> {
+    pub fn into_text(self) -> Result<String, Fault> {
         if !self.is_whole {
             return Err(Fault::OutOfMemory);
         }

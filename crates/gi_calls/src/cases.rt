@@ -8,26 +8,35 @@ fn is_call(line: &str) -> bool {
     !line.is_empty() && !line.starts_with('#') && !line.starts_with("= ")
 }
 
-/// Adds a line of cases, and the answer to a call. An answer that stands in the file is left out.
+/// Adds a line of cases, and tells whether it is a call. An answer that stands in the file is left out.
+pub fn add_case(line: &str, text: &mut Answer) -> bool {
+    if !line.starts_with("= ") {
+        text.add(line);
+        text.end_line();
+    }
+    is_call(line)
+}
+
+/// Adds the answer to the call of the last line, or that there is no such call.
+pub fn add_answer(is_made: bool, answer: &mut Answer, text: &mut Answer) {
+    if !is_made {
+        answer.add("no such call");
+    }
+    text.add_lines_of(answer);
+}
+
+/// Adds a line of cases, and the answer to a call.
 fn add_line<S: Subject>(
     rt: &HostRuntime,
     subject: &mut S,
     line: &str,
     text: &mut Answer,
 ) -> Result<(), Fault> {
-    if line.starts_with("= ") {
-        return Ok(());
+    if add_case(line, text) {
+        let mut answer = Answer::new(rt.alloc());
+        let is_made = subject.answer(rt, line, &mut answer)?;
+        add_answer(is_made, &mut answer, text);
     }
-    text.add(line);
-    text.end_line();
-    if !is_call(line) {
-        return Ok(());
-    }
-    let mut answer = Answer::new(rt.alloc());
-    if !subject.answer(rt, line, &mut answer)? {
-        answer.add("no such call");
-    }
-    text.add_lines_of(&answer);
     Ok(())
 }
 

@@ -9,7 +9,7 @@ mod subject;
 mod words;
 
 pub use answer::Answer;
-pub use cases::answered;
+pub use cases::{add_answer, add_case, answered};
 pub use fault::Fault;
 pub use subject::Subject;
 pub use words::Words;

@@ -11,15 +11,17 @@ use gi_desk_days::DrawnDays;
 use gi_message_cases::{Facts, Messages};
 use gi_office_cases::office_answers;
 use gi_script_cases::{Carriers, Reports, Scripts};
-use gi_table_cases::{Cycles, Days, Tables};
+use gi_table_cases::{Cycles, Days, Tables, walk_answers};
 use gi_world_cases::{Simulations, Worlds};
 use std::env;
 use std::io::{self, Write};
 use std::process::ExitCode;
 use std::sync::Wait;
+use std::thread::Threads;
 
-/// The cases with their answers, of the subject that the word names. Offices may wait.
-fn answers<W: Wait>(
+/// The cases with their answers, of the subject that the word names. Offices may wait, and walks start
+/// threads.
+fn answers<W: Threads + Wait + Sync>(
     rt: &HostRuntime,
     handle: &W,
     subject: &str,
@@ -43,6 +45,7 @@ fn answers<W: Wait>(
         "scripts" => answered(rt, Scripts::new(alloc), cases),
         "simulations" => answered(rt, Simulations::new(alloc), cases),
         "tables" => answered(rt, Tables::new(), cases),
+        "walks" => walk_answers(handle, alloc, cases),
         "worlds" => answered(rt, Worlds::new(alloc), cases),
         _ => Err(Fault::NoSubject),
     }
@@ -58,7 +61,7 @@ fn subject_named(rt: &HostRuntime) -> Result<String, Fault> {
 }
 
 /// Reads the cases and prints them with their answers.
-fn run<W: Wait>(rt: &HostRuntime, handle: &W) -> Result<(), Fault> {
+fn run<W: Threads + Wait + Sync>(rt: &HostRuntime, handle: &W) -> Result<(), Fault> {
     let subject = subject_named(rt)?;
     let cases = io::read_to_string(rt.alloc(), rt.stdin()).map_err(|_| Fault::Read)?;
     let text = answers(rt, handle, subject.as_str(), cases.as_str())?;

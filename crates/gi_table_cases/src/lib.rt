@@ -1,4 +1,4 @@
-//! Gas days, tables and cycles: what the cases about them call.
+//! Gas days, tables, cycles and the walks of the lesser: what the cases about them call.
 #![tactic(auto)]
 
 mod cycles;
@@ -7,7 +7,9 @@ mod order;
 mod sides;
 mod table_text;
 mod tables;
+mod walks;
 
 pub use cycles::Cycles;
 pub use days::Days;
 pub use tables::Tables;
+pub use walks::walk_answers;

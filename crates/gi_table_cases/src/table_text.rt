@@ -41,7 +41,12 @@ pub(crate) fn row_of(alloc: Global, mut words: Words<'_>) -> Result<Option<Row>,
 }
 
 /// A row of `IM` with one quantity in each of so many hours.
-fn like_row(alloc: Global, pair: Pair, quantity: Quantity, hours: u8) -> Result<Row, Fault> {
+pub(crate) fn like_row(
+    alloc: Global,
+    pair: Pair,
+    quantity: Quantity,
+    hours: u8,
+) -> Result<Row, Fault> {
     let mut quantities = Vec::new(alloc);
     for _ in 0..hours {
         quantities.push(quantity)?;
