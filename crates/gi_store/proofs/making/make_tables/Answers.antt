@@ -1,51 +1,35 @@
-use Rattle.std.proofs.Common.{◌≡◌, sym, subst, ◌∙◌, arith, rules}
+use Rattle.std.proofs.Common.{◌≡◌, OnOk, OnErr, subst, rules}
 use Rattle.sqlite.specs.State.{HasCleanDisk, Survives}
 use Rattle.sqlite.specs.Held.{state}
-use Rattle.gi_store.specs.Keeping.{IsMade, MakesBook, MayLeaveBook}
-use Rattle.gi_store.proofs.FirstBook.{are_made, keeps_or_makes}
+use Rattle.gi_store.specs.Keeping.{IsMade, KeepsCommitted, MayLeaveBook}
+use Rattle.gi_store.proofs.FirstBook.{is_written, keeps_or_makes, kept_book, made_book}
 use Rattle.gi_store.proofs.making.make_tables.Goals as goal
 
 pub returns-clause-made : goal.returns-clause-made
-returns-clause-made g c now =
+returns-clause-made g c =
     let old = c.args.connection.now in
-    let last = c.execute-3.new.self.conn.now in
+    let last = c.write_book.new.tx.conn.now in
     let end = c.commit.new.self.0 in
-    let made = are_made g.S.Store old c.transaction-tx.result.conn.now c.execute.new.self.conn.now c.execute-2.new.self.conn.now last
-    c.in_ok-execute.field-0 c.in_ok-execute-2.field-0 c.in_ok-execute-3.field-0 c.transaction-tx.ensures.begun c.requires.free
-    c.execute.ensures.survives c.execute-2.ensures.survives c.execute-3.ensures.survives
-    c.in_ok-execute.ensures.runs c.in_ok-execute-2.ensures.runs c.in_ok-execute-3.ensures.runs in
+    let written = is_written g.S.Store old c.transaction-tx.result.conn.now last c.transaction-tx.ensures.begun c.in_ok-write_book.ensures.made c.write_book.ensures.survives in
     let same : end ≡ c.connection-2-1.given.0 = search rules in
-    let late : HasCleanDisk (state g.S.Store end) = search rules in
-    let clean : HasCleanDisk (state g.S.Store last) = omega (arith, c.commit.ensures.survives.clean) in
-    let done = c.in_ok-commit.ensures.ok late in
-    subst (λ h. IsMade (state g.S.Store old) (state g.S.Store h)) same (record {
-      idle = record { autocommit = done.1.mode; settled = λ _. done.1.now_is ∙ sym done.1.committed_is };
-      is_open = done.1.is_open;
-      made = subst (MakesBook (state g.S.Store old).now) (sym done.1.now_is) (made.book clean);
-    })
+    subst (λ h. HasCleanDisk (state g.S.Store h) → OnOk c.commit.result (IsMade (state g.S.Store old) (state g.S.Store h))) same
+    (made_book g.S.Store old last end c.commit.result written c.commit.ensures.survives c.commit.ensures.ok)
 
 pub returns-clause-crash : goal.returns-clause-crash
 returns-clause-crash g c =
     let old = c.args.connection.now in
-    let last = c.execute-3.new.self.conn.now in
+    let last = c.write_book.new.tx.conn.now in
     let end = c.commit.new.self.0 in
-    let made = are_made g.S.Store old c.transaction-tx.result.conn.now c.execute.new.self.conn.now c.execute-2.new.self.conn.now last
-    c.in_ok-execute.field-0 c.in_ok-execute-2.field-0 c.in_ok-execute-3.field-0 c.transaction-tx.ensures.begun c.requires.free
-    c.execute.ensures.survives c.execute-2.ensures.survives c.execute-3.ensures.survives
-    c.in_ok-execute.ensures.runs c.in_ok-execute-2.ensures.runs c.in_ok-execute-3.ensures.runs in
+    let written = is_written g.S.Store old c.transaction-tx.result.conn.now last c.transaction-tx.ensures.begun c.in_ok-write_book.ensures.made c.write_book.ensures.survives in
     let same : end ≡ c.connection-2-1.given.0 = search rules in
     (subst (λ h. Survives (state g.S.Store old) (state g.S.Store h) (MayLeaveBook (state g.S.Store old).now)) same
-    (keeps_or_makes g.S.Store old last end made c.commit.ensures.survives)).crash
+    (keeps_or_makes g.S.Store old last end written c.commit.ensures.survives)).crash
 
-pub returns-in_err-commit-clause-crash : goal.returns-in_err-commit-clause-crash
-returns-in_err-commit-clause-crash g c =
+pub returns-clause-kept : goal.returns-clause-kept
+returns-clause-kept g c =
     let old = c.args.connection.now in
-    let last = c.execute-3.new.self.conn.now in
+    let last = c.write_book.new.tx.conn.now in
     let end = c.commit.new.self.0 in
-    let made = are_made g.S.Store old c.transaction-tx.result.conn.now c.execute.new.self.conn.now c.execute-2.new.self.conn.now last
-    c.in_ok-execute.field-0 c.in_ok-execute-2.field-0 c.in_ok-execute-3.field-0 c.transaction-tx.ensures.begun c.requires.free
-    c.execute.ensures.survives c.execute-2.ensures.survives c.execute-3.ensures.survives
-    c.in_ok-execute.ensures.runs c.in_ok-execute-2.ensures.runs c.in_ok-execute-3.ensures.runs in
     let same : end ≡ c.connection-2-1.given.0 = search rules in
-    (subst (λ h. Survives (state g.S.Store old) (state g.S.Store h) (MayLeaveBook (state g.S.Store old).now)) same
-    (keeps_or_makes g.S.Store old last end made c.commit.ensures.survives)).crash
+    subst (λ h. HasCleanDisk (state g.S.Store h) → OnErr c.commit.result (KeepsCommitted (state g.S.Store old) (state g.S.Store h))) same
+    (kept_book g.S.Store old c.transaction-tx.result.conn.now last end c.commit.result c.transaction-tx.ensures.begun c.in_ok-write_book.ensures.made c.write_book.ensures.kept c.commit.ensures.survives c.commit.ensures.err)
