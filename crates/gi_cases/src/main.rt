@@ -16,12 +16,13 @@ use gi_world_cases::{Simulations, Worlds};
 use std::env;
 use std::io::{self, Write};
 use std::process::ExitCode;
+use std::rt::Clock;
 use std::sync::Wait;
 use std::thread::Threads;
 
-/// The cases with their answers, of the subject that the word names. Offices may wait, and walks start
-/// threads.
-fn answers<W: Threads + Wait + Sync>(
+/// The cases with their answers, of the subject that the word names. Offices may wait and start threads,
+/// and so may walks.
+fn answers<W: Threads + Wait + Clock + Sync>(
     rt: &HostRuntime,
     handle: &W,
     subject: &str,
@@ -38,7 +39,7 @@ fn answers<W: Threads + Wait + Sync>(
         "facts" => answered(rt, Facts::new(), cases),
         "messages" => answered(rt, Messages::new(), cases),
         "nominations" => answered(rt, Repeated::of(Nominations::new()), cases),
-        "offices" => office_answers(rt, handle, cases),
+        "offices" => office_answers(handle, alloc, cases),
         "processing" => answered(rt, Repeated::of(Processing::new()), cases),
         "reports" => answered(rt, Reports::new(alloc), cases),
         "roles" => answered(rt, Roles::new(), cases),
@@ -61,7 +62,7 @@ fn subject_named(rt: &HostRuntime) -> Result<String, Fault> {
 }
 
 /// Reads the cases and prints them with their answers.
-fn run<W: Threads + Wait + Sync>(rt: &HostRuntime, handle: &W) -> Result<(), Fault> {
+fn run<W: Threads + Wait + Clock + Sync>(rt: &HostRuntime, handle: &W) -> Result<(), Fault> {
     let subject = subject_named(rt)?;
     let cases = io::read_to_string(rt.alloc(), rt.stdin()).map_err(|_| Fault::Read)?;
     let text = answers(rt, handle, subject.as_str(), cases.as_str())?;

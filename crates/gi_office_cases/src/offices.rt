@@ -1,9 +1,11 @@
 //! The offices of a file of cases: `I` and `later` are of the initiating side, `M` is of the matching
-//! side.
+//! side. Several threads call `I` alone.
 
 ghost use Rattle.std.specs.Prelude.{◌≡◌};
 
 mod calls;
+mod documents;
+mod gates;
 mod opened;
 mod opening;
 mod saving;
@@ -11,13 +13,17 @@ mod seats;
 mod texts;
 
 use crate::offices::opened::Opened;
-use gi_calls::{Answer, Fault, Subject, Words, answered};
+use gi_calls::{Answer, Fault, Words, add_answer, add_case};
 use gi_initiator::Initiating;
 use gi_matcher::Matching;
 use gi_office::{join_lives, reconcile};
+use std::alloc::Global;
 use std::marker::Brand;
+use std::mem::ManuallyDrop;
+use std::rt::Clock;
 use std::sync::Wait;
 use std::sync::ledger::{Blank, Ledger};
+use std::thread::Threads;
 
 /// The calls of the subject `offices`.
 #[derive(Drop)]
@@ -59,13 +65,28 @@ impl<'a, A: Ledger, B: Ledger, C: Ledger, W: Wait> Offices<'a, A, B, C, W> {
     }
 }
 
-impl<'a, A: Ledger, B: Ledger, C: Ledger, W: Wait> Subject for Offices<'a, A, B, C, W> {
-    fn answer(&mut self, rt: &HostRuntime, call: &str, text: &mut Answer) -> Result<bool, Fault> {
-        let alloc = rt.alloc();
+impl<'a, A, B, C, W> Offices<'a, A, B, C, W>
+where
+    A: Ledger + Send + Sync,
+    B: Ledger,
+    C: Ledger,
+    W: Threads + Wait + Clock + Sync,
+{
+    /// Makes a call of `I`, by several threads where its word says so.
+    fn initiating(&mut self, alloc: Global, line: &str, text: &mut Answer) -> Result<bool, Fault> {
+        let handle = self.handle;
+        match self.former.answer_by_threads(handle, alloc, line, text) {
+            Ok(false) => self.former.answer(handle, alloc, line, text),
+            answered => answered,
+        }
+    }
+
+    /// Makes the call of the line and adds its answer. `false` where it is none.
+    fn answer(&mut self, alloc: Global, call: &str, text: &mut Answer) -> Result<bool, Fault> {
         let handle = self.handle;
         let mut words = Words::of(call);
         match words.next() {
-            "I" => self.former.answer(handle, alloc, words.rest(), text),
+            "I" => self.initiating(alloc, words.rest(), text),
             "later" => self.later.answer(handle, alloc, words.rest(), text),
             "M" => self.matching.answer(handle, alloc, words.rest(), text),
             "join_lives" => Ok(self.join_lives(text)),
@@ -73,12 +94,25 @@ impl<'a, A: Ledger, B: Ledger, C: Ledger, W: Wait> Subject for Offices<'a, A, B,
             _ => Ok(false),
         }
     }
+
+    /// The cases with their answers.
+    fn answer_all(&mut self, alloc: Global, cases: &str) -> Result<String, Fault> {
+        let mut text = Answer::new(alloc);
+        for line in cases.lines() {
+            if add_case(line, &mut text) {
+                let mut answer = Answer::new(alloc);
+                let is_made = self.answer(alloc, line, &mut answer)?;
+                add_answer(is_made, &mut answer, &mut text);
+            }
+        }
+        text.into_text()
+    }
 }
 
 /// The cases with their answers, of offices of these ledgers.
-fn answers_of<A: Ledger, B: Ledger, C: Ledger, W: Wait>(
-    rt: &HostRuntime,
+fn answers_of<A: Ledger + Send + Sync, B: Ledger, C: Ledger, W: Threads + Wait + Clock + Sync>(
     handle: &W,
+    alloc: Global,
     former: Blank,
     later: Blank,
     matching: Blank,
@@ -88,23 +122,29 @@ fn answers_of<A: Ledger, B: Ledger, C: Ledger, W: Wait>(
     requires later { (later.name ≡ B.name) × (later.parts ≡ B.parts) × (later.parts ≡ 16) }
     requires matching { (matching.name ≡ C.name) × (matching.parts ≡ C.parts) × (matching.parts ≡ 16) }
 {
-    let alloc = rt.alloc();
     let subject = Offices {
         handle,
         former: Opened::<Initiating, A>::of(alloc, former),
         later: Opened::<Initiating, B>::of(alloc, later),
         matching: Opened::<Matching, C>::of(alloc, matching),
     };
-    answered(rt, subject, cases.as_str())
+    // (kept until the program ends, as `answered` keeps its subject)
+    let mut kept = unsafe { ManuallyDrop::new_unchecked(subject) };
+    let offices = &mut *kept;
+    offices.answer_all(alloc, cases.as_str())
 }
 
 /// The cases with their answers.
-pub fn office_answers<W: Wait>(rt: &HostRuntime, handle: &W, cases: &str) -> Result<String, Fault> {
+pub fn office_answers<W: Threads + Wait + Clock + Sync>(
+    handle: &W,
+    alloc: Global,
+    cases: &str,
+) -> Result<String, Fault> {
     // (the ledgers are picked at a call without a `&str`)
-    let cases = cases.to_string(rt.alloc())?;
+    let cases = cases.to_string(alloc)?;
     answers_of::<Brand, Brand, Brand, W>(
-        rt,
         handle,
+        alloc,
         Blank::new(16),
         Blank::new(16),
         Blank::new(16),

@@ -8,7 +8,7 @@ use std::alloc::{AllocError, Global};
 use std::fmt::Write;
 
 /// The words as a contract.
-fn contract(mut words: Words<'_>) -> Option<Call> {
+pub fn contract(mut words: Words<'_>) -> Option<Call> {
     let (Some(portfolio), Some(day), Some(direction), Some(firm), Some(interruptible)) = (
         words.code(),
         words.day(),

@@ -3,11 +3,14 @@
 
 ghost use Rattle.std.specs.Prelude.{◌≡◌};
 
+mod beside;
+mod sessions;
+
 use super::calls::call_of;
 use super::opening::{Unopened, opened};
 use super::saving::{add_turn, book_call, fact_of, new_book};
 use super::seats::{asked, taken};
-use super::texts::{add_answered, add_entry, add_settled};
+use super::texts::{add_answered, add_entry, add_receipt, add_settled};
 use gi_calls::{Answer, Fault, Words};
 use gi_desk::{Fact, Role};
 use gi_office::{Office, OfficeFault, Receipt, Seat, Settled};
@@ -165,6 +168,14 @@ impl<R: Role, L: Ledger> Opened<R, L> {
         true
     }
 
+    /// Adds the receipts that a seat was given.
+    fn add_receipts(&self, number: u8, text: &mut Answer) -> bool {
+        for receipt in self.receipts.iter().filter(|it| it.seat == number) {
+            add_receipt(receipt, text);
+        }
+        true
+    }
+
     /// How many calls a seat noted.
     fn count_notes(&self, number: u8, text: &mut Answer) -> bool {
         let Some(seat) = self.seats.iter().find(|it| it.number() == number) else {
@@ -219,6 +230,16 @@ impl<R: Role, L: Ledger> Opened<R, L> {
         true
     }
 
+    /// Whether a fact is saved, once it is settled.
+    fn acknowledged(&self, n: u8, text: &mut Answer) -> bool {
+        let Some(settled) = &self.settled else {
+            return false;
+        };
+        let is_saved = settled.desk().acknowledged(u32::from(n));
+        text.show(&is_saved);
+        true
+    }
+
     /// Makes a call whose word a number follows.
     fn numbered<W: Wait>(
         &mut self,
@@ -235,9 +256,11 @@ impl<R: Role, L: Ledger> Opened<R, L> {
         match word {
             "save_turn" => self.save(handle, number, text),
             "wait_saved" => Ok(self.wait(handle, u64::from(number), text)),
+            "receipts" => Ok(self.add_receipts(number, text)),
             "notes" => Ok(self.count_notes(number, text)),
             "lose" => Ok(self.lose(number, text)),
             "entry" => Ok(self.entry(u64::from(number), text)),
+            "acknowledged" => Ok(self.acknowledged(number, text)),
             _ => self.call(handle, alloc, line, text),
         }
     }

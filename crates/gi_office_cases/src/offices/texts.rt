@@ -50,6 +50,11 @@ pub fn add_receipt(receipt: &Receipt, text: &mut Answer) {
     add_reply(&receipt.reply, text)
 }
 
+/// Whether the call of the receipt recorded a fact.
+pub fn is_recorded(receipt: &Receipt) -> bool {
+    matches!(receipt.reply.answer, gi_desk::Answer::Recorded { .. })
+}
+
 /// Adds an entry of the trail: its seat, and the reply.
 pub fn add_entry(entry: &Entry, text: &mut Answer) {
     text.add("seat ");
