@@ -24,6 +24,21 @@ impl Facts {
         Facts { fact: None }
     }
 
+    /// Keeps a fact that was read. The answer is what is written for it.
+    fn keep(
+        &mut self,
+        alloc: Global,
+        form: &str,
+        read: &[u8],
+        fact: Fact,
+        text: &mut Answer,
+    ) -> Result<bool, Fault> {
+        let fact = self.fact.insert(fact);
+        let written = encode_fact(alloc, fact)?;
+        add_written(form, read, &written, text);
+        Ok(true)
+    }
+
     /// Reads a fact and keeps it. The answer is what is written for it, or the fault.
     fn decode(
         &mut self,
@@ -36,20 +51,12 @@ impl Facts {
             return Ok(false);
         };
         match decode_fact(alloc, &bytes) {
-            Ok(fact) => {
-                let fact = self.fact.insert(fact);
-                add_written(form, &bytes, &encode_fact(alloc, fact)?, text);
+            Ok(fact) => self.keep(alloc, form, &bytes, fact, text),
+            Err(fault) => {
+                text.show(&fault);
+                Ok(true)
             }
-            Err(fault) => text.show(&fault),
         }
-        Ok(true)
-    }
-
-    /// Keeps a copy in the place of the fact. The answer is what is written for it.
-    fn keep_copy(&mut self, alloc: Global, copy: Fact, text: &mut Answer) -> Result<bool, Fault> {
-        let fact = self.fact.insert(copy);
-        add_written("", &[], &encode_fact(alloc, fact)?, text);
-        Ok(true)
     }
 
     /// The kind and the fields of the fact.
@@ -67,7 +74,7 @@ impl Facts {
             return Ok(false);
         };
         let copy = fact.copy()?;
-        self.keep_copy(alloc, copy, text)
+        self.keep(alloc, "", &[], copy, text)
     }
 
     /// Copies the nomination of the fact; `none` where it has none.
@@ -77,7 +84,7 @@ impl Facts {
             return Ok(true);
         };
         let copy = nomination.copy()?;
-        self.keep_copy(alloc, Fact::Nominated(copy), text)
+        self.keep(alloc, "", &[], Fact::Nominated(copy), text)
     }
 
     /// Whether the fact is another; `none` where one of them is no fact.

@@ -6,7 +6,7 @@ pub mod shown;
 use crate::json_bytes::{add_written, json_bytes};
 use gi_calls::{Answer, Fault, Subject, Words};
 use gi_messages::parts::{Span, json, span_of};
-use gi_messages::{Lines, Message, decode, encode};
+use gi_messages::{Key, Lines, Message, decode, encode};
 use json::Scratch;
 use lines::{line_of, lines_of};
 use shown::{add_line, add_lines, add_message};
@@ -27,6 +27,21 @@ impl Messages {
         }
     }
 
+    /// Keeps a message that was read. The answer is what is written for it.
+    fn keep(
+        &mut self,
+        alloc: Global,
+        form: &str,
+        read: &[u8],
+        message: Message,
+        text: &mut Answer,
+    ) -> Result<bool, Fault> {
+        let message = self.message.insert(message);
+        let written = encode(alloc, message)?;
+        add_written(form, read, &written, text);
+        Ok(true)
+    }
+
     /// Reads a message and keeps it. The answer is what is written for it, or the fault.
     fn decode(
         &mut self,
@@ -39,13 +54,12 @@ impl Messages {
             return Ok(false);
         };
         match decode(alloc, &bytes) {
-            Ok(message) => {
-                let message = self.message.insert(message);
-                add_written(form, &bytes, &encode(alloc, message)?, text);
+            Ok(message) => self.keep(alloc, form, &bytes, message, text),
+            Err(fault) => {
+                text.show(&fault);
+                Ok(true)
             }
-            Err(fault) => text.show(&fault),
         }
-        Ok(true)
     }
 
     /// The kind and the fields of the message.
@@ -57,13 +71,18 @@ impl Messages {
         true
     }
 
+    /// Keeps lines in the place of those before, which are let go here alone.
+    fn keep_lines(&mut self, lines: Lines, text: &mut Answer) {
+        add_lines(&lines, text);
+        self.lines = Some(lines);
+    }
+
     /// Makes lines of a call's words and keeps them.
     fn from(&mut self, alloc: Global, words: Words, text: &mut Answer) -> Result<bool, Fault> {
         let Some(lines) = lines_of(alloc, words)? else {
             return Ok(false);
         };
-        add_lines(&lines, text);
-        self.lines = Some(lines);
+        self.keep_lines(lines, text);
         Ok(true)
     }
 
@@ -73,8 +92,7 @@ impl Messages {
             return Ok(false);
         };
         let copy = lines.copy()?;
-        add_lines(&copy, text);
-        self.lines = Some(copy);
+        self.keep_lines(copy, text);
         Ok(true)
     }
 
@@ -93,8 +111,7 @@ impl Messages {
             return false;
         };
         let lines = lines.into_vec();
-        let count = lines.len();
-        text.show(&count);
+        text.show(&lines.len());
         text.end_line();
         for line in &lines {
             add_line(line, text);
@@ -112,19 +129,24 @@ fn copy_line(alloc: Global, words: Words, text: &mut Answer) -> Result<bool, Fau
     Ok(true)
 }
 
-/// The hours that an object names, or the first key of the two that is missing or wrong.
-fn span(alloc: Global, words: Words, text: &mut Answer) -> Result<bool, Fault> {
-    let mut scratch = Scratch::new(alloc);
-    let Some(object) = json(alloc, words.rest().as_bytes(), &mut scratch)? else {
-        return Ok(false);
-    };
-    match span_of(&object.root()) {
+/// Adds hours that were read, or the key that is missing or wrong.
+fn add_span(span: Result<Span, Key>, text: &mut Answer) {
+    match span {
         Ok(Span { first, last }) => {
             text.show(&first);
             text.word(&last);
         }
         Err(key) => text.add(key.text()),
     }
+}
+
+/// The hours that an object names, or the first key of the two that is missing or wrong.
+fn span(alloc: Global, words: Words, text: &mut Answer) -> Result<bool, Fault> {
+    let mut scratch = Scratch::new(alloc);
+    let Some(object) = json(alloc, words.rest().as_bytes(), &mut scratch)? else {
+        return Ok(false);
+    };
+    add_span(span_of(&object.root()), text);
     Ok(true)
 }
 

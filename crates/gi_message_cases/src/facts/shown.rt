@@ -3,29 +3,39 @@
 use crate::messages::shown::{add_cycle, add_field, add_nomint, add_table};
 use gi_calls::Answer;
 use gi_facts::Fact;
+use gi_processing::{Contract, Notice};
+
+/// Adds the fields of a contract.
+fn add_contract(contract: &Contract, text: &mut Answer) {
+    add_field("portfolio", &contract.portfolio, text);
+    add_field("day", &contract.day, text);
+    add_field("direction", &contract.direction, text);
+    add_field("firm", &contract.firm.value(), text);
+    add_field("interruptible", &contract.interruptible.value(), text);
+    text.end_line();
+}
+
+/// Adds the fields of a notice.
+fn add_notice(notice: &Notice, text: &mut Answer) {
+    add_field("day", &notice.day, text);
+    add_field("direction", &notice.direction, text);
+    add_field("hours", &notice.first, text);
+    text.word(&notice.last);
+    add_field("firm", &notice.firm, text);
+    add_field("interruptible", &notice.interruptible, text);
+    text.end_line();
+}
 
 /// Adds the kind and the fields of a fact.
 pub(crate) fn add_fact(fact: &Fact, text: &mut Answer) {
     match fact {
         Fact::Contracted(contract) => {
-            let (firm, interruptible) = (contract.firm.value(), contract.interruptible.value());
             text.add("contract");
-            add_field("portfolio", &contract.portfolio, text);
-            add_field("day", &contract.day, text);
-            add_field("direction", &contract.direction, text);
-            add_field("firm", &firm, text);
-            add_field("interruptible", &interruptible, text);
-            text.end_line();
+            add_contract(contract, text);
         }
         Fact::Noticed(notice) => {
             text.add("notice");
-            add_field("day", &notice.day, text);
-            add_field("direction", &notice.direction, text);
-            add_field("hours", &notice.first, text);
-            text.word(&notice.last);
-            add_field("firm", &notice.firm, text);
-            add_field("interruptible", &notice.interruptible, text);
-            text.end_line();
+            add_notice(notice, text);
         }
         Fact::Nominated(nomination) => {
             text.add("nomination");

@@ -2,8 +2,8 @@
 
 use gi_calls::Answer;
 use gi_day::GasDay;
-use gi_messages::{Delres, Line, Lines, Message, Nomint};
-use gi_pairs::{Code, Hours, Table};
+use gi_messages::{Acknow, Delord, Delres, Line, Lines, Message, Nomint, Nomres};
+use gi_pairs::{Code, Hours, Row, Table};
 use std::fmt::Display;
 
 /// Adds a field behind its name.
@@ -51,6 +51,14 @@ pub(crate) fn add_lines(lines: &Lines, text: &mut Answer) {
     }
 }
 
+/// Adds a row of a table.
+fn add_row(row: &Row, text: &mut Answer) {
+    text.show(&row.pair.initiating);
+    text.word(&row.pair.matching);
+    text.word(&row.direction);
+    add_hours(&row.hours, text);
+}
+
 /// Adds the hours that a table covers, then its rows.
 pub(crate) fn add_table(table: &Table, text: &mut Answer) {
     let (first, last) = (table.first(), table.last());
@@ -58,10 +66,7 @@ pub(crate) fn add_table(table: &Table, text: &mut Answer) {
     text.word(&last);
     text.end_line();
     for row in table.rows() {
-        text.show(&row.pair.initiating);
-        text.word(&row.pair.matching);
-        text.word(&row.direction);
-        add_hours(&row.hours, text);
+        add_row(row, text);
     }
 }
 
@@ -72,6 +77,32 @@ pub(crate) fn add_nomint(message: &Nomint, text: &mut Answer) {
     add_field("version", &message.version, text);
     text.end_line();
     add_lines(&message.lines, text);
+}
+
+/// Adds the fields of an ACKNOW.
+fn add_acknow(message: &Acknow, text: &mut Answer) {
+    add_portfolio(message.point, message.portfolio, text);
+    add_field("day", &message.day, text);
+    add_field("version", &message.version, text);
+    text.end_line();
+}
+
+/// Adds the fields of a NOMRES.
+fn add_nomres(message: &Nomres, text: &mut Answer) {
+    add_portfolio(message.point, message.portfolio, text);
+    add_cycle(message.day, message.cycle, text);
+    add_field("hours", &message.first, text);
+    text.word(&message.last);
+    text.end_line();
+    add_lines(&message.lines, text);
+}
+
+/// Adds the fields of a DELORD.
+fn add_delord(message: &Delord, text: &mut Answer) {
+    add_field("point", &message.point, text);
+    add_cycle(message.day, message.cycle, text);
+    text.end_line();
+    add_table(&message.processed, text);
 }
 
 /// Adds the fields of a DELRES.
@@ -94,26 +125,15 @@ pub(crate) fn add_message(message: &Message, text: &mut Answer) {
         }
         Message::Acknow(acknow) => {
             text.add("ACKNOW");
-            add_portfolio(acknow.point, acknow.portfolio, text);
-            add_field("day", &acknow.day, text);
-            add_field("version", &acknow.version, text);
-            text.end_line();
+            add_acknow(acknow, text);
         }
         Message::Nomres(nomres) => {
             text.add("NOMRES");
-            add_portfolio(nomres.point, nomres.portfolio, text);
-            add_cycle(nomres.day, nomres.cycle, text);
-            add_field("hours", &nomres.first, text);
-            text.word(&nomres.last);
-            text.end_line();
-            add_lines(&nomres.lines, text);
+            add_nomres(nomres, text);
         }
         Message::Delord(delord) => {
             text.add("DELORD");
-            add_field("point", &delord.point, text);
-            add_cycle(delord.day, delord.cycle, text);
-            text.end_line();
-            add_table(&delord.processed, text);
+            add_delord(delord, text);
         }
         Message::Delres(delres) => {
             text.add("DELRES");
