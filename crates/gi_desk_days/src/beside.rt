@@ -1,13 +1,13 @@
 //! A desk and a plain desk, side by side over days that are drawn.
 
 use crate::drawing::drawn;
-use crate::memory::{put, written};
+use crate::memory::put;
 use crate::names::Names;
 use crate::plain::{Plain, number};
 use crate::random::Random;
 use gi_day::Calendar;
 use gi_desk::{Call, Desk, Fact, Packet, Role};
-use gi_messages::Message;
+use gi_messages::{Message, Nomres, encode};
 use gi_pairs::{Code, CycleId, Table};
 use std::alloc::Global;
 
@@ -63,19 +63,11 @@ fn have_same_facts<R: Role>(desk: &Desk<R>, facts: &[Fact]) -> bool {
     desk.len() == n
 }
 
-/// The bytes of what a desk tells the portfolio of a cycle; no byte of nothing.
-fn told_by<R: Role>(alloc: Global, desk: &Desk<R>, portfolio: Code, id: &CycleId) -> Vec<u8> {
-    match desk.told(portfolio, *id) {
-        Ok(Some(told)) => written(alloc, Message::Nomres(told)),
-        _ => Vec::new(alloc),
-    }
-}
-
-/// The same of a plain desk, where this is the confirmed table.
-fn told_plainly(plain: &Plain, portfolio: Code, id: &CycleId, confirmed: &Table) -> Vec<u8> {
-    match plain.told(portfolio, id, confirmed) {
-        Some(told) => written(plain.alloc, Message::Nomres(told)),
-        None => Vec::new(plain.alloc),
+/// The bytes of what is told, no byte of nothing. `None` where there is no memory for them.
+fn text_of(alloc: Global, told: Option<Nomres>) -> Option<Vec<u8>> {
+    match told {
+        Some(told) => encode(alloc, &Message::Nomres(told)).ok(),
+        None => Some(Vec::new(alloc)),
     }
 }
 
@@ -87,8 +79,15 @@ fn tell_it_same<R: Role>(
     id: &CycleId,
     confirmed: &Table,
 ) -> bool {
-    let told = told_by(plain.alloc, desk, portfolio, id);
-    told.as_slice() == told_plainly(plain, portfolio, id, confirmed).as_slice()
+    let Ok(told) = desk.told(portfolio, *id) else {
+        return false;
+    };
+    let told = text_of(plain.alloc, told);
+    let other = text_of(plain.alloc, plain.told(portfolio, id, confirmed));
+    match (&told, &other) {
+        (Some(told), Some(other)) => told.as_slice() == other.as_slice(),
+        _ => false,
+    }
 }
 
 /// Whether both tell each portfolio the same.

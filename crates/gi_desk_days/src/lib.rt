@@ -2,7 +2,7 @@
 //! answer: what the cases about them call.
 //!
 //! Nothing here is refused. Where there is no memory for a part of what the plain desk makes it is
-//! left out, so that both desks differ.
+//! left out, so that both desks differ, or the day is another one.
 #![tactic(auto)]
 
 mod beside;

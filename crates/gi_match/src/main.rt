@@ -1,5 +1,5 @@
 //! The commands `match` and `hours` of the dispatch offices, as a program of their own, which is
-//! proved and built without all that the other commands stand on.
+//! proved and built without offices, sessions and audits.
 #![tactic(auto)]
 
 use gi_table_commands::{dispatch_tables, given_words, reported};

@@ -61,6 +61,18 @@ fn names(text: &mut Answer) -> bool {
     true
 }
 
+/// The closed cycle, where it collects and the table has as many rows as a processed one may; else
+/// the state comes back.
+fn closed(state: CycleState, processed: Table) -> Result<Frozen, CycleState> {
+    if processed.rows().len() > MOST_PROCESSED_ROWS {
+        return Err(state);
+    }
+    match state {
+        CycleState::Collecting(collecting) => Ok(collecting.close(processed)),
+        state => Err(state),
+    }
+}
+
 /// Adds what a meeting answers. The state is what it leaves.
 fn met(answer: Result<Matched, (Frozen, MeetFault)>, text: &mut Answer) -> CycleState {
     match answer {
@@ -161,16 +173,20 @@ impl Cycles {
 
     /// Closes the cycle, where it collects and the table has as many rows as a processed one may.
     fn close_with(&mut self, processed: Table, text: &mut Answer) -> bool {
-        let Some(CycleState::Collecting(collecting)) = &self.state else {
+        let Some(state) = self.state.take() else {
             return false;
         };
-        if processed.rows().len() > MOST_PROCESSED_ROWS {
-            return false;
+        match closed(state, processed) {
+            Ok(frozen) => {
+                self.keep(Some(CycleState::Frozen(frozen)));
+                text.add("ok");
+                true
+            }
+            Err(state) => {
+                self.keep(Some(state));
+                false
+            }
         }
-        let collecting = Collecting::new(collecting.id());
-        self.keep(Some(CycleState::Frozen(collecting.close(processed))));
-        text.add("ok");
-        true
     }
 
     /// `meet TABLE`: where it is refused, the frozen cycle that comes back is kept.
