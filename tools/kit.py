@@ -54,6 +54,16 @@ def processors():
     return max(1, min(most, round(int(quota[1]) / int(quota[2])))) if quota else most
 
 
+# So much memory, in bytes, no check of one job here has taken.
+MOST_OF_ONE = 5_000_000_000
+
+
+def lanes():
+    """How many crates an rt ci can prove side by side with one job each, where there is the memory for that many of the largest; else 0."""
+    count = processors()
+    return count if count * MOST_OF_ONE < rt.free() else 0
+
+
 def need(crate, jobs):
     """About the most memory that a check of the crate takes, in bytes."""
     return need_of_one(crate) * (1 + 0.3 * (jobs - 1))
