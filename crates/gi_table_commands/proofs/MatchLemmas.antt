@@ -6,7 +6,7 @@ use Rattle.gi_messages.specs.Grammar.{Spells}
 use Rattle.gi_messages.specs.declared.message.Delord.{Delord}
 use Rattle.gi_messages.specs.declared.message.Message.TheVariants as message
 use Rattle.gi_table_commands.specs.Lines.{HasLines}
-use Rattle.gi_table_commands.specs.Match.{IsFirstLineFault, IsLineFault, IsRefused}
+use Rattle.gi_table_commands.specs.Match.{IsFirstLineFault, IsLineFault, IsRefused, IsUnanswered}
 use Rattle.gi_table_commands.specs.declared.fault.Fault.{Fault}
 use Rattle.gi_table_commands.specs.declared.fault.Fault.TheVariants as fault
 use Rattle.gi_table_commands.specs.declared.fault.Line.TheVariants.{Order, Own}
@@ -70,3 +70,28 @@ order_refused input first second (fault.BadFact why) lines refused = absurd refu
 pub lines_refused : (input first second : List ℕ) (why : Fault) → HasLines input first second → IsFirstLineFault first second why → IsRefused input why
 lines_refused input first second why lines (inl refused) = order_refused input first second why lines refused
 lines_refused input first second why lines (inr refused) = own_refused input first second refused.0.0 why lines refused.0.1 refused.1
+
+-- two tables of different shapes, or want of memory
+pub unanswered_refused : (input first second : List ℕ) (order own : Delord) (why : Fault) → HasLines input first second
+    → Spells first (message.Delord order) → Spells second (message.Delord own) → IsUnanswered order own why → IsRefused input why
+unanswered_refused input first second order own fault.ShapeDiffers lines is_order is_own different = record {
+  order = order;
+  own = own;
+  tables = record { first = first; second = second; lines = lines; is_order = is_order; is_own = is_own };
+  different = different;
+}
+unanswered_refused input first second order own fault.OutOfMemory lines is_order is_own unanswered = tt
+unanswered_refused input first second order own (fault.Message line why) lines is_order is_own unanswered = absurd unanswered
+unanswered_refused input first second order own (fault.WrongKind line) lines is_order is_own unanswered = absurd unanswered
+unanswered_refused input first second order own fault.CommandLine lines is_order is_own unanswered = absurd unanswered
+unanswered_refused input first second order own fault.Read lines is_order is_own unanswered = absurd unanswered
+unanswered_refused input first second order own fault.TooLarge lines is_order is_own unanswered = absurd unanswered
+unanswered_refused input first second order own fault.Lines lines is_order is_own unanswered = absurd unanswered
+unanswered_refused input first second order own fault.Differs lines is_order is_own unanswered = absurd unanswered
+unanswered_refused input first second order own fault.Write lines is_order is_own unanswered = absurd unanswered
+unanswered_refused input first second order own (fault.Day why) lines is_order is_own unanswered = absurd unanswered
+unanswered_refused input first second order own (fault.Calendar why) lines is_order is_own unanswered = absurd unanswered
+unanswered_refused input first second order own (fault.Script why) lines is_order is_own unanswered = absurd unanswered
+unanswered_refused input first second order own (fault.Code why) lines is_order is_own unanswered = absurd unanswered
+unanswered_refused input first second order own (fault.Store why) lines is_order is_own unanswered = absurd unanswered
+unanswered_refused input first second order own (fault.BadFact why) lines is_order is_own unanswered = absurd unanswered

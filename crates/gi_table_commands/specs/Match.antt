@@ -38,6 +38,20 @@ response own confirmed = record {
   confirmed = confirmed;
 }
 
+-- the response to an order: its own table, and the lesser of both, which have one shape
+pub record IsResponse (order own : Delord) (answered : Message) : Type 0 where
+  pub confirmed : TableContents
+  pub shape : SameShape order own
+  pub lesser : IsLesser own.processed order.processed confirmed
+  pub only : confirmed ≡ lesser_of own.processed order.processed
+  pub is_response : answered ≡ message.Delres (response own confirmed)
+
+-- why there is no response to an order
+abbrev pub IsUnanswered : Delord → Delord → Fault → Type 0
+IsUnanswered order own fault.ShapeDiffers = ¬ (SameShape order own)
+IsUnanswered order own fault.OutOfMemory = Unit {0}
+IsUnanswered order own _ = ⊥
+
 -- the input is two lines, which spell these DELORDs
 pub record SpellsTables (input : List ℕ) (order own : Delord) : Type 0 where
   pub first : List ℕ

@@ -1,10 +1,12 @@
-ghost use Rattle.std.specs.Prelude.{◌≡◌, ◌↔◌, ◌<◌, ◌≤◌, ℕ, List, Err, IfOk, IfErr, IsTrue, length};
+ghost use Rattle.std.specs.Prelude.{◌≡◌, ◌↔◌, ◌<◌, ◌≤◌, ◌∷◌, ◌++◌, [], ℕ, List, Err, IfOk, IfErr, IsTrue, length};
 ghost use Rattle.gi_messages.specs.Grammar.{Spells};
 ghost use Rattle.gi_messages.specs.declared.message.Message.TheVariants as message;
 ghost use Rattle.gi_messages.specs.Limits.{most_bytes};
+ghost use Rattle.gi_messages.specs.Writing.{text_of};
 ghost use Rattle.gi_pairs.specs.Limits.{most_processed_rows};
+ghost use Rattle.gi_script.specs.Lines.{line_feed};
 ghost use Rattle.gi_table_commands.specs.Lines.{HasLines, HasNoLines};
-ghost use Rattle.gi_table_commands.specs.Match.{IsAnswer, IsFirstLineFault, IsLineFault, IsRefused, IsTableOn, SameShape};
+ghost use Rattle.gi_table_commands.specs.Match.{IsAnswer, IsFirstLineFault, IsLineFault, IsRefused, IsResponse, IsTableOn, IsUnanswered, SameShape};
 
 use crate::fault::{Fault, Line};
 use crate::lines::{LINE_FEED, two_lines};
@@ -106,6 +108,50 @@ fn same_shape(order: &Delord, own: &Delord) -> bool
         && own.processed.covers_same_hours(&order.processed)
 }
 
+/// The response to an order: its own table, and the lesser of both.
+fn response_to(
+    rt: &(impl Threads + Sync),
+    alloc: Global,
+    order: &Delord,
+    own: Delord,
+) -> Result<Message, Fault>
+    requires few_rows { length order.now.processed.rows ≤ most_processed_rows }
+    requires few_own_rows { length own.processed.rows ≤ most_processed_rows }
+    ensures response { IfOk result (λ message. IsResponse order.now own message) }
+    ensures fault { IfErr result (IsUnanswered order.now own) }
+{
+    if !same_shape(order, &own) {
+        drop(own);
+        return Err(Fault::ShapeDiffers);
+    }
+    let Ok(confirmed) = lesser_parallel(rt, alloc, &own.processed, &order.processed) else {
+        drop(own);
+        return Err(Fault::OutOfMemory);
+    };
+    Ok(Message::Delres(Delres {
+        point: own.point,
+        day: own.day,
+        cycle: own.cycle,
+        processed: own.processed,
+        confirmed,
+    }))
+}
+
+/// The message's text, and a line feed.
+fn line_of(alloc: Global, message: &Message) -> Result<Vec<u8>, Fault>
+    ensures text { IfOk result (λ text. text.items ≡ text_of message.now ++ line_feed ∷ []) }
+    ensures fault { IfErr result (λ fault. fault ≡ Fault.OutOfMemory) }
+{
+    let Ok(mut text) = encode(alloc, message) else {
+        return Err(Fault::OutOfMemory);
+    };
+    if text.push(LINE_FEED).is_err() {
+        drop(text);
+        return Err(Fault::OutOfMemory);
+    }
+    Ok(text)
+}
+
 /// What `match` writes for an input: the DELRES and a line feed. The fault is the first of the
 /// stated order; want of memory is answered where it stands in the way.
 pub fn answer(rt: &(impl Threads + Sync), alloc: Global, input: &[u8]) -> Result<Vec<u8>, Fault>
@@ -120,24 +166,10 @@ pub fn answer(rt: &(impl Threads + Sync), alloc: Global, input: &[u8]) -> Result
 {
     let (order_line, own_line) = two_lines(input)?;
     let (order, own) = tables_on(rt, alloc, order_line, own_line)?;
-    if !same_shape(&order, &own) {
-        return Err(Fault::ShapeDiffers);
-    }
-    let Ok(confirmed) = lesser_parallel(rt, alloc, &own.processed, &order.processed) else {
-        return Err(Fault::OutOfMemory);
-    };
-    let response = Message::Delres(Delres {
-        point: own.point,
-        day: own.day,
-        cycle: own.cycle,
-        processed: own.processed,
-        confirmed,
-    });
-    let Ok(mut text) = encode(alloc, &response) else {
-        return Err(Fault::OutOfMemory);
-    };
-    if text.push(LINE_FEED).is_err() {
-        return Err(Fault::OutOfMemory);
-    }
-    Ok(text)
+    let response = response_to(rt, alloc, &order, own);
+    drop(order);
+    let response = response?;
+    let text = line_of(alloc, &response);
+    drop(response);
+    text
 }
