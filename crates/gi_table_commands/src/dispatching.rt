@@ -48,10 +48,7 @@ fn perform_tables<R: Read, W: Write, E: Write>(
         }
         Task::AtOnce(Request::Hours(day)) => reported(tell_hours(alloc, day, output), errors),
         Task::AtOnce(Request::Mistaken(mistake)) => point_out(mistake, errors),
-        Task::AtOnce(Request::Simulate { .. }) => refer(errors),
-        Task::AtOnce(Request::Report(_)) => refer(errors),
-        Task::AtOnce(Request::Explain(_)) => refer(errors),
-        Task::AtOnce(Request::Audit(_)) => refer(errors),
+        Task::AtOnce(_) => refer(errors),
         Task::Serve(_) => refer(errors),
     }
 }
