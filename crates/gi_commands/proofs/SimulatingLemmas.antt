@@ -1,5 +1,5 @@
 -- The text of a script's first steps, from the notes of them.
-use Rattle.std.proofs.Common.{◌≡◌, ◌∙◌, ℕ, List, [], ◌∷◌, ◌++◌, append_assoc, append-nil, Bool, refl, sym}
+use Rattle.std.proofs.Common.{◌≡◌, ◌∙◌, ℕ, List, [], ◌∷◌, ◌++◌, append_assoc, append-nil, Bool, sym}
 use Rattle.gi_script.specs.Script.{IsScript, ScriptContents}
 use Rattle.gi_script.specs.declared.line.Line.{Line}
 use Rattle.gi_simulation.specs.Runs.{IsCutOff, gathered, noted, printed, telling, turns}

@@ -5,10 +5,10 @@ ghost use Rattle.gi_pairs.specs.Code.{IsCode};
 ghost use Rattle.gi_commands.specs.Auditing.{HasAudit, IsFactsAudit, IsNoAudit, IsNoFactsAudit};
 ghost use Rattle.gi_table_commands.specs.Fault.{no_code};
 
+use crate::replaying::replayed;
 use gi_audit::{Audited, audit};
 use gi_command_line::BookFiles;
-use gi_day::Calendar;
-use gi_desk::{Desk, Fact};
+use gi_desk::Fact;
 use gi_initiator::Initiating;
 use gi_matcher::Matching;
 use gi_pairs::{Code, CodeText};
@@ -28,9 +28,24 @@ pub fn facts_audit(
     ensures audited { IfOk result (λ it. IsFactsAudit point initiating.items matching.items (string_bytes it.text) it.first) }
     ensures fault { IfErr result (IsNoFactsAudit point initiating.items matching.items) }
 {
-    let initiating = Desk::<Initiating>::replay(alloc, Calendar::new()?, point, initiating)?;
-    let matching = Desk::<Matching>::replay(alloc, Calendar::new()?, point, matching)?;
-    Ok(audit(alloc, &initiating, &matching)?)
+    let initiating = match replayed::<Initiating>(alloc, point, initiating) {
+        Ok(initiating) => initiating,
+        Err(fault) => {
+            drop(matching);
+            return Err(fault);
+        }
+    };
+    let matching = match replayed::<Matching>(alloc, point, matching) {
+        Ok(matching) => matching,
+        Err(fault) => {
+            drop(initiating);
+            return Err(fault);
+        }
+    };
+    let audited = audit(alloc, &initiating, &matching);
+    drop(initiating);
+    drop(matching);
+    Ok(audited?)
 }
 
 /// The audit of both operators' books. `CodeText` where the point is no code, whatever the files

@@ -7,6 +7,7 @@ mod books;
 mod commands;
 mod desk_report;
 mod explaining;
+mod replaying;
 mod reporting;
 mod simulating;
 

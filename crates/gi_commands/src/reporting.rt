@@ -10,8 +10,8 @@ ghost use Rattle.gi_commands.specs.Simulating.{IsNoScript, IsScriptReport};
 ghost use Rattle.gi_world.specs.World.{station_of};
 
 use crate::desk_report::DeskReport;
+use crate::replaying::replayed;
 use gi_command_line::{Format, ReportKind};
-use gi_day::Calendar;
 use gi_desk::{Desk, Fact, Role};
 use gi_explanations::explanation;
 use gi_exports::{confirmed_csv, confirmed_json, open_csv, open_json, refused_csv, refused_json};
@@ -117,7 +117,10 @@ pub fn script_report(
 {
     let script = read_script(alloc, input)?;
     let (simulation, submissions) = refused_submissions(alloc, side, script)?;
-    match side_report(alloc, kind, side, simulation.world(), &submissions) {
+    let text = side_report(alloc, kind, side, simulation.world(), &submissions);
+    drop(simulation);
+    drop(submissions);
+    match text {
         Ok(text) => Ok(text),
         Err(_) => Err(Fault::OutOfMemory),
     }
@@ -132,8 +135,10 @@ pub(crate) fn facts_report<R: Role>(
     ensures reported { IfOk result (λ text. IsBookReport kind R.SIDE point facts.items (text.items)) }
     ensures fault { IfErr result (IsFactsFault R.SIDE point facts.items) }
 {
-    let desk = Desk::<R>::replay(alloc, Calendar::new()?, point, facts)?;
-    Ok(desk_report(alloc, kind, &desk, &[])?)
+    let desk = replayed::<R>(alloc, point, facts)?;
+    let text = desk_report(alloc, kind, &desk, &[]);
+    drop(desk);
+    Ok(text?)
 }
 
 fn replayed_report<R: Role, S: Alter>(

@@ -35,6 +35,16 @@ fn add_counts(alloc: Global, text: &mut String, simulation: &Simulation) -> Resu
     text.push_str(counts.as_str())
 }
 
+/// The text with the lines of what the sides hold; where memory runs out, the text alone.
+fn with_counts(alloc: Global, text: String, simulation: &Simulation) -> Written
+    ensures whole { result.complete ≡ true → string_bytes result.text ≡ string_bytes text ++ counts_of simulation.now }
+    ensures short { result.complete ≡ false → string_bytes result.text ≡ string_bytes text }
+{
+    let mut text = text;
+    let complete = add_counts(alloc, &mut text, simulation).is_ok();
+    Written { text, complete }
+}
+
 /// What `simulate` writes for an input: a line of each step of the script, with a trace also lines of
 /// what moved in it, and two of what the sides then hold. The fault is the script's. Where memory runs
 /// out in a step, or for its lines, the lines of those before it are written. The input's memory is
@@ -48,21 +58,14 @@ pub fn simulated(alloc: Global, input: Vec<u8>, trace: bool) -> Result<Written, 
     let script = read_script(alloc, &input)?;
     drop(input);
     let made = simulate(alloc, script, trace)?;
-    let mut text = made.text;
     if !made.complete {
+        drop(made.simulation);
         return Ok(Written {
-            text,
+            text: made.text,
             complete: false,
         });
     }
-    match add_counts(alloc, &mut text, &made.simulation) {
-        Ok(()) => Ok(Written {
-            text,
-            complete: true,
-        }),
-        Err(_) => Ok(Written {
-            text,
-            complete: false,
-        }),
-    }
+    let written = with_counts(alloc, made.text, &made.simulation);
+    drop(made.simulation);
+    Ok(written)
 }

@@ -11,17 +11,17 @@ returns-then-not-made-clause-cut c =
     let spelled = subst (λ (input : List ℕ). IsScript input c.in_ok-script.script) c.deref.ensures.value c.in_ok-script.ensures.found in
     λ is. cut_run c.args.trace _ _ c.in_ok-script.script _ spelled (c.in_ok-made.ensures.cut short)
 
-pub returns-in-Ok-clause-text : goal.returns-in-Ok-clause-text
-returns-in-Ok-clause-text c =
+pub returns-clause-text : goal.returns-clause-text
+returns-clause-text c =
     let whole : c.in_ok-made.made.complete ≡ true = search rules in
     λ is. record {
       script = c.in_ok-script.script;
       spelled = subst (λ (input : List ℕ). IsScript input c.in_ok-script.script) c.deref.ensures.value c.in_ok-script.ensures.found;
-      written = c.in-Ok.ensures.added ∙ ap₂ (λ (text : List ℕ) (s : SimulationState). text ++ counts_of s) (c.in_ok-made.ensures.text whole) (c.in_ok-made.ensures.simulation whole);
+      written = c.with_counts-written.ensures.whole is ∙ ap₂ (λ (text : List ℕ) (s : SimulationState). text ++ counts_of s) (c.in_ok-made.ensures.text whole) (c.in_ok-made.ensures.simulation whole);
     }
 
 pub returns-clause-cut : goal.returns-clause-cut
 returns-clause-cut c =
     let whole : c.in_ok-made.made.complete ≡ true = search rules in
     let spelled = subst (λ (input : List ℕ). IsScript input c.in_ok-script.script) c.deref.ensures.value c.in_ok-script.ensures.found in
-    λ is. cut_after c.args.trace _ _ c.in_ok-script.script spelled (c.in-Err.ensures.kept ∙ c.in_ok-made.ensures.text whole)
+    λ is. cut_after c.args.trace _ _ c.in_ok-script.script spelled (c.with_counts-written.ensures.short is ∙ c.in_ok-made.ensures.text whole)
