@@ -85,14 +85,18 @@ passed number numbers bodies i old new below within other is kept = by (eqb_tell
         ∙ ap (λ (c : Bool). so_far ++ cond c (get_or bodies i [] ∷ []) []) (sym apart.0)
         ∙ sym (body_more number numbers bodies i [] below within)
 
-pub dealt_more : {Z : Type 0} (count : ℕ) (numbers : List ℕ) (bodies : List (List ℕ)) (lists new : List (Vec (List ℕ) Z)) (list : Vec (List ℕ) Z)
-    → map bodies_in lists ≡ dealt_to_all count numbers bodies → list.items ≡ dealt (count + 1) numbers bodies → new ≡ lists ++ list ∷ []
-    → map bodies_in new ≡ dealt_to_all (count + 1) numbers bodies
-dealt_more {Z} count numbers bodies lists new list so_far is pushed =
+pub one_dealt : {Z : Type 0} (lists new : List (Vec (List ℕ) Z)) (list : Vec (List ℕ) Z) (given : List (List ℕ)) → list.items ≡ given → new ≡ lists ++ list ∷ []
+    → map bodies_in new ≡ map bodies_in lists ++ given ∷ []
+one_dealt {Z} lists new list given is pushed =
     ap (map (bodies_in {Z = Z})) pushed
     ∙ map-append (bodies_in {Z = Z}) lists (list ∷ [])
-    ∙ ap (λ (front : List (List (List ℕ))). front ++ list.items ∷ []) so_far
-    ∙ ap (λ (it : List (List ℕ)). dealt_to_all count numbers bodies ++ it ∷ []) is
+    ∙ ap (λ (it : List (List ℕ)). map (bodies_in {Z = Z}) lists ++ it ∷ []) is
+
+pub dealt_more : (count : ℕ) (numbers : List ℕ) (bodies : List (List ℕ)) (lists new : List (List (List ℕ)))
+    → lists ≡ dealt_to_all count numbers bodies → new ≡ lists ++ dealt (count + 1) numbers bodies ∷ [] → new ≡ dealt_to_all (count + 1) numbers bodies
+dealt_more count numbers bodies lists new so_far added =
+    added
+    ∙ ap (λ (front : List (List (List ℕ))). front ++ dealt (count + 1) numbers bodies ∷ []) so_far
     ∙ sym (map-range_with_len_more (λ (number : ℕ). dealt number numbers bodies) 1 count (count + 1) (omega arith))
 
 pub as_many : {Z : Type 0} (count : ℕ) (numbers : List ℕ) (bodies : List (List ℕ)) (lists : List (Vec (List ℕ) Z)) → map bodies_in lists ≡ dealt_to_all count numbers bodies → length lists ≡ count

@@ -96,14 +96,24 @@ first_single sessions line [] batch old text new some at counted none makes = ab
 first_single sessions line (first ∷ later) batch old text new some at counted none makes =
     first_one sessions line (first ∷ later) later batch old text new (ap (λ (l : Line). l ∷ later) (sym at)) counted none makes
 
-pub first_added : (sessions : ℕ) (lines : List Line) (count : ℕ) (old between new : OfficesState) (said before after : List ℕ) → MakesFirst sessions lines count old said between → SavesAndSends between new → after ≡ before ++ said
-    → AddsFirst sessions lines count old before after new
-first_added sessions lines count old between new said before after makes saves added = record {
+pub first_saved : (sessions : ℕ) (lines : List Line) (count : ℕ) (old between new : OfficesState) (said : List ℕ) → MakesFirst sessions lines count old said between → SavesAndSends between new
+    → AddsFirst sessions lines count old [] said new
+first_saved sessions lines count old between new said makes saves = record {
   piece = makes.piece;
   first = makes.first;
   said = said;
   makes = record { between = between; makes = makes.makes; saves = saves };
-  added = added;
+  added = refl;
+}
+
+pub added_behind : (sessions : ℕ) (lines : List Line) (count : ℕ) (old new : OfficesState) (said before after : List ℕ) → AddsFirst sessions lines count old [] said new → after ≡ before ++ said
+    → AddsFirst sessions lines count old before after new
+added_behind sessions lines count old new said before after adds added = record {
+  piece = adds.piece;
+  first = adds.first;
+  said = adds.said;
+  makes = adds.makes;
+  added = added ∙ ap (λ (t : List ℕ). before ++ t) adds.added;
 }
 
 -- ---- how many submissions come first

@@ -1,6 +1,6 @@
 //! Which session gets which submission of a batch.
 
-ghost use Rattle.std.specs.Prelude.{◌≡◌, ◌≤◌, ◌<◌, All, IfOk};
+ghost use Rattle.std.specs.Prelude.{◌≡◌, ◌≤◌, ◌<◌, All, IfOk, map};
 ghost use Rattle.std.specs.List.{position};
 ghost use Rattle.gi_serving.specs.Assigning.{IsNumber, in_order as order_of, is_same, place_in, portfolios_of, session_of, sessions_of as sessions_for};
 
@@ -59,6 +59,25 @@ fn session(sessions: u8, order: &[Code], portfolio: Option<Code>) -> u8
     }
 }
 
+/// The sessions of submissions of these portfolios, which appear first in this order.
+fn numbers_in(
+    alloc: Global,
+    sessions: u8,
+    order: &[Code],
+    portfolios: &[Option<Code>],
+) -> Result<Vec<u8>, AllocError>
+    requires some { 1 ≤ sessions }
+    requires few { sessions < 16 }
+    ensures sessions { IfOk result (λ numbers. numbers.items ≡ map (session_of sessions order.now) portfolios.now) }
+    ensures numbers { IfOk result (λ numbers. All (IsNumber sessions) numbers.items) }
+{
+    let mut numbers = Vec::with_capacity(alloc, portfolios.len())?;
+    for portfolio in portfolios {
+        numbers.push(session(sessions, order, *portfolio))?;
+    }
+    Ok(numbers)
+}
+
 /// For each submission of a batch at one side the session, from 1 up to the number of sessions, from
 /// 1 to 15, that submits it: all those of a portfolio go to one session, and the portfolios go round
 /// the sessions in order of first appearance; what is no nomination goes to the first session. Only
@@ -70,10 +89,13 @@ pub fn sessions_of(alloc: Global, sessions: u8, bodies: &[Body]) -> Result<Vec<u
     ensures numbers { IfOk result (λ numbers. All (IsNumber sessions) numbers.items) }
 {
     let portfolios = portfolios(alloc, bodies)?;
-    let order = in_order(alloc, &portfolios)?;
-    let mut numbers = Vec::with_capacity(alloc, portfolios.len())?;
-    for portfolio in &portfolios {
-        numbers.push(session(sessions, &order, *portfolio))?;
-    }
-    Ok(numbers)
+    // (handed to drop, by one call: going out of scope here would be checked field by field on each way out)
+    let Ok(order) = in_order(alloc, &portfolios) else {
+        drop(portfolios);
+        return Err(AllocError);
+    };
+    let numbers = numbers_in(alloc, sessions, &order, &portfolios);
+    drop(portfolios);
+    drop(order);
+    numbers
 }

@@ -206,7 +206,14 @@ fn whole<L: Ledger, K: Ledger>(
     ensures cut { IfErr result (λ fault. IsCut (Err fault)) }
 {
     let (main, peer_main, saved) = saved;
-    let (ours, theirs) = unless_cut(submitted, saved)?;
+    let (ours, theirs) = match unless_cut(submitted, saved) {
+        Ok(both) => both,
+        // (handed to drop, by one call: going out of scope here would be checked field by field on each way out)
+        Err(fault) => {
+            drop((main, peer_main));
+            return Err(fault);
+        }
+    };
     Ok(both_of(with_main(ours, main), with_main(theirs, peer_main))?)
 }
 

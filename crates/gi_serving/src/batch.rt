@@ -1,6 +1,6 @@
 //! A batch: submissions, which the sessions of an office make at once.
 
-ghost use Rattle.std.specs.Prelude.{◌≡◌, ◌≤◌, ◌<◌, ◌++◌, [], All, IfOk, OnErr, OnOk, drop, false, length, map, slice_get, true, vec_capacity};
+ghost use Rattle.std.specs.Prelude.{◌≡◌, ◌≤◌, ◌<◌, ◌++◌, ◌∷◌, [], All, IfOk, OnErr, OnOk, drop, false, length, map, slice_get, true, vec_capacity};
 ghost use Rattle.gi_pairs.specs.declared.side.Side.TheVariants.{I, M};
 ghost use Rattle.gi_serving.specs.Assigning.{IsNumber, sessions_of as sessions_for};
 ghost use Rattle.gi_serving.specs.Batches.{submission as submission_in};
@@ -71,6 +71,22 @@ fn given(
     Ok(dealt)
 }
 
+/// What goes to the session of this number, behind what goes to those before it.
+#[tactic(auto, using(crate::proofs::Dealing::one_dealt))]
+fn deal(
+    alloc: Global,
+    number: u8,
+    numbers: &[u8],
+    bodies: &[Body],
+    lists: &mut Vec<Vec<Body>>,
+) -> Result<(), AllocError>
+    requires { length numbers.now ≡ length bodies.now }
+    ensures { OnOk result (map bodies_in lists.new.items ≡ map bodies_in lists.old.items ++ dealt number numbers.now bodies.now ∷ []) }
+{
+    lists.push(given(alloc, number, numbers, bodies)?)?;
+    Ok(())
+}
+
 #[tactic(auto, using(crate::proofs::Dealing::dealt_more, crate::proofs::Dealing::as_many))]
 fn dealt_to(
     alloc: Global,
@@ -84,7 +100,11 @@ fn dealt_to(
 {
     let mut dealt = Vec::with_capacity(alloc, sessions as usize)?;
     for before in 0..sessions {
-        dealt.push(given(alloc, before + 1, numbers, bodies)?)?;
+        // (handed to drop, by one call: going out of scope here would be checked field by field on each way out)
+        let Ok(()) = deal(alloc, before + 1, numbers, bodies, &mut dealt) else {
+            drop(dealt);
+            return Err(AllocError);
+        };
     }
     Ok(dealt)
 }
@@ -322,8 +342,13 @@ pub(crate) fn submitted<R: Role + Send, L: Ledger + Send, T: Threads + Wait + Sy
     ensures places { IfOk result (λ submitted. AreSamePlaces seats.items submitted.0.items) }
     ensures all { IfOk result (λ submitted. SessionsMake R.SIDE sessions bodies.items seats.items submitted.1.items submitted.0.items) }
 {
-    let numbers = sessions_of(alloc, sessions, &bodies)?;
-    numbered(
+    let Ok(numbers) = sessions_of(alloc, sessions, &bodies) else {
+        drop((waker, seats, bodies));
+        return Err(AllocError);
+    };
+    let made = numbered(
         rt, alloc, office, &waker, sessions, seats, &numbers, &bodies,
-    )
+    );
+    drop((waker, numbers, bodies));
+    made
 }

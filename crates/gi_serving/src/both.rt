@@ -21,8 +21,10 @@ use crate::word::Word;
 use gi_desk::Body;
 use gi_initiator::Initiating;
 use gi_matcher::Matching;
+use gi_office::{Office, Seat};
 use gi_pairs::Side;
 use gi_script::{Instruction, Line};
+use gi_store::BookStore;
 use sqlite::Alter;
 use std::alloc::{AllocError, Global};
 use std::mem;
@@ -59,6 +61,55 @@ fn put<A: Drop>(place: &mut A, value: A)
     ensures { place.new ≡ value }
 {
     *place = value;
+}
+
+/// At both offices at once, from all of their seats, which come back.
+fn submit_from<
+    L: Ledger + Send + Sync,
+    K: Ledger + Send + Sync,
+    S: Alter + Send,
+    T: Threads + Wait + Sync,
+>(
+    rt: &T,
+    alloc: Global,
+    sessions: u8,
+    office: &Office<Initiating, L>,
+    book: &mut BookStore<S>,
+    seats: &mut Vec<Seat<L>>,
+    bodies: Vec<Body>,
+    peer: &Office<Matching, K>,
+    peer_book: &mut BookStore<S>,
+    peer_seats: &mut Vec<Seat<K>>,
+    peer_bodies: Vec<Body>,
+) -> Result<(Vec<Word>, Vec<Word>), ServeFault>
+    requires some { 1 ≤ sessions }
+    requires few { sessions < 16 }
+    requires ours { length seats.old.items ≡ sessions + 1 }
+    requires theirs { length peer_seats.old.items ≡ sessions + 1 }
+    ensures ours { OnOk result (AreSamePlaces seats.old.items seats.new.items) }
+    ensures theirs { OnOk result (AreSamePlaces peer_seats.old.items peer_seats.new.items) }
+    ensures submits { IfOk result (λ words. SubmitsBatch I sessions bodies.items seats.old.items words.0.items seats.new.items) }
+    ensures peer_submits { IfOk result (λ words. SubmitsBatch M sessions peer_bodies.items peer_seats.old.items words.1.items peer_seats.new.items) }
+    ensures cut { IfErr result (λ fault. IsCut (Err fault)) }
+{
+    let all = mem::replace(seats, Vec::new(alloc));
+    let peer_all = mem::replace(peer_seats, Vec::new(alloc));
+    let ((all, words), (peer_all, peer_words)) = at_once(
+        rt,
+        alloc,
+        sessions,
+        office,
+        book,
+        all,
+        bodies,
+        peer,
+        peer_book,
+        peer_all,
+        peer_bodies,
+    )?;
+    put(seats, all);
+    put(peer_seats, peer_all);
+    Ok((words, peer_words))
 }
 
 impl<L: Ledger, K: Ledger, S: Alter + Drop> Both<L, K, S> {
@@ -187,24 +238,19 @@ impl<L: Ledger + Send + Sync, K: Ledger + Send + Sync, S: Alter + Drop + Send> B
         let (alloc, sessions) = (self.alloc, self.sessions);
         let initiating = &mut self.initiating;
         let matching = &mut self.matching;
-        let seats = mem::replace(&mut initiating.seats, Vec::new(alloc));
-        let peer_seats = mem::replace(&mut matching.seats, Vec::new(alloc));
-        let ((seats, words), (peer_seats, peer_words)) = at_once(
+        submit_from(
             rt,
             alloc,
             sessions,
             &initiating.office,
             &mut initiating.book,
-            seats,
+            &mut initiating.seats,
             bodies,
             &matching.office,
             &mut matching.book,
-            peer_seats,
+            &mut matching.seats,
             peer_bodies,
-        )?;
-        put(&mut initiating.seats, seats);
-        put(&mut matching.seats, peer_seats);
-        Ok((words, peer_words))
+        )
     }
 
     pub(crate) fn batch<T: Threads + Wait + Sync>(

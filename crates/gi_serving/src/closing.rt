@@ -124,7 +124,10 @@ fn last_lines_of(
 ) -> Result<Closed, AllocError>
     ensures { IfOk result (λ closed. AreLastLines initiating matching (string_bytes closed.text) closed.end) }
 {
-    last_lines(alloc, &initiating, &matching)
+    let closed = last_lines(alloc, &initiating, &matching);
+    // (handed to drop, by one call: going out of scope here would be checked field by field on each way out)
+    drop((initiating, matching));
+    closed
 }
 
 /// Hands all seats back to both offices and sets these against each other. The lines say how many facts

@@ -59,7 +59,11 @@ fn called<R: Role, L: Ledger, W: Wait>(
         Call::Deliver(body) => office.deliver(rt, seat, body),
         Call::Resend(id) => office.resend(rt, seat, id),
         Call::Halt => office.halt(rt, seat),
-        Call::MarkSaved { .. } => return (seat, None),
+        // (handed to drop, by one call: going out of scope here would be checked field by field on each way out)
+        mark @ Call::MarkSaved { .. } => {
+            drop(mark);
+            return (seat, None);
+        }
     };
     (seat, Some(answer))
 }
@@ -82,7 +86,10 @@ fn saved(turn: Result<Turn, SaveFault>) -> Result<bool, SaveFault>
     ensures fault { IfErr result IsTurnFault }
 {
     match turn {
-        Ok(Turn::Saved(_)) => Ok(true),
+        Ok(Turn::Saved(receipt)) => {
+            drop(receipt);
+            Ok(true)
+        }
         Ok(Turn::Nothing) => Ok(false),
         Err(SaveFault::Halted) => Ok(false),
         Err(fault) => Err(fault),
@@ -205,7 +212,10 @@ impl<R: Role, L: Ledger, S: Alter + Drop> Running<R, L, S> {
         ensures sent { IfOk result (λ running. running.sent ≡ 0) }
         ensures way { IfOk result (λ running. running.way ≡ new_link) }
     {
-        let way = Link::new(station.alloc)?;
+        let Ok(way) = Link::new(station.alloc) else {
+            drop(station);
+            return Err(AllocError);
+        };
         let Station {
             alloc,
             blank,
@@ -214,7 +224,10 @@ impl<R: Role, L: Ledger, S: Alter + Drop> Running<R, L, S> {
         } = station;
         match opened(alloc, blank, desk, sessions) {
             Ok((office, seats)) => Ok(just_opened(alloc, office, book, seats, way)),
-            Err(refused) => Err(refused),
+            Err(refused) => {
+                drop((book, way));
+                Err(refused)
+            }
         }
     }
 

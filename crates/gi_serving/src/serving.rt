@@ -77,7 +77,37 @@ fn made<
     }
 }
 
-#[tactic(auto, using(crate::proofs::Places::same_again, crate::proofs::Places::same_length, crate::proofs::Places::still_some, crate::proofs::Walking::first_added))]
+/// Makes the first piece, saves what it recorded, and sends what was let out.
+#[tactic(auto, using(crate::proofs::Places::same_again, crate::proofs::Places::same_length, crate::proofs::Places::still_some, crate::proofs::Walking::first_saved))]
+fn made_and_saved<
+    L: Ledger + Send + Sync,
+    K: Ledger + Send + Sync,
+    S: Alter + Drop + Send,
+    T: Threads + Wait + Sync,
+>(rt: &T, both: &mut Both<L, K, S>, lines: &[Line], batch: usize) -> Result<String, ServeFault>
+    requires some { 0 < length lines.now }
+    requires batch { batch ≡ lead lines.now }
+    requires within { batch ≤ length lines.now }
+    requires ours { length both.old.initiating.seats.items ≡ both.old.sessions + 1 }
+    requires theirs { length both.old.matching.seats.items ≡ both.old.sessions + 1 }
+    ensures sessions { both.new.sessions ≡ both.old.sessions }
+    ensures ours { OnOk result (AreSamePlaces both.old.initiating.seats.items both.new.initiating.seats.items) }
+    ensures theirs { OnOk result (AreSamePlaces both.old.matching.seats.items both.new.matching.seats.items) }
+    ensures made { IfOk result (λ text. AddsFirst both.old.sessions lines.now (max batch 1)
+        (offices_of both.old.initiating both.old.matching) [] (string_bytes text) (offices_of both.new.initiating both.new.matching)) }
+    ensures cut { IfErr result (λ fault. IsCut (Err fault)) }
+{
+    let said = match made(rt, both, lines, batch) {
+        Ok(said) => said,
+        Err(fault) => return Err(fault),
+    };
+    match both.turns(rt) {
+        Ok(()) => Ok(said),
+        Err(fault) => Err(fault),
+    }
+}
+
+#[tactic(auto, using(crate::proofs::Walking::added_behind))]
 fn step<
     L: Ledger + Send + Sync,
     K: Ledger + Send + Sync,
@@ -103,13 +133,10 @@ fn step<
     ensures kept { OnErr result (string_bytes text.new ≡ string_bytes text.old) }
     ensures cut { IfErr result (λ fault. IsCut (Err fault)) }
 {
-    let said = match made(rt, both, lines, batch) {
+    let said = match made_and_saved(rt, both, lines, batch) {
         Ok(said) => said,
         Err(fault) => return Err(fault),
     };
-    if let Err(fault) = both.turns(rt) {
-        return Err(fault);
-    }
     match text.push_str(said.as_str()) {
         Ok(()) => Ok(()),
         Err(_) => Err(ServeFault::OutOfMemory),
@@ -203,7 +230,11 @@ fn end_of<
     let mut both = both;
     match run(rt, &mut both, lines, text, watch) {
         Ok(()) => closed(both, text),
-        Err(fault) => Err(fault),
+        // (handed to drop, by one call: going out of scope here would be checked field by field on each way out)
+        Err(fault) => {
+            drop(both);
+            Err(fault)
+        }
     }
 }
 

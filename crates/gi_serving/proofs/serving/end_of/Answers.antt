@@ -1,7 +1,7 @@
-use Rattle.std.proofs.Common.{ℕ, length, string_bytes, ap, ◌∙◌, subst}
+use Rattle.std.proofs.Common.{ℕ, Err, length, string_bytes, ap, ◌∙◌, subst}
 use Rattle.gi_serving.specs.Ending.{Closes}
-use Rattle.gi_serving.specs.Making.{OfficesState, offices_of}
-use Rattle.gi_serving.proofs.Endings.{new_length, over, told_so}
+use Rattle.gi_serving.specs.Making.{OfficesState, RunsSome, offices_of}
+use Rattle.gi_serving.proofs.Endings.{cut, new_length, over, told_so}
 use Rattle.gi_serving.proofs.serving.end_of.Goals as goal
 
 pub run-requires-clause-ours : goal.run-requires-clause-ours
@@ -25,3 +25,11 @@ returns-in-Ok-clause-told g c =
     told_so c.args.both.sessions g.L.Ledger.parts g.K.Ledger.parts (g.V.Watch.told c.run.new.watch) c.args.lines.now start reached (string_bytes c.run.new.text) (string_bytes c.closed.new.text) c.closed.result
     c.requires.new c.in-Ok.ensures.told
     (subst (λ (n : ℕ). Closes g.L.Ledger.parts g.K.Ledger.parts n reached (string_bytes c.run.new.text) (string_bytes c.closed.new.text) c.closed.result) c.in-Ok.ensures.sessions c.closed.ensures)
+
+pub returns-in-Err-clause-over : goal.returns-in-Err-clause-over
+returns-in-Err-clause-over g c =
+    let sessions = c.args.both.sessions in
+    let told = g.V.Watch.told c.run.new.watch in
+    let text = string_bytes c.run.new.text in
+    cut sessions told c.args.lines.now text (Err c.in-Err.fault)
+    (subst (λ (s : OfficesState). RunsSome sessions c.args.lines.now told s text) c.requires.new c.in-Err.ensures.told) c.in-Err.ensures.cut
