@@ -1,0 +1,9 @@
+use Rattle.std.proofs.Common.{◌∙◌}
+use Rattle.gi_serving.proofs.Turning.{marks_more}
+use Rattle.gi_serving.proofs.running.saved_all.Goals as goal
+
+pub loop-preserved : goal.loop-preserved
+loop-preserved g c = record {
+  place = c.turned-back.ensures.place ∙ c.loop.invariant.place;
+  marks = marks_more c.args.seat c.loop.main c.turned-back.result.0 c.loop.invariant.marks (rw c.in-Ok-true.is at c.turned-back.ensures.marks);
+}
