@@ -1,5 +1,6 @@
-use Rattle.std.proofs.Common.{Err, refl, string_bytes}
-use Rattle.gi_serving.specs.Making.{new_offices}
+use Rattle.std.proofs.Common.{ℕ, Err, refl, string_bytes, subst}
+use Rattle.gi_serving.specs.Ending.{IsCut, IsOver}
+use Rattle.gi_serving.specs.Making.{RunsSome, new_offices}
 use Rattle.gi_serving.specs.declared.serve_fault.ServeFault.TheVariants as faults
 use Rattle.gi_serving.proofs.Endings.{cut}
 use Rattle.gi_serving.proofs.Walking.{none_made}
@@ -10,3 +11,11 @@ returns-in-Err-clause-over g c =
     let sessions = c.args.sessions in
     let text = string_bytes c.args.text.now in
     cut sessions 0 c.args.lines.now text (Err faults.OutOfMemory) (none_made sessions c.args.lines.now 0 (new_offices sessions) text refl c.requires.none) tt
+
+pub returns-in-Ok-clause-over : goal.returns-in-Ok-clause-over
+returns-in-Ok-clause-over g c =
+    subst (λ (n : ℕ). IsOver n c.args.lines.now (string_bytes c.end_of.new.text) c.end_of.result) c.in-Ok.ensures.sessions c.end_of.ensures.over
+
+pub returns-in-Ok-clause-told : goal.returns-in-Ok-clause-told
+returns-in-Ok-clause-told g c =
+    subst (λ (n : ℕ). IsCut c.end_of.result → RunsSome n c.args.lines.now (g.V.Watch.told c.end_of.new.watch) (new_offices n) (string_bytes c.end_of.new.text)) c.in-Ok.ensures.sessions c.end_of.ensures.told
