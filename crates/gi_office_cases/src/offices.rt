@@ -12,11 +12,11 @@ mod saving;
 mod seats;
 mod texts;
 
-use crate::offices::opened::Opened;
+use crate::offices::opened::{Opened, keep_settled};
 use gi_calls::{Answer, Fault, Words, add_answer, add_case};
 use gi_initiator::Initiating;
 use gi_matcher::Matching;
-use gi_office::{join_lives, reconcile};
+use gi_office::{Settled, join_lives, reconcile};
 use std::alloc::Global;
 use std::marker::Brand;
 use std::mem::ManuallyDrop;
@@ -26,7 +26,6 @@ use std::sync::ledger::{Blank, Ledger};
 use std::thread::Threads;
 
 /// The calls of the subject `offices`.
-#[derive(Drop)]
 struct Offices<'a, A: Ledger, B: Ledger, C: Ledger, W: Wait> {
     handle: &'a W,
     former: Opened<Initiating, A>,
@@ -34,35 +33,45 @@ struct Offices<'a, A: Ledger, B: Ledger, C: Ledger, W: Wait> {
     matching: Opened<Matching, C>,
 }
 
-impl<'a, A: Ledger, B: Ledger, C: Ledger, W: Wait> Offices<'a, A, B, C, W> {
-    /// Joins the lives of `I` and of `later`, once both are settled; they are those of `I` then.
-    fn join_lives(&mut self, text: &mut Answer) -> bool {
-        let (Some(former), Some(later)) = (self.former.settled.take(), self.later.settled.take())
-        else {
-            return false;
-        };
-        match join_lives(former, later) {
-            Ok(joined) => {
-                self.former.keep_settled(Some(joined));
-                text.add("ok");
-            }
-            Err(fault) => text.show(&fault),
+/// Joins the lives of `I` and of `later`, once both are settled; they are those of `I` then.
+fn joined(
+    former: &mut Option<Settled<Initiating>>,
+    later: &mut Option<Settled<Initiating>>,
+    text: &mut Answer,
+) -> bool {
+    let later = later.take();
+    let Some(life) = former.take() else {
+        drop(later);
+        return false;
+    };
+    let Some(later) = later else {
+        drop(life);
+        return false;
+    };
+    match join_lives(life, later) {
+        Ok(joined) => {
+            keep_settled(former, Some(joined));
+            text.add("ok");
         }
-        true
+        Err(fault) => text.show(&fault),
     }
+    true
+}
 
-    /// Sets `I` and `M` against each other, once both are settled.
-    fn reconcile(&self, text: &mut Answer) -> bool {
-        let (Some(initiating), Some(matching)) = (&self.former.settled, &self.matching.settled)
-        else {
-            return false;
-        };
-        match reconcile(initiating, matching) {
-            Ok(()) => text.add("ok"),
-            Err(fault) => text.show(&fault),
-        }
-        true
+/// Sets `I` and `M` against each other, once both are settled.
+fn reconciled(
+    initiating: &Option<Settled<Initiating>>,
+    matching: &Option<Settled<Matching>>,
+    text: &mut Answer,
+) -> bool {
+    let (Some(initiating), Some(matching)) = (initiating, matching) else {
+        return false;
+    };
+    match reconcile(initiating, matching) {
+        Ok(()) => text.add("ok"),
+        Err(fault) => text.show(&fault),
     }
+    true
 }
 
 impl<'a, A, B, C, W> Offices<'a, A, B, C, W>
@@ -72,40 +81,49 @@ where
     C: Ledger,
     W: Threads + Wait + Clock + Sync,
 {
-    /// Makes a call of `I`, by several threads where its word says so.
-    fn initiating(&mut self, alloc: Global, line: &str, text: &mut Answer) -> Result<bool, Fault> {
-        let handle = self.handle;
-        match self.former.answer_by_threads(handle, alloc, line, text) {
-            Ok(false) => self.former.answer(handle, alloc, line, text),
-            answered => answered,
-        }
-    }
-
     /// Makes the call of the line and adds its answer. `false` where it is none.
     fn answer(&mut self, alloc: Global, call: &str, text: &mut Answer) -> Result<bool, Fault> {
         let handle = self.handle;
         let mut words = Words::of(call);
-        match words.next() {
-            "I" => self.initiating(alloc, words.rest(), text),
-            "later" => self.later.answer(handle, alloc, words.rest(), text),
-            "M" => self.matching.answer(handle, alloc, words.rest(), text),
-            "join_lives" => Ok(self.join_lives(text)),
-            "reconcile" => Ok(self.reconcile(text)),
+        let word = words.next();
+        let line = words.rest();
+        match word {
+            "I" => self.former.answer_by_threads(handle, alloc, line, text),
+            "later" => self.later.answer(handle, alloc, line, text),
+            "M" => self.matching.answer(handle, alloc, line, text),
+            "join_lives" => Ok(joined(&mut self.former.settled, &mut self.later.settled, text)),
+            "reconcile" => Ok(reconciled(&self.former.settled, &self.matching.settled, text)),
             _ => Ok(false),
         }
     }
 
-    /// The cases with their answers.
-    fn answer_all(&mut self, alloc: Global, cases: &str) -> Result<String, Fault> {
-        let mut text = Answer::new(alloc);
+    /// Adds the cases with their answers.
+    fn answer_all(
+        &mut self,
+        alloc: Global,
+        cases: &str,
+        answer: &mut Answer,
+        text: &mut Answer,
+    ) -> Result<(), Fault> {
         for line in cases.lines() {
-            if add_case(line, &mut text) {
-                let mut answer = Answer::new(alloc);
-                let is_made = self.answer(alloc, line, &mut answer)?;
-                add_answer(is_made, &mut answer, &mut text);
+            if add_case(line, text) {
+                answer.clear();
+                let is_made = self.answer(alloc, line, answer)?;
+                add_answer(is_made, answer, text);
             }
         }
-        text.into_text()
+        Ok(())
+    }
+}
+
+/// The text, where all was answered.
+fn ended(answered: Result<(), Fault>, text: Answer) -> Result<String, Fault> {
+    match answered {
+        Ok(()) => text.into_text(),
+        Err(fault) => {
+            drop(text);
+            Err(fault)
+        }
     }
 }
 
@@ -131,7 +149,11 @@ fn answers_of<A: Ledger + Send + Sync, B: Ledger, C: Ledger, W: Threads + Wait +
     // (kept until the program ends, as `answered` keeps its subject)
     let mut kept = unsafe { ManuallyDrop::new_unchecked(subject) };
     let offices = &mut *kept;
-    offices.answer_all(alloc, cases.as_str())
+    let mut answer = Answer::new(alloc);
+    let mut text = Answer::new(alloc);
+    let answered = offices.answer_all(alloc, cases.as_str(), &mut answer, &mut text);
+    drop(answer);
+    ended(answered, text)
 }
 
 /// The cases with their answers.

@@ -8,7 +8,7 @@ use std::alloc::{AllocError, Global};
 use std::fmt::Write;
 
 /// The words as a contract.
-pub fn contract(mut words: Words<'_>) -> Option<Call> {
+pub fn contract(mut words: Words<'_>) -> Option<Contract> {
     let (Some(portfolio), Some(day), Some(direction), Some(firm), Some(interruptible)) = (
         words.code(),
         words.day(),
@@ -18,13 +18,13 @@ pub fn contract(mut words: Words<'_>) -> Option<Call> {
     ) else {
         return None;
     };
-    Some(Call::Contract(Contract {
+    Some(Contract {
         portfolio,
         day,
         direction,
         firm,
         interruptible,
-    }))
+    })
 }
 
 /// The next word as thousandths.
@@ -88,7 +88,7 @@ fn long(alloc: Global, mut words: Words<'_>) -> Result<Option<Call>, Fault> {
 /// The call of this word.
 fn named(alloc: Global, word: &str, mut words: Words<'_>) -> Result<Option<Call>, Fault> {
     Ok(match word {
-        "contract" => contract(words),
+        "contract" => contract(words).map(Call::Contract),
         "notice" => notice(words),
         "submit" => Some(Call::Submit(body_of(alloc, words.rest())?)),
         "long" => return long(alloc, words),

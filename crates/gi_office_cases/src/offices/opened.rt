@@ -9,19 +9,22 @@ mod sessions;
 use super::calls::call_of;
 use super::opening::{Unopened, opened};
 use super::saving::{add_turn, book_call, fact_of, new_book};
-use super::seats::{asked, taken};
-use super::texts::{add_answered, add_entry, add_receipt, add_settled};
+use super::seats::{asked, count_notes, lose, put_back, taken};
+use super::texts::{add_answered, add_receipts, add_settled, add_told};
 use gi_calls::{Answer, Fault, Words};
 use gi_desk::{Fact, Role};
 use gi_office::{Office, OfficeFault, Receipt, Seat, Settled};
 use gi_store::BookStore;
 use sqlite::MemStore;
-use std::alloc::{AllocError, Global};
+use std::alloc::Global;
+use std::mem::ManuallyDrop;
 use std::sync::Wait;
 use std::sync::ledger::{Blank, Ledger};
 
+// What goes out of scope here is handed to `drop`, by one call, since it would be checked field by
+// field on each way out; what an office leaves behind is kept until the program ends.
+
 /// An office as far as it is.
-#[derive(Drop)]
 pub struct Opened<R: Role, L: Ledger> {
     unopened: Option<Unopened<L>>,
     /// What its desk is opened with.
@@ -32,6 +35,72 @@ pub struct Opened<R: Role, L: Ledger> {
     receipts: Vec<Receipt>,
     book: Option<BookStore<MemStore>>,
     pub settled: Option<Settled<R>>,
+}
+
+/// The receipt of this place.
+fn receipt_at(receipts: &[Receipt], place: u64) -> Option<&Receipt> {
+    receipts.iter().find(|it| it.place == place)
+}
+
+/// Keeps the receipt that a call was given.
+fn keep_receipt(
+    receipts: &mut Vec<Receipt>,
+    answer: Result<Receipt, OfficeFault>,
+) -> Result<(), Fault> {
+    if let Ok(receipt) = answer {
+        receipts.push(receipt)?;
+    }
+    Ok(())
+}
+
+/// Adds a fact to what a desk is opened with.
+fn add_fact(
+    alloc: Global,
+    facts: &mut Vec<Fact>,
+    fact: &str,
+    text: &mut Answer,
+) -> Result<bool, Fault> {
+    let Ok(fact) = fact_of(alloc, fact) else {
+        return Ok(false);
+    };
+    facts.push(fact)?;
+    text.add("ok");
+    Ok(true)
+}
+
+/// Opens a book in memory, or makes a call on it.
+fn call_book(
+    alloc: Global,
+    place: &mut Option<BookStore<MemStore>>,
+    line: &str,
+    text: &mut Answer,
+) -> bool {
+    if line == "book" {
+        let former = std::mem::replace(place, new_book(alloc));
+        let _former = unsafe { ManuallyDrop::new_unchecked(former) };
+        text.add("ok");
+        return true;
+    }
+    match place {
+        Some(book) => book_call(alloc, book, line, text),
+        None => false,
+    }
+}
+
+/// How many entries there are, once an office is settled.
+fn count_entries<R: Role>(settled: &Option<Settled<R>>, text: &mut Answer) -> bool {
+    let Some(settled) = settled else {
+        return false;
+    };
+    let count = settled.len();
+    text.show(&count);
+    true
+}
+
+/// Keeps what is left of an office in the place of what was left before.
+pub fn keep_settled<R: Role>(place: &mut Option<Settled<R>>, settled: Option<Settled<R>>) {
+    let former = std::mem::replace(place, settled);
+    let _former = unsafe { ManuallyDrop::new_unchecked(former) };
 }
 
 impl<R: Role, L: Ledger> Opened<R, L> {
@@ -51,38 +120,11 @@ impl<R: Role, L: Ledger> Opened<R, L> {
         }
     }
 
-    /// Keeps an office and its seats in the place of those before, which are let go here alone.
+    /// Keeps an office and its seats, of which there were none.
     fn keep(&mut self, office: Office<R, L>, seats: Vec<Seat<L>>) {
-        let _former = self.office.replace(office);
-        let _seats = std::mem::replace(&mut self.seats, seats);
-    }
-
-    /// Keeps what is left of an office, in the same way.
-    pub fn keep_settled(&mut self, settled: Option<Settled<R>>) {
-        let _former = std::mem::replace(&mut self.settled, settled);
-    }
-
-    /// Keeps a book, in the same way.
-    fn keep_book(&mut self, book: Option<BookStore<MemStore>>) {
-        let _former = std::mem::replace(&mut self.book, book);
-    }
-
-    /// Keeps the receipt that a call was given.
-    fn keep_receipt(&mut self, answer: Result<Receipt, OfficeFault>) -> Result<(), AllocError> {
-        if let Ok(receipt) = answer {
-            self.receipts.push(receipt)?;
-        }
-        Ok(())
-    }
-
-    /// Adds a fact to what the desk is opened with.
-    fn add_fact(&mut self, alloc: Global, fact: &str, text: &mut Answer) -> Result<bool, Fault> {
-        let Ok(fact) = fact_of(alloc, fact) else {
-            return Ok(false);
-        };
-        self.facts.push(fact)?;
-        text.add("ok");
-        Ok(true)
+        let _none = unsafe { ManuallyDrop::new_unchecked(self.office.replace(office)) };
+        let seats = std::mem::replace(&mut self.seats, seats);
+        let _seats = unsafe { ManuallyDrop::new_unchecked(seats) };
     }
 
     /// Opens it, once: the words are its point and how many seats it has.
@@ -112,13 +154,18 @@ impl<R: Role, L: Ledger> Opened<R, L> {
         let Some((number, call)) = call_of(alloc, line)? else {
             return Ok(false);
         };
-        let (Some(office), Some(seat)) = (&self.office, taken(&mut self.seats, number)) else {
+        let Some(office) = &self.office else {
+            drop(call);
+            return Ok(false);
+        };
+        let Some(seat) = taken(&mut self.seats, number) else {
+            drop(call);
             return Ok(false);
         };
         let (seat, answer) = asked(handle, office, seat, call);
         add_answered(&answer, text);
-        let kept = self.keep_receipt(answer);
-        self.seats.push(seat)?;
+        let kept = keep_receipt(&mut self.receipts, answer);
+        put_back(&mut self.seats, seat)?;
         kept?;
         Ok(true)
     }
@@ -153,46 +200,18 @@ impl<R: Role, L: Ledger> Opened<R, L> {
         let (seat, turn) = office.save_turn(handle, seat, book);
         add_turn(&turn, text);
         drop(turn);
-        self.seats.push(seat)?;
+        put_back(&mut self.seats, seat)?;
         Ok(true)
     }
 
     /// Waits for the fact of the receipt of this place.
     fn wait<W: Wait>(&self, handle: &W, place: u64, text: &mut Answer) -> bool {
-        let receipt = self.receipts.iter().find(|it| it.place == place);
+        let receipt = receipt_at(&self.receipts, place);
         let (Some(office), Some(receipt)) = (&self.office, receipt) else {
             return false;
         };
         let waited = office.wait_saved(handle, receipt);
         text.debug(&waited);
-        true
-    }
-
-    /// Adds the receipts that a seat was given.
-    fn add_receipts(&self, number: u8, text: &mut Answer) -> bool {
-        for receipt in self.receipts.iter().filter(|it| it.seat == number) {
-            add_receipt(receipt, text);
-        }
-        true
-    }
-
-    /// How many calls a seat noted.
-    fn count_notes(&self, number: u8, text: &mut Answer) -> bool {
-        let Some(seat) = self.seats.iter().find(|it| it.number() == number) else {
-            return false;
-        };
-        let count = seat.notes().len();
-        text.show(&count);
-        true
-    }
-
-    /// Loses a seat.
-    fn lose(&mut self, number: u8, text: &mut Answer) -> bool {
-        let seat = taken(&mut self.seats, number);
-        if seat.is_none() {
-            return false;
-        }
-        text.add("ok");
         true
     }
 
@@ -204,39 +223,7 @@ impl<R: Role, L: Ledger> Opened<R, L> {
         let seats = std::mem::replace(&mut self.seats, Vec::new(alloc));
         let settled = office.settle(seats);
         add_settled(&settled, text);
-        self.keep_settled(settled.ok());
-        true
-    }
-
-    /// How many entries there are, once it is settled.
-    fn count_entries(&self, text: &mut Answer) -> bool {
-        let Some(settled) = &self.settled else {
-            return false;
-        };
-        let count = settled.len();
-        text.show(&count);
-        true
-    }
-
-    /// The entry of this place, once it is settled.
-    fn entry(&self, place: u64, text: &mut Answer) -> bool {
-        let Some(settled) = &self.settled else {
-            return false;
-        };
-        match settled.entry(place) {
-            Some(entry) => add_entry(entry, text),
-            None => text.add("none"),
-        }
-        true
-    }
-
-    /// Whether a fact is saved, once it is settled.
-    fn acknowledged(&self, n: u8, text: &mut Answer) -> bool {
-        let Some(settled) = &self.settled else {
-            return false;
-        };
-        let is_saved = settled.desk().acknowledged(u32::from(n));
-        text.show(&is_saved);
+        keep_settled(&mut self.settled, settled.ok());
         true
     }
 
@@ -256,25 +243,20 @@ impl<R: Role, L: Ledger> Opened<R, L> {
         match word {
             "save_turn" => self.save(handle, number, text),
             "wait_saved" => Ok(self.wait(handle, u64::from(number), text)),
-            "receipts" => Ok(self.add_receipts(number, text)),
-            "notes" => Ok(self.count_notes(number, text)),
-            "lose" => Ok(self.lose(number, text)),
-            "entry" => Ok(self.entry(u64::from(number), text)),
-            "acknowledged" => Ok(self.acknowledged(number, text)),
+            "receipts" => {
+                add_receipts(&self.receipts, number, text);
+                Ok(true)
+            }
+            "notes" => Ok(count_notes(&self.seats, number, text)),
+            "lose" => Ok(lose(&mut self.seats, number, text)),
+            "entry" | "acknowledged" => {
+                let Some(settled) = &self.settled else {
+                    return Ok(false);
+                };
+                add_told(settled, word, number, text);
+                Ok(true)
+            }
             _ => self.call(handle, alloc, line, text),
-        }
-    }
-
-    /// Opens a book in memory, or makes a call on it.
-    fn call_book(&mut self, alloc: Global, line: &str, text: &mut Answer) -> bool {
-        if line == "book" {
-            self.keep_book(new_book(alloc));
-            text.add("ok");
-            return true;
-        }
-        match &mut self.book {
-            Some(book) => book_call(alloc, book, line, text),
-            None => false,
         }
     }
 
@@ -288,12 +270,12 @@ impl<R: Role, L: Ledger> Opened<R, L> {
     ) -> Result<bool, Fault> {
         let mut words = Words::of(line);
         match words.next() {
-            "fact" => self.add_fact(alloc, words.rest(), text),
+            "fact" => add_fact(alloc, &mut self.facts, words.rest(), text),
             "open" => Ok(self.open(alloc, words, text)),
             "settle" => Ok(self.settle(alloc, text)),
-            "entries" => Ok(self.count_entries(text)),
+            "entries" => Ok(count_entries(&self.settled, text)),
             "times" => self.repeat(handle, alloc, words, text),
-            "book" | "load" | "save_batch" => Ok(self.call_book(alloc, line, text)),
+            "book" | "load" | "save_batch" => Ok(call_book(alloc, &mut self.book, line, text)),
             _ => self.numbered(handle, alloc, line, text),
         }
     }

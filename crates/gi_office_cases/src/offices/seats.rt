@@ -1,5 +1,6 @@
 //! Calls from the seats.
 
+use gi_calls::{Answer, Fault};
 use gi_desk::{Call, Role};
 use gi_office::{Office, OfficeFault, Receipt, Seat};
 use std::sync::Wait;
@@ -12,6 +13,34 @@ pub fn taken<L: Ledger>(seats: &mut Vec<Seat<L>>, number: u8) -> Option<Seat<L>>
         Some(seats.swap_remove(place))
     } else {
         None
+    }
+}
+
+/// Puts a seat back among the others.
+pub fn put_back<L: Ledger>(seats: &mut Vec<Seat<L>>, seat: Seat<L>) -> Result<(), Fault> {
+    seats.push(seat)?;
+    Ok(())
+}
+
+/// Adds how many calls a seat noted.
+pub fn count_notes<L: Ledger>(seats: &[Seat<L>], number: u8, text: &mut Answer) -> bool {
+    let Some(seat) = seats.iter().find(|it| it.number() == number) else {
+        return false;
+    };
+    let count = seat.notes().len();
+    text.show(&count);
+    true
+}
+
+/// Loses a seat.
+pub fn lose<L: Ledger>(seats: &mut Vec<Seat<L>>, number: u8, text: &mut Answer) -> bool {
+    match taken(seats, number) {
+        Some(seat) => {
+            drop(seat);
+            text.add("ok");
+            true
+        }
+        None => false,
     }
 }
 

@@ -56,7 +56,7 @@ pub fn is_recorded(receipt: &Receipt) -> bool {
 }
 
 /// Adds an entry of the trail: its seat, and the reply.
-pub fn add_entry(entry: &Entry, text: &mut Answer) {
+fn add_entry(entry: &Entry, text: &mut Answer) {
     text.add("seat ");
     text.show(&entry.seat);
     text.add(" ");
@@ -68,6 +68,27 @@ pub fn add_answered(answer: &Result<Receipt, OfficeFault>, text: &mut Answer) {
     match answer {
         Ok(receipt) => add_receipt(receipt, text),
         Err(fault) => text.show(fault),
+    }
+}
+
+/// Adds the receipts that a seat was given.
+pub fn add_receipts(receipts: &[Receipt], seat: u8, text: &mut Answer) {
+    for receipt in receipts {
+        if receipt.seat == seat {
+            add_receipt(receipt, text);
+        }
+    }
+}
+
+/// Adds an entry of what is left of an office, or whether a fact is saved there.
+pub fn add_told<R: Role>(settled: &Settled<R>, word: &str, number: u8, text: &mut Answer) {
+    if word == "acknowledged" {
+        let is_saved = settled.desk().acknowledged(u32::from(number));
+        return text.show(&is_saved);
+    }
+    match settled.entry(u64::from(number)) {
+        Some(entry) => add_entry(entry, text),
+        None => text.add("none"),
     }
 }
 

@@ -1,15 +1,16 @@
 //! Two threads that call one office, each from its seat.
 
-use super::Opened;
+use super::{Opened, receipt_at};
 use crate::offices::calls::contract;
 use crate::offices::documents::documents;
 use crate::offices::saving::add_turn;
-use crate::offices::seats::{asked, taken};
+use crate::offices::seats::{put_back, taken};
 use crate::offices::texts::{add_answered, is_recorded};
 use gi_calls::{Answer, Fault, Words};
-use gi_desk::Call;
+use gi_desk::Body;
 use gi_initiator::Initiating;
-use gi_office::{Office, Receipt, Seat, Waited};
+use gi_office::{Office, OfficeFault, Receipt, Seat, Waited};
+use gi_processing::Contract;
 use gi_store::BookStore;
 use sqlite::MemStore;
 use std::alloc::Global;
@@ -20,18 +21,45 @@ use std::thread;
 use std::thread::Threads;
 use std::time::Duration;
 
-/// The calls of one thread: the contract of the words, and then so many documents of its portfolio.
-fn calls_of(alloc: Global, words: Words<'_>, count: u32) -> Result<Option<Vec<Call>>, Fault> {
-    let mut portfolio = words;
-    let (Some(contract), Some(portfolio)) = (contract(words), portfolio.code()) else {
-        return Ok(None);
+/// What one thread calls: a contract, and then so many documents of its portfolio.
+#[derive(Drop)]
+struct Calls {
+    contract: Contract,
+    bodies: Vec<Body>,
+}
+
+/// The calls of two threads.
+fn calls_of(
+    alloc: Global,
+    first: Contract,
+    second: Contract,
+    count: u32,
+) -> Result<(Calls, Calls), Fault> {
+    let bodies = documents(alloc, first.portfolio, count)?;
+    let one = Calls {
+        contract: first,
+        bodies,
     };
-    let mut calls = Vec::new(alloc);
-    calls.push(contract)?;
-    for body in documents(alloc, portfolio, count)? {
-        calls.push(Call::Submit(body))?;
+    match documents(alloc, second.portfolio, count) {
+        Ok(bodies) => {
+            let two = Calls {
+                contract: second,
+                bodies,
+            };
+            Ok((one, two))
+        }
+        Err(fault) => {
+            drop(one);
+            Err(fault)
+        }
     }
-    Ok(Some(calls))
+}
+
+/// How many facts a call recorded: one, or none.
+fn recorded(answer: Result<Receipt, OfficeFault>) -> u32 {
+    let is_one = matches!(&answer, Ok(receipt) if is_recorded(receipt));
+    drop(answer);
+    u32::from(is_one)
 }
 
 /// Makes the calls from the seat: how many of them recorded a fact.
@@ -39,16 +67,14 @@ fn made_all<L: Ledger, W: Wait>(
     handle: &W,
     office: &Office<Initiating, L>,
     seat: Seat<L>,
-    calls: Vec<Call>,
+    calls: Calls,
 ) -> (Seat<L>, u32) {
-    let mut seat = seat;
-    let mut count = 0u32;
-    for call in calls {
-        let (back, answer) = asked(handle, office, seat, call);
+    let (mut seat, answer) = office.contract(handle, seat, calls.contract);
+    let mut count = recorded(answer);
+    for body in calls.bodies {
+        let (back, answer) = office.submit(handle, seat, body);
         seat = back;
-        if matches!(&answer, Ok(receipt) if is_recorded(receipt)) {
-            count = count.wrapping_add(1);
-        }
+        count = count.wrapping_add(recorded(answer));
     }
     (seat, count)
 }
@@ -58,15 +84,45 @@ fn both_made<L: Ledger + Send + Sync, T: Threads + Wait + Sync>(
     handle: &T,
     office: &Office<Initiating, L>,
     one: Seat<L>,
-    first: Vec<Call>,
+    first: Calls,
     two: Seat<L>,
-    second: Vec<Call>,
+    second: Calls,
 ) -> ((Seat<L>, u32), (Seat<L>, u32)) {
     thread::join(
         handle,
         move || made_all(handle, office, one, first),
         move || made_all(handle, office, two, second),
     )
+}
+
+/// How many documents each of two threads submits, and their contracts.
+fn both_of(mut words: Words<'_>) -> Option<(u32, Contract, Contract)> {
+    let count = words.number()?;
+    let (one, two) = words.rest().split_once(" | ")?;
+    Some((count, contract(Words::of(one))?, contract(Words::of(two))?))
+}
+
+/// The receipt that is waited for, whether the desk is halted, and the seat from which it is called.
+fn wait_of(mut words: Words<'_>) -> Option<(u64, bool, u8)> {
+    let place = words.number()?;
+    let is_halt = match words.next() {
+        "halt" => true,
+        "save_turn" => false,
+        _ => return None,
+    };
+    Some((u64::from(place), is_halt, words.byte()?))
+}
+
+/// Takes the seats 1 and 2.
+fn both_taken<L: Ledger>(seats: &mut Vec<Seat<L>>) -> Option<(Seat<L>, Seat<L>)> {
+    let one = taken(seats, 1)?;
+    match taken(seats, 2) {
+        Some(two) => Some((one, two)),
+        None => {
+            drop(one);
+            None
+        }
+    }
 }
 
 /// Halts the desk, or makes a turn that saves, a while after: the seat, and what the call answers.
@@ -112,21 +168,24 @@ impl<L: Ledger + Send + Sync> Opened<Initiating, L> {
     fn make_both<T: Threads + Wait + Sync>(
         &mut self,
         handle: &T,
-        first: Vec<Call>,
-        second: Vec<Call>,
+        first: Calls,
+        second: Calls,
         text: &mut Answer,
     ) -> Result<bool, Fault> {
         let Some(office) = &self.office else {
+            drop((first, second));
             return Ok(false);
         };
-        let (Some(one), Some(two)) = (taken(&mut self.seats, 1), taken(&mut self.seats, 2)) else {
+        let Some((one, two)) = both_taken(&mut self.seats) else {
+            drop((first, second));
             return Ok(false);
         };
         let ((one, first), (two, second)) = both_made(handle, office, one, first, two, second);
         text.word(&first);
         text.word(&second);
-        self.seats.push(one)?;
-        self.seats.push(two)?;
+        let kept = put_back(&mut self.seats, one);
+        put_back(&mut self.seats, two)?;
+        kept?;
         Ok(true)
     }
 
@@ -136,19 +195,13 @@ impl<L: Ledger + Send + Sync> Opened<Initiating, L> {
         &mut self,
         handle: &T,
         alloc: Global,
-        mut words: Words<'_>,
+        words: Words<'_>,
         text: &mut Answer,
     ) -> Result<bool, Fault> {
-        let (Some(count), Some((one, two))) = (words.number(), words.rest().split_once(" | "))
-        else {
+        let Some((count, one, two)) = both_of(words) else {
             return Ok(false);
         };
-        let Some(first) = calls_of(alloc, Words::of(one), count)? else {
-            return Ok(false);
-        };
-        let Some(second) = calls_of(alloc, Words::of(two), count)? else {
-            return Ok(false);
-        };
+        let (first, second) = calls_of(alloc, one, two, count)?;
         self.make_both(handle, first, second, text)
     }
 
@@ -163,7 +216,7 @@ impl<L: Ledger + Send + Sync> Opened<Initiating, L> {
         is_halt: bool,
         text: &mut Answer,
     ) -> Result<bool, Fault> {
-        let receipt = self.receipts.iter().find(|it| it.place == place);
+        let receipt = receipt_at(&self.receipts, place);
         let (Some(office), Some(receipt), Some(book)) = (&self.office, receipt, &mut self.book)
         else {
             return Ok(false);
@@ -177,7 +230,8 @@ impl<L: Ledger + Send + Sync> Opened<Initiating, L> {
         text.debug(&waited);
         text.end_line();
         text.append(&said);
-        self.seats.push(seat)?;
+        drop(said);
+        put_back(&mut self.seats, seat)?;
         Ok(true)
     }
 
@@ -187,26 +241,18 @@ impl<L: Ledger + Send + Sync> Opened<Initiating, L> {
         &mut self,
         handle: &T,
         alloc: Global,
-        mut words: Words<'_>,
+        words: Words<'_>,
         text: &mut Answer,
     ) -> Result<bool, Fault> {
-        let (Some(place), word, Some(number)) = (words.number(), words.next(), words.byte()) else {
-            return Ok(false);
-        };
-        if word != "halt" && word != "save_turn" {
-            return Ok(false);
+        match wait_of(words) {
+            Some((place, is_halt, number)) => {
+                self.wait_until(handle, alloc, place, number, is_halt, text)
+            }
+            None => Ok(false),
         }
-        self.wait_until(
-            handle,
-            alloc,
-            u64::from(place),
-            number,
-            word == "halt",
-            text,
-        )
     }
 
-    /// Makes a call of several threads and adds its answer. `false` where the line is none.
+    /// Makes a call, of several threads too, and adds its answer. `false` where the line is none.
     pub fn answer_by_threads<T: Threads + Wait + Clock + Sync>(
         &mut self,
         handle: &T,
@@ -219,7 +265,7 @@ impl<L: Ledger + Send + Sync> Opened<Initiating, L> {
             "both_submit" => self.both_submit(handle, alloc, words, text),
             "wait_beside" => self.wait_beside(handle, alloc, words, text),
             "serve" => self.serve(handle, alloc, words, text),
-            _ => Ok(false),
+            _ => self.answer(handle, alloc, line, text),
         }
     }
 }

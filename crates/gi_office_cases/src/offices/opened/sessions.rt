@@ -3,10 +3,11 @@
 use super::Opened;
 use crate::offices::documents::documents;
 use crate::offices::gates::{FirstOnce, SecondFirst};
-use crate::offices::seats::taken;
+use crate::offices::seats::{put_back, taken};
 use crate::offices::texts::is_recorded;
 use crossbeam_channel::{Receiver, unbounded};
 use gi_calls::{Answer, Fault, Words};
+use gi_desk::Body;
 use gi_initiator::Initiating;
 use gi_office::{Gate, Receipt, Seat, Served, Session, Waker};
 use gi_pairs::{Code, Side};
@@ -16,19 +17,63 @@ use std::sync::Wait;
 use std::sync::ledger::Ledger;
 use std::thread::Threads;
 
-/// A session from the seat, which submits so many documents of the portfolio P and the seat's number.
-fn session_of<L: Ledger>(
-    alloc: Global,
-    seat: Seat<L>,
-    each: u32,
-) -> Result<Option<Session<L>>, Fault> {
-    let number = seat.number();
+/// So many documents of the portfolio P and the number.
+fn bodies_of(alloc: Global, number: u8, each: u32) -> Result<Option<Vec<Body>>, Fault> {
     let portfolio = format!(in alloc; "P{number}")?;
-    let Ok(portfolio) = Code::read(portfolio.as_str()) else {
-        return Ok(None);
+    match Code::read(portfolio.as_str()) {
+        Ok(portfolio) => Ok(Some(documents(alloc, portfolio, each)?)),
+        Err(_) => Ok(None),
+    }
+}
+
+/// Adds a session from the seat of this number, which submits so many documents.
+fn add_session<L: Ledger>(
+    alloc: Global,
+    seats: &mut Vec<Seat<L>>,
+    number: u8,
+    each: u32,
+    sessions: &mut Vec<Session<L>>,
+) -> Result<bool, Fault> {
+    let Some(bodies) = bodies_of(alloc, number, each)? else {
+        return Ok(false);
     };
-    let bodies = documents(alloc, portfolio, each)?;
-    Ok(Some(Session::new(seat, bodies)))
+    let Some(seat) = taken(seats, number) else {
+        drop(bodies);
+        return Ok(false);
+    };
+    sessions.push(Session::new(seat, bodies))?;
+    Ok(true)
+}
+
+/// Adds sessions from so many seats, from the first on.
+fn add_sessions<L: Ledger>(
+    alloc: Global,
+    seats: &mut Vec<Seat<L>>,
+    each: u32,
+    count: u8,
+    sessions: &mut Vec<Session<L>>,
+) -> Result<bool, Fault> {
+    for before in 0..count {
+        if !add_session(alloc, seats, before.wrapping_add(1), each, sessions)? {
+            return Ok(false);
+        }
+    }
+    Ok(true)
+}
+
+/// Keeps the receipts that a session was given. Adds how many facts it recorded.
+fn keep_receipts(
+    receipts: &mut Vec<Receipt>,
+    given: Vec<Receipt>,
+    text: &mut Answer,
+) -> Result<(), Fault> {
+    let mut given = given;
+    let count = given.iter().filter(|it| is_recorded(it)).count();
+    text.word(&count);
+    let kept = receipts.append(&mut given);
+    drop(given);
+    kept?;
+    Ok(())
 }
 
 /// Adds how many notices there are of each side, once nobody sends any more.
@@ -48,53 +93,27 @@ fn add_notices<W: Wait>(handle: &W, receiver: Receiver<Side>, text: &mut Answer)
 }
 
 impl<L: Ledger + Send + Sync> Opened<Initiating, L> {
-    /// Sessions from so many seats, from the first on.
-    fn sessions(
-        &mut self,
-        alloc: Global,
-        each: u32,
-        count: u8,
-    ) -> Result<Option<Vec<Session<L>>>, Fault> {
-        let mut sessions = Vec::new(alloc);
-        for before in 0..count {
-            let Some(seat) = taken(&mut self.seats, before.wrapping_add(1)) else {
-                return Ok(None);
-            };
-            let Some(session) = session_of(alloc, seat, each)? else {
-                return Ok(None);
-            };
-            sessions.push(session)?;
-        }
-        Ok(Some(sessions))
-    }
-
     /// Keeps the seat and the receipts of a session. Adds how many facts it recorded, and its fault.
     fn keep_served(&mut self, served: Served<L>, text: &mut Answer) -> Result<(), Fault> {
         let (seat, receipts, fault) = served.into_parts();
-        self.seats.push(seat)?;
-        let count = receipts.iter().filter(|it| is_recorded(it)).count();
-        text.word(&count);
+        let kept = keep_receipts(&mut self.receipts, receipts, text);
         if let Some(fault) = fault {
             text.word(&fault);
         }
-        self.keep_receipts(receipts)
-    }
-
-    /// Keeps the receipts that a session was given.
-    fn keep_receipts(&mut self, receipts: Vec<Receipt>) -> Result<(), Fault> {
-        for receipt in receipts {
-            self.receipts.push(receipt)?;
-        }
-        Ok(())
+        put_back(&mut self.seats, seat)?;
+        kept
     }
 
     /// Keeps what came of all sessions.
     fn keep_all(&mut self, served: Vec<Served<L>>, text: &mut Answer) -> Result<bool, Fault> {
         text.add("recorded");
+        let mut kept = Ok(true);
         for one in served {
-            self.keep_served(one, text)?;
+            if let Err(fault) = self.keep_served(one, text) {
+                kept = Err(fault);
+            }
         }
-        Ok(true)
+        kept
     }
 
     /// Serves the sessions by the gate: `recorded`, and how many facts each of them recorded.
@@ -106,11 +125,15 @@ impl<L: Ledger + Send + Sync> Opened<Initiating, L> {
         text: &mut Answer,
     ) -> Result<bool, Fault> {
         let Some(office) = &self.office else {
+            drop(sessions);
             return Ok(false);
         };
         match office.serve(handle, gate, sessions) {
             Ok(served) => self.keep_all(served, text),
-            Err(_) => Err(Fault::OutOfMemory),
+            Err(refused) => {
+                drop(refused);
+                Err(Fault::OutOfMemory)
+            }
         }
     }
 
@@ -123,13 +146,14 @@ impl<L: Ledger + Send + Sync> Opened<Initiating, L> {
         text: &mut Answer,
     ) -> Result<bool, Fault> {
         let Ok((sender, receiver)) = unbounded(alloc) else {
+            drop(sessions);
             return Err(Fault::OutOfMemory);
         };
         let waker = Waker::new(Side::I, sender);
-        let is_served = self.serve_by(handle, &waker, sessions, text)?;
+        let served = self.serve_by(handle, &waker, sessions, text);
         drop(waker);
         add_notices(handle, receiver, text);
-        Ok(is_served)
+        served
     }
 
     /// Serves the sessions by the gate of this name.
@@ -145,7 +169,10 @@ impl<L: Ledger + Send + Sync> Opened<Initiating, L> {
             "second_first" => self.serve_by(handle, &SecondFirst::new(handle), sessions, text),
             "first_once" => self.serve_by(handle, &FirstOnce, sessions, text),
             "waker" => self.serve_by_waker(handle, alloc, sessions, text),
-            _ => Ok(false),
+            _ => {
+                drop(sessions);
+                Ok(false)
+            }
         }
     }
 
@@ -162,9 +189,13 @@ impl<L: Ledger + Send + Sync> Opened<Initiating, L> {
         let (Some(each), Some(count)) = (words.number(), words.byte()) else {
             return Ok(false);
         };
-        match self.sessions(alloc, each, count)? {
-            Some(sessions) => self.serve_by_name(handle, alloc, gate, sessions, text),
-            None => Ok(false),
+        let mut sessions = Vec::new(alloc);
+        match add_sessions(alloc, &mut self.seats, each, count, &mut sessions) {
+            Ok(true) => self.serve_by_name(handle, alloc, gate, sessions, text),
+            refused => {
+                drop(sessions);
+                refused
+            }
         }
     }
 }
