@@ -41,6 +41,8 @@ fn joined(
 ) -> bool {
     let later = later.take();
     let Some(life) = former.take() else {
+        // (handed to `drop`, by one call: going out of scope here would be checked field by field
+        // on each way out)
         drop(later);
         return false;
     };

@@ -103,6 +103,187 @@ pub fn keep_settled<R: Role>(place: &mut Option<Settled<R>>, settled: Option<Set
     let _former = unsafe { ManuallyDrop::new_unchecked(former) };
 }
 
+/// Opens an office, once: the words are its point and how many seats it has.
+fn open<R: Role, L: Ledger>(
+    alloc: Global,
+    unopened: &mut Option<Unopened<L>>,
+    facts: &mut Vec<Fact>,
+    place: &mut Option<Office<R, L>>,
+    places: &mut Vec<Seat<L>>,
+    mut words: Words<'_>,
+    text: &mut Answer,
+) -> bool {
+    let (Some(point), Some(count)) = (words.code(), words.number()) else {
+        return false;
+    };
+    let Some(unopened) = unopened.take() else {
+        return false;
+    };
+    let facts = std::mem::replace(facts, Vec::new(alloc));
+    if let Some((office, seats)) = opened(alloc, unopened, point, facts, count as usize, text) {
+        let _none = unsafe { ManuallyDrop::new_unchecked(place.replace(office)) };
+        let none = std::mem::replace(places, seats);
+        let _none = unsafe { ManuallyDrop::new_unchecked(none) };
+        text.add("ok");
+    }
+    true
+}
+
+/// Settles an office with the seats that are here.
+fn settle<R: Role, L: Ledger>(
+    alloc: Global,
+    office: &mut Option<Office<R, L>>,
+    seats: &mut Vec<Seat<L>>,
+    place: &mut Option<Settled<R>>,
+    text: &mut Answer,
+) -> bool {
+    let Some(office) = office.take() else {
+        return false;
+    };
+    let seats = std::mem::replace(seats, Vec::new(alloc));
+    let settled = office.settle(seats);
+    add_settled(&settled, text);
+    keep_settled(place, settled.ok());
+    true
+}
+
+/// What is told of a number: of a seat, of an entry or of a fact.
+fn told<R: Role, L: Ledger>(
+    receipts: &[Receipt],
+    seats: &mut Vec<Seat<L>>,
+    settled: &Option<Settled<R>>,
+    line: &str,
+    text: &mut Answer,
+) -> bool {
+    let mut words = Words::of(line);
+    let word = words.next();
+    let Some(number) = words.byte() else {
+        return false;
+    };
+    match word {
+        "receipts" => {
+            add_receipts(receipts, number, text);
+            true
+        }
+        "notes" => count_notes(seats, number, text),
+        "lose" => lose(seats, number, text),
+        _ => match settled {
+            Some(settled) => {
+                add_told(settled, word, number, text);
+                true
+            }
+            None => false,
+        },
+    }
+}
+
+/// Makes a call from a seat.
+fn call<R: Role, L: Ledger, W: Wait>(
+    handle: &W,
+    alloc: Global,
+    office: &Office<R, L>,
+    seats: &mut Vec<Seat<L>>,
+    receipts: &mut Vec<Receipt>,
+    line: &str,
+    text: &mut Answer,
+) -> Result<bool, Fault> {
+    let Some((number, call)) = call_of(alloc, line)? else {
+        return Ok(false);
+    };
+    let Some(seat) = taken(seats, number) else {
+        drop(call);
+        return Ok(false);
+    };
+    let (seat, answer) = asked(handle, office, seat, call);
+    add_answered(&answer, text);
+    let kept = keep_receipt(receipts, answer);
+    put_back(seats, seat)?;
+    kept?;
+    Ok(true)
+}
+
+/// Makes a call so often from its seat; the answer is that of the last time.
+fn repeat<R: Role, L: Ledger, W: Wait>(
+    handle: &W,
+    alloc: Global,
+    office: &Office<R, L>,
+    seats: &mut Vec<Seat<L>>,
+    receipts: &mut Vec<Receipt>,
+    mut words: Words<'_>,
+    text: &mut Answer,
+) -> Result<bool, Fault> {
+    let count = words.byte().unwrap_or(0);
+    let line = words.rest();
+    for _ in 0..count {
+        text.clear();
+        if !call(handle, alloc, office, seats, receipts, line, text)? {
+            return Ok(false);
+        }
+    }
+    Ok(count > 0)
+}
+
+/// Makes a turn that saves from a seat.
+fn save<R: Role, L: Ledger, W: Wait>(
+    handle: &W,
+    office: &Office<R, L>,
+    seats: &mut Vec<Seat<L>>,
+    book: &mut BookStore<MemStore>,
+    number: u8,
+    text: &mut Answer,
+) -> Result<bool, Fault> {
+    let Some(seat) = taken(seats, number) else {
+        return Ok(false);
+    };
+    let (seat, turn) = office.save_turn(handle, seat, book);
+    add_turn(&turn, text);
+    drop(turn);
+    put_back(seats, seat)?;
+    Ok(true)
+}
+
+/// Waits for the fact of the receipt of this place.
+fn wait<R: Role, L: Ledger, W: Wait>(
+    handle: &W,
+    office: &Office<R, L>,
+    receipts: &[Receipt],
+    place: u64,
+    text: &mut Answer,
+) -> bool {
+    let Some(receipt) = receipt_at(receipts, place) else {
+        return false;
+    };
+    let waited = office.wait_saved(handle, receipt);
+    text.debug(&waited);
+    true
+}
+
+/// Makes a call on an office that is open.
+fn on_office<R: Role, L: Ledger, W: Wait>(
+    handle: &W,
+    alloc: Global,
+    office: &Office<R, L>,
+    seats: &mut Vec<Seat<L>>,
+    receipts: &mut Vec<Receipt>,
+    book: &mut Option<BookStore<MemStore>>,
+    line: &str,
+    text: &mut Answer,
+) -> Result<bool, Fault> {
+    let mut words = Words::of(line);
+    match words.next() {
+        "times" => repeat(handle, alloc, office, seats, receipts, words, text),
+        "wait_saved" => match words.byte() {
+            Some(place) => Ok(wait(handle, office, receipts, u64::from(place), text)),
+            None => Ok(false),
+        },
+        "save_turn" => match (book, words.byte()) {
+            (Some(book), Some(number)) => save(handle, office, seats, book, number, text),
+            _ => Ok(false),
+        },
+        _ => call(handle, alloc, office, seats, receipts, line, text),
+    }
+}
+
 impl<R: Role, L: Ledger> Opened<R, L> {
     pub fn of(alloc: Global, blank: Blank) -> Opened<R, L>
         requires name { blank.name ≡ L.name }
@@ -120,146 +301,6 @@ impl<R: Role, L: Ledger> Opened<R, L> {
         }
     }
 
-    /// Keeps an office and its seats, of which there were none.
-    fn keep(&mut self, office: Office<R, L>, seats: Vec<Seat<L>>) {
-        let _none = unsafe { ManuallyDrop::new_unchecked(self.office.replace(office)) };
-        let seats = std::mem::replace(&mut self.seats, seats);
-        let _seats = unsafe { ManuallyDrop::new_unchecked(seats) };
-    }
-
-    /// Opens it, once: the words are its point and how many seats it has.
-    fn open(&mut self, alloc: Global, mut words: Words<'_>, text: &mut Answer) -> bool {
-        let (Some(point), Some(count)) = (words.code(), words.number()) else {
-            return false;
-        };
-        let Some(unopened) = self.unopened.take() else {
-            return false;
-        };
-        let facts = std::mem::replace(&mut self.facts, Vec::new(alloc));
-        if let Some((office, seats)) = opened(alloc, unopened, point, facts, count as usize, text) {
-            self.keep(office, seats);
-            text.add("ok");
-        }
-        true
-    }
-
-    /// Makes a call from a seat.
-    fn call<W: Wait>(
-        &mut self,
-        handle: &W,
-        alloc: Global,
-        line: &str,
-        text: &mut Answer,
-    ) -> Result<bool, Fault> {
-        let Some((number, call)) = call_of(alloc, line)? else {
-            return Ok(false);
-        };
-        let Some(office) = &self.office else {
-            drop(call);
-            return Ok(false);
-        };
-        let Some(seat) = taken(&mut self.seats, number) else {
-            drop(call);
-            return Ok(false);
-        };
-        let (seat, answer) = asked(handle, office, seat, call);
-        add_answered(&answer, text);
-        let kept = keep_receipt(&mut self.receipts, answer);
-        put_back(&mut self.seats, seat)?;
-        kept?;
-        Ok(true)
-    }
-
-    /// Makes a call so often from its seat; the answer is that of the last time.
-    fn repeat<W: Wait>(
-        &mut self,
-        handle: &W,
-        alloc: Global,
-        mut words: Words<'_>,
-        text: &mut Answer,
-    ) -> Result<bool, Fault> {
-        let count = words.byte().unwrap_or(0);
-        let line = words.rest();
-        for _ in 0..count {
-            text.clear();
-            if !self.call(handle, alloc, line, text)? {
-                return Ok(false);
-            }
-        }
-        Ok(count > 0)
-    }
-
-    /// Makes a turn that saves from a seat.
-    fn save<W: Wait>(&mut self, handle: &W, number: u8, text: &mut Answer) -> Result<bool, Fault> {
-        let (Some(office), Some(book)) = (&self.office, &mut self.book) else {
-            return Ok(false);
-        };
-        let Some(seat) = taken(&mut self.seats, number) else {
-            return Ok(false);
-        };
-        let (seat, turn) = office.save_turn(handle, seat, book);
-        add_turn(&turn, text);
-        drop(turn);
-        put_back(&mut self.seats, seat)?;
-        Ok(true)
-    }
-
-    /// Waits for the fact of the receipt of this place.
-    fn wait<W: Wait>(&self, handle: &W, place: u64, text: &mut Answer) -> bool {
-        let receipt = receipt_at(&self.receipts, place);
-        let (Some(office), Some(receipt)) = (&self.office, receipt) else {
-            return false;
-        };
-        let waited = office.wait_saved(handle, receipt);
-        text.debug(&waited);
-        true
-    }
-
-    /// Settles it with the seats that are here.
-    fn settle(&mut self, alloc: Global, text: &mut Answer) -> bool {
-        let Some(office) = self.office.take() else {
-            return false;
-        };
-        let seats = std::mem::replace(&mut self.seats, Vec::new(alloc));
-        let settled = office.settle(seats);
-        add_settled(&settled, text);
-        keep_settled(&mut self.settled, settled.ok());
-        true
-    }
-
-    /// Makes a call whose word a number follows.
-    fn numbered<W: Wait>(
-        &mut self,
-        handle: &W,
-        alloc: Global,
-        line: &str,
-        text: &mut Answer,
-    ) -> Result<bool, Fault> {
-        let mut words = Words::of(line);
-        let word = words.next();
-        let Some(number) = words.byte() else {
-            return Ok(false);
-        };
-        match word {
-            "save_turn" => self.save(handle, number, text),
-            "wait_saved" => Ok(self.wait(handle, u64::from(number), text)),
-            "receipts" => {
-                add_receipts(&self.receipts, number, text);
-                Ok(true)
-            }
-            "notes" => Ok(count_notes(&self.seats, number, text)),
-            "lose" => Ok(lose(&mut self.seats, number, text)),
-            "entry" | "acknowledged" => {
-                let Some(settled) = &self.settled else {
-                    return Ok(false);
-                };
-                add_told(settled, word, number, text);
-                Ok(true)
-            }
-            _ => self.call(handle, alloc, line, text),
-        }
-    }
-
     /// Makes the call of a line and adds its answer. `false` where it is none.
     pub fn answer<W: Wait>(
         &mut self,
@@ -271,12 +312,40 @@ impl<R: Role, L: Ledger> Opened<R, L> {
         let mut words = Words::of(line);
         match words.next() {
             "fact" => add_fact(alloc, &mut self.facts, words.rest(), text),
-            "open" => Ok(self.open(alloc, words, text)),
-            "settle" => Ok(self.settle(alloc, text)),
+            "open" => Ok(open(
+                alloc,
+                &mut self.unopened,
+                &mut self.facts,
+                &mut self.office,
+                &mut self.seats,
+                words,
+                text,
+            )),
+            "settle" => Ok(settle(
+                alloc,
+                &mut self.office,
+                &mut self.seats,
+                &mut self.settled,
+                text,
+            )),
             "entries" => Ok(count_entries(&self.settled, text)),
-            "times" => self.repeat(handle, alloc, words, text),
             "book" | "load" | "save_batch" => Ok(call_book(alloc, &mut self.book, line, text)),
-            _ => self.numbered(handle, alloc, line, text),
+            "receipts" | "notes" | "lose" | "entry" | "acknowledged" => {
+                Ok(told(&self.receipts, &mut self.seats, &self.settled, line, text))
+            }
+            _ => match &self.office {
+                Some(office) => on_office(
+                    handle,
+                    alloc,
+                    office,
+                    &mut self.seats,
+                    &mut self.receipts,
+                    &mut self.book,
+                    line,
+                    text,
+                ),
+                None => Ok(false),
+            },
         }
     }
 }

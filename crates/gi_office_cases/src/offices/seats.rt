@@ -36,6 +36,8 @@ pub fn count_notes<L: Ledger>(seats: &[Seat<L>], number: u8, text: &mut Answer) 
 pub fn lose<L: Ledger>(seats: &mut Vec<Seat<L>>, number: u8, text: &mut Answer) -> bool {
     match taken(seats, number) {
         Some(seat) => {
+            // (handed to `drop`, by one call: going out of scope here would be checked field by
+            // field on each way out)
             drop(seat);
             text.add("ok");
             true

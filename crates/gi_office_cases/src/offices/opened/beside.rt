@@ -1,5 +1,6 @@
 //! Two threads that call one office, each from its seat.
 
+use super::sessions::serve;
 use super::{Opened, receipt_at};
 use crate::offices::calls::contract;
 use crate::offices::documents::documents;
@@ -49,6 +50,8 @@ fn calls_of(
             Ok((one, two))
         }
         Err(fault) => {
+            // (handed to `drop`, by one call: going out of scope here would be checked field by
+            // field on each way out)
             drop(one);
             Err(fault)
         }
@@ -163,95 +166,122 @@ fn waited_beside<L: Ledger + Send + Sync, T: Threads + Wait + Clock + Sync>(
     )
 }
 
-impl<L: Ledger + Send + Sync> Opened<Initiating, L> {
-    /// Makes calls from the seats 1 and 2 at the same time.
-    fn make_both<T: Threads + Wait + Sync>(
-        &mut self,
-        handle: &T,
-        first: Calls,
-        second: Calls,
-        text: &mut Answer,
-    ) -> Result<bool, Fault> {
-        let Some(office) = &self.office else {
-            drop((first, second));
-            return Ok(false);
-        };
-        let Some((one, two)) = both_taken(&mut self.seats) else {
-            drop((first, second));
-            return Ok(false);
-        };
-        let ((one, first), (two, second)) = both_made(handle, office, one, first, two, second);
-        text.word(&first);
-        text.word(&second);
-        let kept = put_back(&mut self.seats, one);
-        put_back(&mut self.seats, two)?;
-        kept?;
-        Ok(true)
-    }
+/// Keeps two seats. Adds how many facts each recorded.
+fn keep_both<L: Ledger>(
+    seats: &mut Vec<Seat<L>>,
+    (one, first): (Seat<L>, u32),
+    (two, second): (Seat<L>, u32),
+    text: &mut Answer,
+) -> Result<bool, Fault> {
+    text.word(&first);
+    text.word(&second);
+    let kept = put_back(seats, one);
+    put_back(seats, two)?;
+    kept?;
+    Ok(true)
+}
 
-    /// `both_submit COUNT CONTRACT | CONTRACT`: two threads, from the seats 1 and 2, each record a
-    /// contract and submit so many documents of its portfolio. How many facts each recorded.
-    fn both_submit<T: Threads + Wait + Sync>(
-        &mut self,
-        handle: &T,
-        alloc: Global,
-        words: Words<'_>,
-        text: &mut Answer,
-    ) -> Result<bool, Fault> {
-        let Some((count, one, two)) = both_of(words) else {
-            return Ok(false);
-        };
-        let (first, second) = calls_of(alloc, one, two, count)?;
-        self.make_both(handle, first, second, text)
-    }
+/// Makes calls from the seats 1 and 2 at the same time.
+fn make_both<L: Ledger + Send + Sync, T: Threads + Wait + Sync>(
+    handle: &T,
+    office: &Office<Initiating, L>,
+    seats: &mut Vec<Seat<L>>,
+    first: Calls,
+    second: Calls,
+    text: &mut Answer,
+) -> Result<bool, Fault> {
+    let Some((one, two)) = both_taken(seats) else {
+        drop((first, second));
+        return Ok(false);
+    };
+    let (one, two) = both_made(handle, office, one, first, two, second);
+    keep_both(seats, one, two, text)
+}
 
-    /// Waits for the fact of the receipt of this place until the call is made from the seat. The answer
-    /// is what became of the fact, and in the next line that of the call.
-    fn wait_until<T: Threads + Wait + Clock + Sync>(
-        &mut self,
-        handle: &T,
-        alloc: Global,
-        place: u64,
-        number: u8,
-        is_halt: bool,
-        text: &mut Answer,
-    ) -> Result<bool, Fault> {
-        let receipt = receipt_at(&self.receipts, place);
-        let (Some(office), Some(receipt), Some(book)) = (&self.office, receipt, &mut self.book)
-        else {
-            return Ok(false);
-        };
-        let Some(seat) = taken(&mut self.seats, number) else {
-            return Ok(false);
-        };
-        let (waited, (seat, said)) = waited_beside(
-            handle, alloc, office, receipt, seat, book, is_halt,
-        );
-        text.debug(&waited);
-        text.end_line();
-        text.append(&said);
-        drop(said);
-        put_back(&mut self.seats, seat)?;
-        Ok(true)
-    }
+/// Keeps a seat. Adds what a call from it answered.
+fn keep_ended<L: Ledger>(
+    seats: &mut Vec<Seat<L>>,
+    seat: Seat<L>,
+    said: Answer,
+    text: &mut Answer,
+) -> Result<bool, Fault> {
+    text.append(&said);
+    drop(said);
+    put_back(seats, seat)?;
+    Ok(true)
+}
 
-    /// `wait_beside PLACE WORD SEAT`: one thread waits for the fact of the receipt of this place until
-    /// the other one halts the desk, or makes a turn that saves, a while after.
-    fn wait_beside<T: Threads + Wait + Clock + Sync>(
-        &mut self,
-        handle: &T,
-        alloc: Global,
-        words: Words<'_>,
-        text: &mut Answer,
-    ) -> Result<bool, Fault> {
-        match wait_of(words) {
-            Some((place, is_halt, number)) => {
-                self.wait_until(handle, alloc, place, number, is_halt, text)
-            }
-            None => Ok(false),
+/// Waits for the fact of the receipt until the call is made from the seat. The answer is what became of
+/// the fact, and in the next line that of the call.
+fn wait_until<L: Ledger + Send + Sync, T: Threads + Wait + Clock + Sync>(
+    handle: &T,
+    alloc: Global,
+    office: &Office<Initiating, L>,
+    receipt: &Receipt,
+    seats: &mut Vec<Seat<L>>,
+    book: &mut BookStore<MemStore>,
+    (number, is_halt): (u8, bool),
+    text: &mut Answer,
+) -> Result<bool, Fault> {
+    let Some(seat) = taken(seats, number) else {
+        return Ok(false);
+    };
+    let (waited, (seat, said)) = waited_beside(handle, alloc, office, receipt, seat, book, is_halt);
+    text.debug(&waited);
+    text.end_line();
+    keep_ended(seats, seat, said, text)
+}
+
+/// `both_submit COUNT CONTRACT | CONTRACT`: two threads, from the seats 1 and 2, each record a
+/// contract and submit so many documents of its portfolio. How many facts each recorded.
+fn both_submit<L: Ledger + Send + Sync, T: Threads + Wait + Sync>(
+    handle: &T,
+    alloc: Global,
+    office: &Office<Initiating, L>,
+    seats: &mut Vec<Seat<L>>,
+    words: Words<'_>,
+    text: &mut Answer,
+) -> Result<bool, Fault> {
+    match both_of(words) {
+        Some((count, one, two)) => {
+            let (first, second) = calls_of(alloc, one, two, count)?;
+            make_both(handle, office, seats, first, second, text)
         }
+        None => Ok(false),
     }
+}
 
+/// `wait_beside PLACE WORD SEAT`: one thread waits for the fact of the receipt of this place until the
+/// other one halts the desk, or makes a turn that saves, a while after.
+fn wait_beside<L: Ledger + Send + Sync, T: Threads + Wait + Clock + Sync>(
+    handle: &T,
+    alloc: Global,
+    office: &Office<Initiating, L>,
+    receipts: &[Receipt],
+    seats: &mut Vec<Seat<L>>,
+    book: &mut BookStore<MemStore>,
+    words: Words<'_>,
+    text: &mut Answer,
+) -> Result<bool, Fault> {
+    let Some((place, is_halt, number)) = wait_of(words) else {
+        return Ok(false);
+    };
+    let Some(receipt) = receipt_at(receipts, place) else {
+        return Ok(false);
+    };
+    wait_until(
+        handle,
+        alloc,
+        office,
+        receipt,
+        seats,
+        book,
+        (number, is_halt),
+        text,
+    )
+}
+
+impl<L: Ledger + Send + Sync> Opened<Initiating, L> {
     /// Makes a call, of several threads too, and adds its answer. `false` where the line is none.
     pub fn answer_by_threads<T: Threads + Wait + Clock + Sync>(
         &mut self,
@@ -261,10 +291,34 @@ impl<L: Ledger + Send + Sync> Opened<Initiating, L> {
         text: &mut Answer,
     ) -> Result<bool, Fault> {
         let mut words = Words::of(line);
-        match words.next() {
-            "both_submit" => self.both_submit(handle, alloc, words, text),
-            "wait_beside" => self.wait_beside(handle, alloc, words, text),
-            "serve" => self.serve(handle, alloc, words, text),
+        let word = words.next();
+        let Some(office) = &self.office else {
+            return self.answer(handle, alloc, line, text);
+        };
+        match word {
+            "both_submit" => both_submit(handle, alloc, office, &mut self.seats, words, text),
+            "wait_beside" => match &mut self.book {
+                Some(book) => wait_beside(
+                    handle,
+                    alloc,
+                    office,
+                    &self.receipts,
+                    &mut self.seats,
+                    book,
+                    words,
+                    text,
+                ),
+                None => Ok(false),
+            },
+            "serve" => serve(
+                handle,
+                alloc,
+                office,
+                &mut self.seats,
+                &mut self.receipts,
+                words,
+                text,
+            ),
             _ => self.answer(handle, alloc, line, text),
         }
     }

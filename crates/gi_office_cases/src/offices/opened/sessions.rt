@@ -1,6 +1,5 @@
 //! Sessions that run side by side.
 
-use super::Opened;
 use crate::offices::documents::documents;
 use crate::offices::gates::{FirstOnce, SecondFirst};
 use crate::offices::seats::{put_back, taken};
@@ -9,7 +8,7 @@ use crossbeam_channel::{Receiver, unbounded};
 use gi_calls::{Answer, Fault, Words};
 use gi_desk::Body;
 use gi_initiator::Initiating;
-use gi_office::{Gate, Receipt, Seat, Served, Session, Waker};
+use gi_office::{Gate, Office, Receipt, Seat, Served, Session, Waker};
 use gi_pairs::{Code, Side};
 use std::alloc::Global;
 use std::rt::Clock;
@@ -38,6 +37,8 @@ fn add_session<L: Ledger>(
         return Ok(false);
     };
     let Some(seat) = taken(seats, number) else {
+        // (handed to `drop`, by one call: going out of scope here would be checked field by field
+        // on each way out)
         drop(bodies);
         return Ok(false);
     };
@@ -92,110 +93,125 @@ fn add_notices<W: Wait>(handle: &W, receiver: Receiver<Side>, text: &mut Answer)
     text.word(&matching);
 }
 
-impl<L: Ledger + Send + Sync> Opened<Initiating, L> {
-    /// Keeps the seat and the receipts of a session. Adds how many facts it recorded, and its fault.
-    fn keep_served(&mut self, served: Served<L>, text: &mut Answer) -> Result<(), Fault> {
-        let (seat, receipts, fault) = served.into_parts();
-        let kept = keep_receipts(&mut self.receipts, receipts, text);
-        if let Some(fault) = fault {
-            text.word(&fault);
-        }
-        put_back(&mut self.seats, seat)?;
-        kept
+/// Keeps the seat and the receipts of a session. Adds how many facts it recorded, and its fault.
+fn keep_served<L: Ledger>(
+    seats: &mut Vec<Seat<L>>,
+    receipts: &mut Vec<Receipt>,
+    served: Served<L>,
+    text: &mut Answer,
+) -> Result<(), Fault> {
+    let (seat, given, fault) = served.into_parts();
+    let kept = keep_receipts(receipts, given, text);
+    if let Some(fault) = fault {
+        text.word(&fault);
     }
+    put_back(seats, seat)?;
+    kept
+}
 
-    /// Keeps what came of all sessions.
-    fn keep_all(&mut self, served: Vec<Served<L>>, text: &mut Answer) -> Result<bool, Fault> {
-        text.add("recorded");
-        let mut kept = Ok(true);
-        for one in served {
-            if let Err(fault) = self.keep_served(one, text) {
-                kept = Err(fault);
-            }
+/// Keeps what came of all sessions.
+fn keep_all<L: Ledger>(
+    seats: &mut Vec<Seat<L>>,
+    receipts: &mut Vec<Receipt>,
+    served: Vec<Served<L>>,
+    text: &mut Answer,
+) -> Result<bool, Fault> {
+    text.add("recorded");
+    let mut kept = Ok(true);
+    for one in served {
+        if let Err(fault) = keep_served(seats, receipts, one, text) {
+            kept = Err(fault);
         }
-        kept
     }
+    kept
+}
 
-    /// Serves the sessions by the gate: `recorded`, and how many facts each of them recorded.
-    fn serve_by<T: Threads + Wait + Sync, G: Gate + Sync>(
-        &mut self,
-        handle: &T,
-        gate: &G,
-        sessions: Vec<Session<L>>,
-        text: &mut Answer,
-    ) -> Result<bool, Fault> {
-        let Some(office) = &self.office else {
+/// Serves the sessions by the gate: `recorded`, and how many facts each of them recorded.
+fn serve_by<L: Ledger + Send + Sync, T: Threads + Wait + Sync, G: Gate + Sync>(
+    handle: &T,
+    office: &Office<Initiating, L>,
+    seats: &mut Vec<Seat<L>>,
+    receipts: &mut Vec<Receipt>,
+    gate: &G,
+    sessions: Vec<Session<L>>,
+    text: &mut Answer,
+) -> Result<bool, Fault> {
+    match office.serve(handle, gate, sessions) {
+        Ok(served) => keep_all(seats, receipts, served, text),
+        Err(refused) => {
+            drop(refused);
+            Err(Fault::OutOfMemory)
+        }
+    }
+}
+
+/// The same by a waker, and how many notices it sent.
+fn serve_by_waker<L: Ledger + Send + Sync, T: Threads + Wait + Sync>(
+    handle: &T,
+    alloc: Global,
+    office: &Office<Initiating, L>,
+    seats: &mut Vec<Seat<L>>,
+    receipts: &mut Vec<Receipt>,
+    sessions: Vec<Session<L>>,
+    text: &mut Answer,
+) -> Result<bool, Fault> {
+    let Ok((sender, receiver)) = unbounded(alloc) else {
+        drop(sessions);
+        return Err(Fault::OutOfMemory);
+    };
+    let waker = Waker::new(Side::I, sender);
+    let served = serve_by(handle, office, seats, receipts, &waker, sessions, text);
+    drop(waker);
+    add_notices(handle, receiver, text);
+    served
+}
+
+/// Serves the sessions by the gate of this name.
+fn serve_by_name<L: Ledger + Send + Sync, T: Threads + Wait + Clock + Sync>(
+    handle: &T,
+    alloc: Global,
+    office: &Office<Initiating, L>,
+    seats: &mut Vec<Seat<L>>,
+    receipts: &mut Vec<Receipt>,
+    gate: &str,
+    sessions: Vec<Session<L>>,
+    text: &mut Answer,
+) -> Result<bool, Fault> {
+    match gate {
+        "second_first" => {
+            let gate = SecondFirst::new(handle);
+            serve_by(handle, office, seats, receipts, &gate, sessions, text)
+        }
+        "first_once" => serve_by(handle, office, seats, receipts, &FirstOnce, sessions, text),
+        "waker" => serve_by_waker(handle, alloc, office, seats, receipts, sessions, text),
+        _ => {
             drop(sessions);
-            return Ok(false);
-        };
-        match office.serve(handle, gate, sessions) {
-            Ok(served) => self.keep_all(served, text),
-            Err(refused) => {
-                drop(refused);
-                Err(Fault::OutOfMemory)
-            }
+            Ok(false)
         }
     }
+}
 
-    /// The same by a waker, and how many notices it sent.
-    fn serve_by_waker<T: Threads + Wait + Sync>(
-        &mut self,
-        handle: &T,
-        alloc: Global,
-        sessions: Vec<Session<L>>,
-        text: &mut Answer,
-    ) -> Result<bool, Fault> {
-        let Ok((sender, receiver)) = unbounded(alloc) else {
+/// `serve GATE EACH COUNT`: so many sessions at the same time, each of which submits so many
+/// documents.
+pub fn serve<L: Ledger + Send + Sync, T: Threads + Wait + Clock + Sync>(
+    handle: &T,
+    alloc: Global,
+    office: &Office<Initiating, L>,
+    seats: &mut Vec<Seat<L>>,
+    receipts: &mut Vec<Receipt>,
+    mut words: Words<'_>,
+    text: &mut Answer,
+) -> Result<bool, Fault> {
+    let gate = words.next();
+    let (Some(each), Some(count)) = (words.number(), words.byte()) else {
+        return Ok(false);
+    };
+    let mut sessions = Vec::new(alloc);
+    match add_sessions(alloc, seats, each, count, &mut sessions) {
+        Ok(true) => serve_by_name(handle, alloc, office, seats, receipts, gate, sessions, text),
+        refused => {
             drop(sessions);
-            return Err(Fault::OutOfMemory);
-        };
-        let waker = Waker::new(Side::I, sender);
-        let served = self.serve_by(handle, &waker, sessions, text);
-        drop(waker);
-        add_notices(handle, receiver, text);
-        served
-    }
-
-    /// Serves the sessions by the gate of this name.
-    fn serve_by_name<T: Threads + Wait + Clock + Sync>(
-        &mut self,
-        handle: &T,
-        alloc: Global,
-        gate: &str,
-        sessions: Vec<Session<L>>,
-        text: &mut Answer,
-    ) -> Result<bool, Fault> {
-        match gate {
-            "second_first" => self.serve_by(handle, &SecondFirst::new(handle), sessions, text),
-            "first_once" => self.serve_by(handle, &FirstOnce, sessions, text),
-            "waker" => self.serve_by_waker(handle, alloc, sessions, text),
-            _ => {
-                drop(sessions);
-                Ok(false)
-            }
-        }
-    }
-
-    /// `serve GATE EACH COUNT`: so many sessions at the same time, each of which submits so many
-    /// documents.
-    pub fn serve<T: Threads + Wait + Clock + Sync>(
-        &mut self,
-        handle: &T,
-        alloc: Global,
-        mut words: Words<'_>,
-        text: &mut Answer,
-    ) -> Result<bool, Fault> {
-        let gate = words.next();
-        let (Some(each), Some(count)) = (words.number(), words.byte()) else {
-            return Ok(false);
-        };
-        let mut sessions = Vec::new(alloc);
-        match add_sessions(alloc, &mut self.seats, each, count, &mut sessions) {
-            Ok(true) => self.serve_by_name(handle, alloc, gate, sessions, text),
-            refused => {
-                drop(sessions);
-                refused
-            }
+            refused
         }
     }
 }
