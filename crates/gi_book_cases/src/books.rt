@@ -11,10 +11,10 @@ use gi_calls::{Answer, Fault, Subject, Words};
 use gi_store::StoreFault;
 use sqlite::{Connection, File, FileStore, MemStore};
 use std::alloc::Global;
+use std::mem::ManuallyDrop;
 use std::{fs, io};
 
 /// The database that the calls are made on.
-#[derive(Drop)]
 enum Place {
     Nowhere,
     Memory(Opened<MemStore>),
@@ -22,7 +22,6 @@ enum Place {
 }
 
 /// The calls of the subject `books`.
-#[derive(Drop)]
 pub struct Books {
     place: Place,
 }
@@ -35,6 +34,20 @@ fn done(answer: io::Result<()>) -> &'static str {
     }
 }
 
+/// Makes an empty folder; one of that name is removed.
+fn make_folder(rt: &HostRuntime, name: &str, text: &mut Answer) {
+    let _ = fs::remove_dir_all(rt, name);
+    text.add(done(fs::create_dir(rt, name)));
+}
+
+/// Removes a folder with its files, or makes an empty one.
+fn on_folder(rt: &HostRuntime, word: &str, name: &str, text: &mut Answer) {
+    match word {
+        "folder" => make_folder(rt, name, text),
+        _ => text.add(done(fs::remove_dir_all(rt, name))),
+    }
+}
+
 impl Books {
     pub fn new() -> Books {
         Books {
@@ -42,9 +55,14 @@ impl Books {
         }
     }
 
-    /// Puts a database in the place of the one before, which is let go here alone.
+    /// Puts a database in the place of the one before. A file is let go; the rest is kept until the
+    /// program ends, as `answered` keeps its subject.
     fn put(&mut self, place: Place) {
-        let _former = std::mem::replace(&mut self.place, place);
+        if let Place::File(opened) = &mut self.place {
+            opened.close();
+        }
+        let former = std::mem::replace(&mut self.place, place);
+        let _former = unsafe { ManuallyDrop::new_unchecked(former) };
     }
 
     /// Takes a new database in memory.
@@ -71,21 +89,6 @@ impl Books {
         true
     }
 
-    /// Makes an empty folder, once the database is let go; one of that name is removed.
-    fn make_folder(&mut self, rt: &HostRuntime, name: &str, text: &mut Answer) -> bool {
-        self.put(Place::Nowhere);
-        let _ = fs::remove_dir_all(rt, name);
-        text.add(done(fs::create_dir(rt, name)));
-        true
-    }
-
-    /// Removes a folder with its files, once the database is let go.
-    fn remove_folder(&mut self, rt: &HostRuntime, name: &str, text: &mut Answer) -> bool {
-        self.put(Place::Nowhere);
-        text.add(done(fs::remove_dir_all(rt, name)));
-        true
-    }
-
     /// Makes a call on the database that was taken. `false` where it is none.
     fn on_place(&mut self, alloc: Global, call: &str, text: &mut Answer) -> Result<bool, Fault> {
         match &mut self.place {
@@ -99,12 +102,17 @@ impl Books {
 impl Subject for Books {
     fn answer(&mut self, rt: &HostRuntime, call: &str, text: &mut Answer) -> Result<bool, Fault> {
         let mut words = Words::of(call);
-        match words.next() {
+        let word = words.next();
+        match word {
             "open_in_memory" => self.take_memory(rt, text),
             "open_file" => Ok(self.take_file(rt, words.rest(), text)),
             "fitting" => add_fitting(rt.alloc(), words.rest(), text),
-            "folder" => Ok(self.make_folder(rt, words.rest(), text)),
-            "remove_folder" => Ok(self.remove_folder(rt, words.rest(), text)),
+            "folder" | "remove_folder" => {
+                // (once the database is let go)
+                self.put(Place::Nowhere);
+                on_folder(rt, word, words.rest(), text);
+                Ok(true)
+            }
             _ => self.on_place(rt.alloc(), call, text),
         }
     }

@@ -1,13 +1,45 @@
 //! The calls on the desk of a book.
 
 use gi_calls::{Answer, Fault, Words};
-use gi_desk::{Body, Call, Desk};
+use gi_day::Calendar;
+use gi_desk::{Body, Call, Desk, Fact, ReplayFault};
 use gi_initiator::Initiating;
+use gi_pairs::Code;
 use gi_processing::Contract;
 use std::alloc::{AllocError, Global};
+use std::mem::ManuallyDrop;
+
+/// The desk of these facts.
+fn desk_of(alloc: Global, point: Code, facts: Vec<Fact>) -> Result<Desk<Initiating>, ReplayFault> {
+    match Calendar::new() {
+        Ok(calendar) => Desk::replay(alloc, calendar, point, facts),
+        Err(_) => {
+            drop(facts);
+            Err(ReplayFault::OutOfMemory)
+        }
+    }
+}
+
+/// Keeps the desk of these facts in the place of the one before, and says how many it has. The former
+/// one stays until the program ends.
+pub(crate) fn replay(
+    alloc: Global,
+    point: Code,
+    facts: Vec<Fact>,
+    place: &mut Option<Desk<Initiating>>,
+    text: &mut Answer,
+) {
+    match desk_of(alloc, point, facts) {
+        Ok(desk) => {
+            add_counts(&desk, text);
+            let _former = unsafe { ManuallyDrop::new_unchecked(place.replace(desk)) };
+        }
+        Err(fault) => text.show(&fault),
+    }
+}
 
 /// Adds how many facts a desk has, and how many of them are saved.
-pub(crate) fn add_counts(desk: &Desk<Initiating>, text: &mut Answer) {
+fn add_counts(desk: &Desk<Initiating>, text: &mut Answer) {
     let (facts, saved) = (desk.len(), desk.saved());
     text.add("facts ");
     text.show(&facts);
@@ -22,7 +54,7 @@ fn add_numbered(done: &str, n: u32, text: &mut Answer) {
 }
 
 /// Adds a desk's answer.
-pub(crate) fn add_answer(answer: gi_desk::Answer, text: &mut Answer) {
+fn add_answer(answer: gi_desk::Answer, text: &mut Answer) {
     match answer {
         gi_desk::Answer::Recorded { n } => add_numbered("recorded", n, text),
         gi_desk::Answer::Repeat { n } => add_numbered("repeat", n, text),
@@ -88,6 +120,18 @@ fn add_confirmed(desk: &Desk<Initiating>, mut words: Words<'_>, text: &mut Answe
     true
 }
 
+/// Makes a step, and adds its answer.
+fn step(desk: &mut Desk<Initiating>, call: Call, text: &mut Answer) {
+    let reply = desk.step(&call);
+    add_answer(reply.answer, text);
+    drop((call, reply));
+}
+
+/// Marks the desk's next fact as saved, and adds its answer.
+pub(crate) fn mark(desk: &mut Desk<Initiating>, n: u32, fact: Fact, text: &mut Answer) {
+    step(desk, Call::MarkSaved { n, fact }, text)
+}
+
 /// Makes a call on the desk, and adds its answer. `false` where it is none.
 pub(crate) fn call(
     alloc: Global,
@@ -102,6 +146,6 @@ pub(crate) fn call(
     let Some(call) = step_of(alloc, line)? else {
         return Ok(false);
     };
-    add_answer(desk.step(&call).answer, text);
+    step(desk, call, text);
     Ok(true)
 }

@@ -1,14 +1,14 @@
 use crate::books::batches::{fact_of, facts_of};
 use crate::books::desks;
-use crate::books::rows::add_row;
+use crate::books::rows::add_found;
 use gi_calls::{Answer, Fault, Words};
-use gi_day::Calendar;
-use gi_desk::{Call, Desk};
+use gi_desk::Desk;
 use gi_facts::{Fact, encode_fact};
 use gi_initiator::Initiating;
-use gi_store::{BookStore, prepare};
+use gi_store::{BookStore, StoreFault, prepare};
 use sqlite::{Alter, Connection};
 use std::alloc::Global;
+use std::mem::ManuallyDrop;
 
 /// A database, the book that it is opened as, and the desk that was replayed from the book.
 pub struct Opened<S: Alter> {
@@ -17,18 +17,8 @@ pub struct Opened<S: Alter> {
     desk: Option<Desk<Initiating>>,
 }
 
-impl<S: Alter + Drop> Drop for Opened<S> {
-    fn drop(self) {
-        let Opened {
-            connection: _,
-            book: _,
-            desk: _,
-        } = self;
-    }
-}
-
 /// Adds how many facts there are, and a line of each.
-fn add_facts(alloc: Global, facts: &[Fact], text: &mut Answer) -> Result<bool, Fault> {
+fn add_facts(alloc: Global, facts: &[Fact], text: &mut Answer) -> Result<(), Fault> {
     let count = facts.len();
     text.add("facts ");
     text.show(&count);
@@ -38,6 +28,127 @@ fn add_facts(alloc: Global, facts: &[Fact], text: &mut Answer) -> Result<bool, F
         text.add(str::from_utf8(bytes.as_slice()).unwrap_or("no text"));
         text.end_line();
     }
+    Ok(())
+}
+
+/// Adds the facts of a book that is loaded, or why it is not.
+fn add_loaded(
+    alloc: Global,
+    loaded: &Result<Vec<Fact>, StoreFault>,
+    text: &mut Answer,
+) -> Result<(), Fault> {
+    match loaded {
+        Ok(facts) => add_facts(alloc, facts.as_slice(), text),
+        Err(fault) => {
+            text.show(fault);
+            Ok(())
+        }
+    }
+}
+
+/// Makes a statement and adds how many rows it changed, or the first row that a query shows; or makes
+/// the tables of a book, or looks whether they are there.
+fn on_connection<S: Alter>(connection: &mut Connection<S>, call: &str, text: &mut Answer) {
+    let mut words = Words::of(call);
+    match words.next() {
+        "sql" => text.value(&connection.execute(words.rest(), &[])),
+        "query" => {
+            let found = connection.query_row(words.rest(), &[]);
+            add_found(&found, text);
+            drop(found);
+        }
+        _ => text.done(&prepare(connection)),
+    }
+}
+
+/// Saves a fact under a number.
+fn save_next<S: Alter>(
+    alloc: Global,
+    book: &mut BookStore<S>,
+    n: u32,
+    fact: &str,
+    text: &mut Answer,
+) {
+    match fact_of(alloc, fact) {
+        Ok(fact) => {
+            text.done(&book.save_next(n, &fact));
+            drop(fact);
+        }
+        Err(fault) => text.show(&fault),
+    }
+}
+
+/// Saves facts by one insert, the first under this number.
+fn save_batch<S: Alter>(
+    alloc: Global,
+    book: &mut BookStore<S>,
+    n: u32,
+    facts: &str,
+    text: &mut Answer,
+) {
+    match facts_of(alloc, facts) {
+        Ok(facts) => {
+            text.done(&book.save_batch(n, facts.as_slice()));
+            drop(facts);
+        }
+        Err(fault) => text.show(&fault),
+    }
+}
+
+/// Adds how many facts are known.
+fn add_count(count: Option<u32>, text: &mut Answer) {
+    match count {
+        Some(count) => text.show(&count),
+        None => text.add("none"),
+    }
+}
+
+/// Makes a call on the book.
+fn on_book<S: Alter>(
+    alloc: Global,
+    book: &mut BookStore<S>,
+    call: &str,
+    text: &mut Answer,
+) -> Result<bool, Fault> {
+    let mut words = Words::of(call);
+    let word = words.next();
+    if word == "count" {
+        add_count(book.count(), text);
+        return Ok(true);
+    }
+    if word == "load" {
+        let loaded = book.load();
+        let added = add_loaded(alloc, &loaded, text);
+        drop(loaded);
+        added?;
+        return Ok(true);
+    }
+    let Some(n) = words.number() else {
+        return Ok(false);
+    };
+    match word {
+        "save_next" => save_next(alloc, book, n, words.rest(), text),
+        _ => save_batch(alloc, book, n, words.rest(), text),
+    }
+    Ok(true)
+}
+
+/// Saves the desk's next fact in the book, and marks it at the desk.
+fn save_fact<S: Alter>(
+    desk: &mut Desk<Initiating>,
+    book: &mut BookStore<S>,
+    text: &mut Answer,
+) -> Result<bool, Fault> {
+    let Some((n, fact)) = desk.unsaved() else {
+        text.add("nothing");
+        return Ok(true);
+    };
+    if let Err(fault) = book.save_next(n, fact) {
+        text.show(&fault);
+        return Ok(true);
+    }
+    let fact = fact.copy()?;
+    desks::mark(desk, n, fact, text);
     Ok(true)
 }
 
@@ -51,113 +162,26 @@ impl<S: Alter + Drop> Opened<S> {
         }
     }
 
-    /// Keeps a book in the place of the one before, which is let go here alone.
-    fn keep(&mut self, book: BookStore<S>) {
-        let _former = self.book.replace(book);
+    /// Lets go of the database.
+    pub(crate) fn close(&mut self) {
+        drop(self.connection.take());
+        drop(self.book.take());
     }
 
-    /// Opens the database as a book.
+    /// Opens the database as a book, once.
     fn open(&mut self, alloc: Global, text: &mut Answer) -> bool {
         let Some(connection) = self.connection.take() else {
             return false;
         };
         match BookStore::open(alloc, connection) {
             Ok(book) => {
-                self.keep(book);
+                // (there was none: the connection is taken once)
+                let _none = unsafe { ManuallyDrop::new_unchecked(self.book.replace(book)) };
                 text.add("ok");
             }
             Err(fault) => text.show(&fault),
         }
         true
-    }
-}
-
-impl<S: Alter> Opened<S> {
-    /// Makes the tables of a book, or looks whether they are there.
-    fn prepare(&mut self, text: &mut Answer) -> bool {
-        let Some(connection) = &mut self.connection else {
-            return false;
-        };
-        text.done(&prepare(connection));
-        true
-    }
-
-    /// Makes a statement, and answers how many rows it changed.
-    fn execute(&mut self, statement: &str, text: &mut Answer) -> bool {
-        let Some(connection) = &mut self.connection else {
-            return false;
-        };
-        text.value(&connection.execute(statement, &[]));
-        true
-    }
-
-    /// The first row that a query shows.
-    fn query_row(&mut self, query: &str, text: &mut Answer) -> bool {
-        let Some(connection) = &mut self.connection else {
-            return false;
-        };
-        match connection.query_row(query, &[]) {
-            Ok(row) => add_row(&row, text),
-            Err(error) => text.show(&error),
-        }
-        true
-    }
-
-    /// Loads the book.
-    fn load(&mut self, alloc: Global, text: &mut Answer) -> Result<bool, Fault> {
-        let Some(book) = &mut self.book else {
-            return Ok(false);
-        };
-        match book.load() {
-            Ok(facts) => add_facts(alloc, facts.as_slice(), text),
-            Err(fault) => {
-                text.show(&fault);
-                Ok(true)
-            }
-        }
-    }
-
-    /// Saves a fact under a number.
-    fn save_next(&mut self, alloc: Global, mut words: Words<'_>, text: &mut Answer) -> bool {
-        let (Some(book), Some(n)) = (&mut self.book, words.number()) else {
-            return false;
-        };
-        match fact_of(alloc, words.rest()) {
-            Ok(fact) => text.done(&book.save_next(n, &fact)),
-            Err(fault) => text.show(&fault),
-        }
-        true
-    }
-
-    /// Saves facts by one insert, the first under this number.
-    fn save_batch(&mut self, alloc: Global, mut words: Words<'_>, text: &mut Answer) -> bool {
-        let (Some(book), Some(n)) = (&mut self.book, words.number()) else {
-            return false;
-        };
-        match facts_of(alloc, words.rest()) {
-            Ok(facts) => text.done(&book.save_batch(n, facts.as_slice())),
-            Err(fault) => text.show(&fault),
-        }
-        true
-    }
-
-    /// How many facts are known.
-    fn count(&self, text: &mut Answer) -> bool {
-        let Some(book) = &self.book else {
-            return false;
-        };
-        match book.count() {
-            Some(count) => text.show(&count),
-            None => text.add("none"),
-        }
-        true
-    }
-
-    /// Keeps a desk in the place of the one before, which is let go here alone, and says how many
-    /// facts it has.
-    fn keep_desk(&mut self, desk: Desk<Initiating>, text: &mut Answer) {
-        desks::add_counts(&desk, text);
-        let _former = self.desk.replace(desk);
     }
 
     /// Loads the book and replays the desk of its facts.
@@ -165,66 +189,13 @@ impl<S: Alter> Opened<S> {
         let (Some(book), Some(point)) = (&mut self.book, words.code()) else {
             return false;
         };
-        let facts = match book.load() {
-            Ok(facts) => facts,
-            Err(fault) => {
-                text.show(&fault);
-                return true;
-            }
-        };
-        let Ok(calendar) = Calendar::new() else {
-            return false;
-        };
-        match Desk::replay(alloc, calendar, point, facts) {
-            Ok(desk) => self.keep_desk(desk, text),
+        match book.load() {
+            Ok(facts) => desks::replay(alloc, point, facts, &mut self.desk, text),
             Err(fault) => text.show(&fault),
         }
         true
     }
 
-    /// Saves the desk's next fact in the book, and marks it at the desk.
-    fn save_fact(&mut self, text: &mut Answer) -> Result<bool, Fault> {
-        let (Some(desk), Some(book)) = (&mut self.desk, &mut self.book) else {
-            return Ok(false);
-        };
-        let Some((n, fact)) = desk.unsaved() else {
-            text.add("nothing");
-            return Ok(true);
-        };
-        if let Err(fault) = book.save_next(n, fact) {
-            text.show(&fault);
-            return Ok(true);
-        }
-        let fact = fact.copy()?;
-        let reply = desk.step(&Call::MarkSaved { n, fact });
-        desks::add_answer(reply.answer, text);
-        Ok(true)
-    }
-
-    /// Makes a call on the desk.
-    fn call_desk(&mut self, alloc: Global, call: &str, text: &mut Answer) -> Result<bool, Fault> {
-        match &mut self.desk {
-            Some(desk) => desks::call(alloc, desk, call, text),
-            None => Ok(false),
-        }
-    }
-
-    /// Makes a call on the book or its desk.
-    fn call_book(&mut self, alloc: Global, call: &str, text: &mut Answer) -> Result<bool, Fault> {
-        let mut words = Words::of(call);
-        match words.next() {
-            "load" => self.load(alloc, text),
-            "save_next" => Ok(self.save_next(alloc, words, text)),
-            "save_batch" => Ok(self.save_batch(alloc, words, text)),
-            "count" => Ok(self.count(text)),
-            "replay" => Ok(self.replay(alloc, words, text)),
-            "save" => self.save_fact(text),
-            _ => self.call_desk(alloc, call, text),
-        }
-    }
-}
-
-impl<S: Alter + Drop> Opened<S> {
     /// Makes a call, and adds its answer. `false` where it is none.
     pub(crate) fn answer(
         &mut self,
@@ -234,11 +205,27 @@ impl<S: Alter + Drop> Opened<S> {
     ) -> Result<bool, Fault> {
         let mut words = Words::of(call);
         match words.next() {
-            "sql" => Ok(self.execute(words.rest(), text)),
-            "query" => Ok(self.query_row(words.rest(), text)),
-            "prepare" => Ok(self.prepare(text)),
             "open" => Ok(self.open(alloc, text)),
-            _ => self.call_book(alloc, call, text),
+            "replay" => Ok(self.replay(alloc, words, text)),
+            "sql" | "query" | "prepare" => {
+                let Some(connection) = &mut self.connection else {
+                    return Ok(false);
+                };
+                on_connection(connection, call, text);
+                Ok(true)
+            }
+            "load" | "save_next" | "save_batch" | "count" => match &mut self.book {
+                Some(book) => on_book(alloc, book, call, text),
+                None => Ok(false),
+            },
+            "save" => match (&mut self.desk, &mut self.book) {
+                (Some(desk), Some(book)) => save_fact(desk, book, text),
+                _ => Ok(false),
+            },
+            _ => match &mut self.desk {
+                Some(desk) => desks::call(alloc, desk, call, text),
+                None => Ok(false),
+            },
         }
     }
 }

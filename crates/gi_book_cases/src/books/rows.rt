@@ -1,6 +1,6 @@
 use gi_calls::Answer;
-use sqlite::Row;
 use sqlite::types::ValueRef;
+use sqlite::{Error, Row};
 
 /// Adds a value of a row, a text as it stands.
 fn add_value(value: ValueRef<'_>, text: &mut Answer) {
@@ -13,7 +13,7 @@ fn add_value(value: ValueRef<'_>, text: &mut Answer) {
 }
 
 /// Adds the values of a row, with one space between them.
-pub(crate) fn add_row(row: &Row, text: &mut Answer) {
+fn add_row(row: &Row, text: &mut Answer) {
     for at in 0..row.column_count() {
         if at > 0 {
             text.add(" ");
@@ -21,5 +21,13 @@ pub(crate) fn add_row(row: &Row, text: &mut Answer) {
         if let Ok(value) = row.get_ref(at) {
             add_value(value, text);
         }
+    }
+}
+
+/// Adds the values of the row that was found, or why there is none.
+pub(crate) fn add_found(found: &Result<Row, Error>, text: &mut Answer) {
+    match found {
+        Ok(row) => add_row(row, text),
+        Err(error) => text.show(error),
     }
 }
