@@ -55,14 +55,18 @@ impl Books {
         }
     }
 
-    /// Puts a database in the place of the one before. A file is let go; the rest is kept until the
-    /// program ends, as `answered` keeps its subject.
+    /// Puts a database in the place of the one before, whose desk is kept until the program ends, as
+    /// `answered` keeps its subject.
     fn put(&mut self, place: Place) {
-        if let Place::File(opened) = &mut self.place {
-            opened.close();
-        }
         let former = std::mem::replace(&mut self.place, place);
         let _former = unsafe { ManuallyDrop::new_unchecked(former) };
+    }
+
+    /// Lets go of the database.
+    fn close(&mut self, alloc: Global, text: &mut Answer) -> Result<(), Fault> {
+        self.on_place(alloc, "", text)?;
+        self.put(Place::Nowhere);
+        Ok(())
     }
 
     /// Takes a new database in memory.
@@ -73,9 +77,8 @@ impl Books {
         Ok(true)
     }
 
-    /// Takes the database in a file, once the one before is let go.
+    /// Takes the database in a file.
     fn take_file(&mut self, rt: &HostRuntime, name: &str, text: &mut Answer) -> bool {
-        self.put(Place::Nowhere);
         match Connection::open(rt, name) {
             Ok(connection) => {
                 self.put(Place::File(Opened::over(connection)));
@@ -104,12 +107,17 @@ impl Subject for Books {
         let mut words = Words::of(call);
         let word = words.next();
         match word {
-            "open_in_memory" => self.take_memory(rt, text),
-            "open_file" => Ok(self.take_file(rt, words.rest(), text)),
+            "open_in_memory" => {
+                self.close(rt.alloc(), text)?;
+                self.take_memory(rt, text)
+            }
+            "open_file" => {
+                self.close(rt.alloc(), text)?;
+                Ok(self.take_file(rt, words.rest(), text))
+            }
             "fitting" => add_fitting(rt.alloc(), words.rest(), text),
             "folder" | "remove_folder" => {
-                // (once the database is let go)
-                self.put(Place::Nowhere);
+                self.close(rt.alloc(), text)?;
                 on_folder(rt, word, words.rest(), text);
                 Ok(true)
             }

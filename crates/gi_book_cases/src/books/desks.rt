@@ -14,6 +14,8 @@ fn desk_of(alloc: Global, point: Code, facts: Vec<Fact>) -> Result<Desk<Initiati
     match Calendar::new() {
         Ok(calendar) => Desk::replay(alloc, calendar, point, facts),
         Err(_) => {
+            // (handed to `drop`, by one call: going out of scope here would be checked field by
+            // field on each way out)
             drop(facts);
             Err(ReplayFault::OutOfMemory)
         }

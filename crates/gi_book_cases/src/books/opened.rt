@@ -5,6 +5,7 @@ use gi_calls::{Answer, Fault, Words};
 use gi_desk::Desk;
 use gi_facts::{Fact, encode_fact};
 use gi_initiator::Initiating;
+use gi_pairs::Code;
 use gi_store::{BookStore, StoreFault, prepare};
 use sqlite::{Alter, Connection};
 use std::alloc::Global;
@@ -15,6 +16,40 @@ pub struct Opened<S: Alter> {
     connection: Option<Connection<S>>,
     book: Option<BookStore<S>>,
     desk: Option<Desk<Initiating>>,
+}
+
+/// What a call is made on.
+enum Part {
+    Closing,
+    Opening,
+    Replay,
+    Connection,
+    Book,
+    Saving,
+    Desk,
+}
+
+/// What the call is made on.
+fn part_of(call: &str) -> Part {
+    if call.is_empty() {
+        return Part::Closing;
+    }
+    let mut words = Words::of(call);
+    match words.next() {
+        "open" => Part::Opening,
+        "replay" => Part::Replay,
+        "sql" | "query" | "prepare" => Part::Connection,
+        "load" | "save_next" | "save_batch" | "count" => Part::Book,
+        "save" => Part::Saving,
+        _ => Part::Desk,
+    }
+}
+
+/// The point at which a desk is replayed.
+fn point_of(call: &str) -> Option<Code> {
+    let mut words = Words::of(call);
+    words.next();
+    words.code()
 }
 
 /// Adds how many facts there are, and a line of each.
@@ -48,17 +83,20 @@ fn add_loaded(
 
 /// Makes a statement and adds how many rows it changed, or the first row that a query shows; or makes
 /// the tables of a book, or looks whether they are there.
-fn on_connection<S: Alter>(connection: &mut Connection<S>, call: &str, text: &mut Answer) {
+fn on_connection<S: Alter>(connection: &mut Connection<S>, call: &str, text: &mut Answer) -> bool {
     let mut words = Words::of(call);
     match words.next() {
         "sql" => text.value(&connection.execute(words.rest(), &[])),
         "query" => {
             let found = connection.query_row(words.rest(), &[]);
             add_found(&found, text);
+            // (handed to `drop`, by one call: going out of scope here would be checked field by
+            // field on each way out)
             drop(found);
         }
         _ => text.done(&prepare(connection)),
     }
+    true
 }
 
 /// Saves a fact under a number.
@@ -152,7 +190,7 @@ fn save_fact<S: Alter>(
     Ok(true)
 }
 
-impl<S: Alter + Drop> Opened<S> {
+impl<S: Alter> Opened<S> {
     /// A database that is no book so far.
     pub(crate) fn over(connection: Connection<S>) -> Opened<S> {
         Opened {
@@ -161,9 +199,11 @@ impl<S: Alter + Drop> Opened<S> {
             desk: None,
         }
     }
+}
 
+impl<S: Alter + Drop> Opened<S> {
     /// Lets go of the database.
-    pub(crate) fn close(&mut self) {
+    fn close(&mut self) {
         drop(self.connection.take());
         drop(self.book.take());
     }
@@ -185,8 +225,8 @@ impl<S: Alter + Drop> Opened<S> {
     }
 
     /// Loads the book and replays the desk of its facts.
-    fn replay(&mut self, alloc: Global, mut words: Words<'_>, text: &mut Answer) -> bool {
-        let (Some(book), Some(point)) = (&mut self.book, words.code()) else {
+    fn replay(&mut self, alloc: Global, call: &str, text: &mut Answer) -> bool {
+        let (Some(book), Some(point)) = (&mut self.book, point_of(call)) else {
             return false;
         };
         match book.load() {
@@ -196,33 +236,34 @@ impl<S: Alter + Drop> Opened<S> {
         true
     }
 
-    /// Makes a call, and adds its answer. `false` where it is none.
+    /// Makes a call, and adds its answer. `false` where it is none. The empty call, which no case makes,
+    /// lets go of the database.
     pub(crate) fn answer(
         &mut self,
         alloc: Global,
         call: &str,
         text: &mut Answer,
     ) -> Result<bool, Fault> {
-        let mut words = Words::of(call);
-        match words.next() {
-            "open" => Ok(self.open(alloc, text)),
-            "replay" => Ok(self.replay(alloc, words, text)),
-            "sql" | "query" | "prepare" => {
-                let Some(connection) = &mut self.connection else {
-                    return Ok(false);
-                };
-                on_connection(connection, call, text);
+        match part_of(call) {
+            Part::Closing => {
+                self.close();
                 Ok(true)
             }
-            "load" | "save_next" | "save_batch" | "count" => match &mut self.book {
+            Part::Opening => Ok(self.open(alloc, text)),
+            Part::Replay => Ok(self.replay(alloc, call, text)),
+            Part::Connection => match &mut self.connection {
+                Some(connection) => Ok(on_connection(connection, call, text)),
+                None => Ok(false),
+            },
+            Part::Book => match &mut self.book {
                 Some(book) => on_book(alloc, book, call, text),
                 None => Ok(false),
             },
-            "save" => match (&mut self.desk, &mut self.book) {
+            Part::Saving => match (&mut self.desk, &mut self.book) {
                 (Some(desk), Some(book)) => save_fact(desk, book, text),
                 _ => Ok(false),
             },
-            _ => match &mut self.desk {
+            Part::Desk => match &mut self.desk {
                 Some(desk) => desks::call(alloc, desk, call, text),
                 None => Ok(false),
             },
