@@ -72,7 +72,11 @@ impl Books {
     /// Takes a new database in memory.
     fn take_memory(&mut self, rt: &HostRuntime, text: &mut Answer) -> Result<bool, Fault> {
         let connection = Connection::open_in_memory(rt.alloc())?;
-        self.put(Place::Memory(Opened::over(connection)));
+        self.put(Place::Memory(Opened {
+            connection: Some(connection),
+            book: None,
+            desk: None,
+        }));
         text.add("ok");
         Ok(true)
     }
@@ -81,7 +85,11 @@ impl Books {
     fn take_file(&mut self, rt: &HostRuntime, name: &str, text: &mut Answer) -> bool {
         match Connection::open(rt, name) {
             Ok(connection) => {
-                self.put(Place::File(Opened::over(connection)));
+                self.put(Place::File(Opened {
+                    connection: Some(connection),
+                    book: None,
+                    desk: None,
+                }));
                 text.add("ok");
             }
             Err(error) => {

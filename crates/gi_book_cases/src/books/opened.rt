@@ -13,9 +13,9 @@ use std::mem::ManuallyDrop;
 
 /// A database, the book that it is opened as, and the desk that was replayed from the book.
 pub struct Opened<S: Alter> {
-    connection: Option<Connection<S>>,
-    book: Option<BookStore<S>>,
-    desk: Option<Desk<Initiating>>,
+    pub(crate) connection: Option<Connection<S>>,
+    pub(crate) book: Option<BookStore<S>>,
+    pub(crate) desk: Option<Desk<Initiating>>,
 }
 
 /// What a call is made on.
@@ -188,17 +188,6 @@ fn save_fact<S: Alter>(
     let fact = fact.copy()?;
     desks::mark(desk, n, fact, text);
     Ok(true)
-}
-
-impl<S: Alter> Opened<S> {
-    /// A database that is no book so far.
-    pub(crate) fn over(connection: Connection<S>) -> Opened<S> {
-        Opened {
-            connection: Some(connection),
-            book: None,
-            desk: None,
-        }
-    }
 }
 
 impl<S: Alter + Drop> Opened<S> {
