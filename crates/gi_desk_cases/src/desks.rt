@@ -15,10 +15,10 @@ use gi_matcher::Matching;
 use gi_pairs::{Code, Side};
 use queries::told;
 use std::alloc::Global;
+use std::mem::ManuallyDrop;
 use steps::stepped;
 
 /// The desk that the calls are made of.
-#[derive(Drop)]
 enum Seat {
     Empty,
     Initiating(Desk<Initiating>),
@@ -26,7 +26,6 @@ enum Seat {
 }
 
 /// The calls of the subject `desks`.
-#[derive(Drop)]
 pub struct Desks {
     seat: Seat,
     /// What replays choose from, by number.
@@ -36,6 +35,9 @@ pub struct Desks {
 /// A side's desk of these facts.
 fn seat_of(alloc: Global, side: Side, point: Code, facts: Vec<Fact>) -> Result<Seat, ReplayFault> {
     let Ok(calendar) = Calendar::new() else {
+        // (handed to `drop`, by one call: going out of scope here would be checked field by field
+        // on each way out)
+        drop(facts);
         return Err(ReplayFault::OutOfMemory);
     };
     Ok(match side {
@@ -75,7 +77,8 @@ impl Desks {
         Ok(true)
     }
 
-    /// Puts a side's desk of these facts here, where they make one.
+    /// Puts a side's desk of these facts here, where they make one. The desk before it is kept until
+    /// the program ends, as `answered` keeps its subject.
     fn seat(
         &mut self,
         alloc: Global,
@@ -86,7 +89,8 @@ impl Desks {
     ) {
         match seat_of(alloc, side, point, facts) {
             Ok(seat) => {
-                self.seat = seat;
+                let former = std::mem::replace(&mut self.seat, seat);
+                let _former = unsafe { ManuallyDrop::new_unchecked(former) };
                 text.add("ok");
             }
             Err(fault) => text.show(&fault),

@@ -9,17 +9,20 @@ mod tables;
 use comparing::compared;
 use deciding::decided;
 use gi_calls::{Answer, Fault, Subject, Words};
-use gi_cycles::{Collecting, CycleState};
+use gi_cycles::{Collecting, CycleState, Frozen};
 use gi_desk::Role;
 use gi_initiator::Initiating;
 use gi_matcher::Matching;
-use gi_pairs::MOST_PROCESSED_ROWS;
+use gi_pairs::{MOST_PROCESSED_ROWS, Table};
 use sending::sent;
 use std::alloc::Global;
+use std::mem::ManuallyDrop;
 use tables::table_of;
 
+// What goes out of scope here is handed to `drop`, by one call, since it would be checked field by
+// field on each way out.
+
 /// The calls of the subject `roles`.
-#[derive(Drop)]
 pub struct Roles {
     /// How far the cycle is that the calls are about.
     state: Option<CycleState>,
@@ -41,9 +44,10 @@ impl Roles {
         Roles { state: None }
     }
 
-    /// Keeps a cycle in the place of the one before, which is let go here alone.
+    /// Keeps a cycle in the place of the one before, which stays until the program ends, as `answered`
+    /// keeps its subject.
     fn keep(&mut self, state: CycleState) {
-        let _former = self.state.replace(state);
+        let _former = unsafe { ManuallyDrop::new_unchecked(self.state.replace(state)) };
     }
 
     /// The cycle collects nominations.
@@ -62,9 +66,11 @@ impl Roles {
             return Ok(false);
         };
         let Some(CycleState::Collecting(cycle)) = &self.state else {
+            drop(own);
             return Ok(false);
         };
         if own.rows().len() > MOST_PROCESSED_ROWS {
+            drop(own);
             return Ok(false);
         }
         let cycle = Collecting::new(cycle.id());
@@ -78,11 +84,20 @@ impl Roles {
         let Some(peer) = table_of(alloc, line)? else {
             return Ok(false);
         };
-        let Some(CycleState::Frozen(cycle)) = self.state.take() else {
-            return Ok(false);
-        };
+        match self.state.take() {
+            Some(CycleState::Frozen(cycle)) => Ok(self.meet_with(alloc, cycle, peer, text)),
+            other => {
+                drop((other, peer));
+                Ok(false)
+            }
+        }
+    }
+
+    /// Makes the cycle meet the table, where it has as many rows as a processed one may.
+    fn meet_with(&mut self, alloc: Global, cycle: Frozen, peer: Table, text: &mut Answer) -> bool {
         if peer.rows().len() > MOST_PROCESSED_ROWS {
-            return Ok(false);
+            drop((cycle, peer));
+            return false;
         }
         match cycle.meet(alloc, peer) {
             Ok(cycle) => {
@@ -94,7 +109,7 @@ impl Roles {
                 text.show(&fault);
             }
         }
-        Ok(true)
+        true
     }
 
     /// How two tables compare, or what is decided or sent in the state.

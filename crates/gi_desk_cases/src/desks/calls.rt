@@ -73,6 +73,21 @@ fn mark(alloc: Global, words: Words<'_>) -> Option<Call> {
     })
 }
 
+/// The call of this word and of those behind it.
+fn named(alloc: Global, word: &str, mut words: Words<'_>) -> Result<Option<Call>, AllocError> {
+    Ok(match word {
+        "contract" => contract(words),
+        "notice" => notice(words),
+        "submit" => Some(Call::Submit(body(alloc, words.rest())?)),
+        "close" => words.cycle().map(|id| Call::Close(id)),
+        "deliver" => Some(Call::Deliver(body(alloc, words.rest())?)),
+        "resend" => words.cycle().map(|id| Call::Resend(id)),
+        "mark" => mark(alloc, words),
+        "halt" => Some(Call::Halt),
+        _ => None,
+    })
+}
+
 /// The call that the line makes of the desk.
 pub(crate) fn call_of<R: Role>(
     alloc: Global,
@@ -80,16 +95,8 @@ pub(crate) fn call_of<R: Role>(
     line: &str,
 ) -> Result<Option<Call>, AllocError> {
     let mut words = Words::of(line);
-    Ok(match words.next() {
-        "contract" => contract(words),
-        "notice" => notice(words),
-        "submit" => Some(Call::Submit(body(alloc, words.rest())?)),
-        "close" => words.cycle().map(|id| Call::Close(id)),
-        "deliver" => Some(Call::Deliver(body(alloc, words.rest())?)),
-        "resend" => words.cycle().map(|id| Call::Resend(id)),
-        "save" => save(desk)?,
-        "mark" => mark(alloc, words),
-        "halt" => Some(Call::Halt),
-        _ => None,
-    })
+    match words.next() {
+        "save" => save(desk),
+        word => named(alloc, word, words),
+    }
 }

@@ -29,6 +29,20 @@ fn add(facts: &mut Vec<Fact>, fact: &Fact, times: u32) -> Result<(), AllocError>
     Ok(())
 }
 
+/// Adds the given facts that the words number. `false` where a word numbers none.
+fn add_chosen(facts: &mut Vec<Fact>, given: &[Fact], words: &str) -> Result<bool, AllocError> {
+    for word in words.split_whitespace() {
+        let Some((number, times)) = number_and_times(word) else {
+            return Ok(false);
+        };
+        let Some(fact) = numbered(given, number) else {
+            return Ok(false);
+        };
+        add(facts, fact, times)?;
+    }
+    Ok(true)
+}
+
 /// The given facts that the words number.
 pub(crate) fn chosen(
     alloc: Global,
@@ -36,14 +50,13 @@ pub(crate) fn chosen(
     words: &str,
 ) -> Result<Option<Vec<Fact>>, AllocError> {
     let mut facts = Vec::new(alloc);
-    for word in words.split_whitespace() {
-        let Some((number, times)) = number_and_times(word) else {
-            return Ok(None);
-        };
-        let Some(fact) = numbered(given, number) else {
-            return Ok(None);
-        };
-        add(&mut facts, fact, times)?;
+    match add_chosen(&mut facts, given, words) {
+        Ok(true) => Ok(Some(facts)),
+        refused => {
+            // (handed to `drop`, by one call: going out of scope here would be checked field by
+            // field on each way out)
+            drop(facts);
+            refused.map(|_| None)
+        }
     }
-    Ok(Some(facts))
 }

@@ -2,10 +2,10 @@
 
 use super::texts::{add_bytes, add_message, add_packet, add_table};
 use gi_calls::{Answer, Fault, Words};
-use gi_desk::{Desk, Fact, Role, encode_fact};
-use gi_messages::Message;
+use gi_desk::{Desk, Fact, Packet, Packets, Role, encode_fact};
+use gi_messages::{Message, Nomres};
 use gi_pairs::Table;
-use std::alloc::Global;
+use std::alloc::{AllocError, Global};
 
 /// The quantity of a table, as the words say: the pair, the direction and the hour.
 fn reading(table: &Table, words: Words<'_>) -> Option<u64> {
@@ -51,6 +51,11 @@ fn state<R: Role>(desk: &Desk<R>, mut words: Words<'_>, text: &mut Answer) -> bo
     true
 }
 
+/// Adds a response, or that there is none.
+fn add_nomres(alloc: Global, message: Option<Nomres>, text: &mut Answer) -> Result<bool, Fault> {
+    add_message(alloc, message.map(|nomres| Message::Nomres(nomres)), text)
+}
+
 /// What a portfolio is told of a cycle.
 fn portfolio_told<R: Role>(
     alloc: Global,
@@ -62,7 +67,7 @@ fn portfolio_told<R: Role>(
         return Ok(false);
     };
     let message = desk.told(portfolio, id)?;
-    add_message(alloc, message.map(|nomres| Message::Nomres(nomres)), text)
+    add_nomres(alloc, message, text)
 }
 
 /// Adds a fact, or that there is none.
@@ -84,24 +89,41 @@ fn unsaved<R: Role>(alloc: Global, desk: &Desk<R>, text: &mut Answer) -> Result<
     add_fact(alloc, Some(fact), text)
 }
 
-/// What the saved facts from a number on let out, a line a packet.
-fn outgoing<R: Role>(desk: &Desk<R>, first: u32, text: &mut Answer) -> Result<bool, Fault> {
-    let packets = desk.outgoing(first)?.into_vec();
+/// Adds a line a packet.
+fn add_packets(packets: Packets, text: &mut Answer) {
+    let packets = packets.into_vec();
     if packets.is_empty() {
         text.add("nothing");
     }
     for packet in packets {
         add_packet(packet.to, &packet.body.into_vec(), text);
     }
+}
+
+/// Adds copies of packets, a line each.
+fn add_copies(packets: &[Packet], text: &mut Answer) -> Result<(), AllocError> {
+    for packet in packets {
+        let copy = packet.copy()?;
+        add_packet(copy.to, copy.body.as_slice(), text);
+    }
+    Ok(())
+}
+
+/// What the saved facts from a number on let out, a line a packet.
+fn outgoing<R: Role>(desk: &Desk<R>, first: u32, text: &mut Answer) -> Result<bool, Fault> {
+    let packets = desk.outgoing(first)?;
+    add_packets(packets, text);
     Ok(true)
 }
 
 /// Copies of those packets, a line each.
 fn copies<R: Role>(desk: &Desk<R>, first: u32, text: &mut Answer) -> Result<bool, Fault> {
-    for packet in desk.outgoing(first)?.as_slice() {
-        let copy = packet.copy()?;
-        add_packet(copy.to, copy.body.as_slice(), text);
-    }
+    let packets = desk.outgoing(first)?;
+    let added = add_copies(packets.as_slice(), text);
+    // (handed to `drop`, by one call: going out of scope here would be checked field by field on
+    // each way out)
+    drop(packets);
+    added?;
     Ok(true)
 }
 

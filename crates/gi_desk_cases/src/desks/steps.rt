@@ -35,6 +35,9 @@ fn step<R: Role>(desk: &mut Desk<R>, call: &Call, text: &mut Answer) -> Result<R
     if !is_same_reply(&reply, &foreseen) {
         text.add("foreseen otherwise\n");
     }
+    // (handed to `drop`, by one call: going out of scope here would be checked field by field on
+    // each way out)
+    drop((copy, foreseen));
     Ok(reply)
 }
 
@@ -69,7 +72,25 @@ fn made_again<R: Role>(desk: &mut Desk<R>, id: &CycleId, call: &Call, text: &mut
     if !reply.out.as_slice().is_empty() || front_of(desk, id) != before {
         text.add("left something\n");
     }
+    drop(reply);
     desk.step(call)
+}
+
+/// Makes the call, and adds the reply where it is wanted.
+fn made<R: Role>(
+    desk: &mut Desk<R>,
+    call: Call,
+    is_wanted: bool,
+    text: &mut Answer,
+) -> Result<(), AllocError> {
+    let reply = step(desk, &call, text);
+    drop(call);
+    let reply = reply?;
+    if is_wanted {
+        add_reply(&reply, text);
+    }
+    drop(reply);
+    Ok(())
 }
 
 /// Makes the call that stands behind a cycle, again where memory is refused.
@@ -88,6 +109,7 @@ fn again<R: Role>(
     };
     let reply = made_again(desk, &id, &call, text);
     add_reply(&reply, text);
+    drop((call, reply));
     Ok(true)
 }
 
@@ -121,11 +143,24 @@ fn contracts<R: Role>(
         let Some(call) = numbered(alloc, number, words)? else {
             return Ok(false);
         };
-        let reply = step(desk, &call, text)?;
-        if number == count {
-            add_reply(&reply, text);
-        }
+        made(desk, call, number == count, text)?;
     }
+    Ok(true)
+}
+
+/// What the desk foresees that it answers to the call of the line.
+fn foreseen<R: Role>(
+    alloc: Global,
+    desk: &Desk<R>,
+    line: &str,
+    text: &mut Answer,
+) -> Result<bool, Fault> {
+    let Some(call) = call_of(alloc, desk, line)? else {
+        return Ok(false);
+    };
+    let reply = desk.foresee(&call);
+    add_reply(&reply, text);
+    drop((call, reply));
     Ok(true)
 }
 
@@ -137,22 +172,15 @@ pub(crate) fn stepped<R: Role>(
     text: &mut Answer,
 ) -> Result<bool, Fault> {
     let mut words = Words::of(line);
-    let word = words.next();
-    match word {
+    match words.next() {
         "again" => return again(alloc, desk, words, text),
         "contracts" => return contracts(alloc, desk, words, text),
+        "foresee" => return foreseen(alloc, desk, words.rest(), text),
         _ => {}
     }
-    let foresees = word == "foresee";
-    let line = if foresees { words.rest() } else { line };
     let Some(call) = call_of(alloc, desk, line)? else {
         return Ok(false);
     };
-    let reply = if foresees {
-        desk.foresee(&call)
-    } else {
-        step(desk, &call, text)?
-    };
-    add_reply(&reply, text);
+    made(desk, call, true, text)?;
     Ok(true)
 }

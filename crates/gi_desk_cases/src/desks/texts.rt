@@ -60,7 +60,13 @@ pub(crate) fn add_message(
     text: &mut Answer,
 ) -> Result<bool, Fault> {
     match message {
-        Some(message) => add_bytes(&encode(alloc, &message)?, text),
+        Some(message) => {
+            let bytes = encode(alloc, &message);
+            // (handed to `drop`, by one call: going out of scope here would be checked field by
+            // field on each way out)
+            drop(message);
+            add_bytes(&bytes?, text);
+        }
         None => text.add("none"),
     }
     Ok(true)

@@ -28,5 +28,9 @@ pub(crate) fn compared(alloc: Global, line: &str, text: &mut Answer) -> Result<b
     let Some((one, other)) = two_tables(alloc, words.rest(), " and ")? else {
         return Ok(false);
     };
-    Ok(add_comparison(function, &one, &other, text))
+    let is_added = add_comparison(function, &one, &other, text);
+    // (handed to `drop`, by one call: going out of scope here would be checked field by field on
+    // each way out)
+    drop((one, other));
+    Ok(is_added)
 }

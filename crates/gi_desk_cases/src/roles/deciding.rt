@@ -34,7 +34,13 @@ fn id_of(state: &CycleState) -> CycleId {
 
 /// The order of the cycle with the table of the line.
 fn order_of(alloc: Global, id: CycleId, line: &str) -> Result<Option<Delord>, AllocError> {
-    let (Ok(point), Some(processed)) = (Code::read("BORDER-1"), table_of(alloc, line)?) else {
+    let Some(processed) = table_of(alloc, line)? else {
+        return Ok(None);
+    };
+    let Ok(point) = Code::read("BORDER-1") else {
+        // (handed to `drop`, by one call: going out of scope here would be checked field by field
+        // on each way out)
+        drop(processed);
         return Ok(None);
     };
     Ok(Some(Delord {
@@ -47,8 +53,11 @@ fn order_of(alloc: Global, id: CycleId, line: &str) -> Result<Option<Delord>, Al
 
 /// The response of the cycle with both tables of the line.
 fn response_of(alloc: Global, id: CycleId, line: &str) -> Result<Option<Delres>, AllocError> {
-    let tables = two_tables(alloc, line, " confirmed ")?;
-    let (Ok(point), Some((processed, confirmed))) = (Code::read("BORDER-1"), tables) else {
+    let Some((processed, confirmed)) = two_tables(alloc, line, " confirmed ")? else {
+        return Ok(None);
+    };
+    let Ok(point) = Code::read("BORDER-1") else {
+        drop((processed, confirmed));
         return Ok(None);
     };
     Ok(Some(Delres {
@@ -71,13 +80,18 @@ fn order_taken(
         return Ok(None);
     };
     if order.processed.rows().len() > MOST_PROCESSED_ROWS {
+        drop(order);
         return Ok(None);
     }
     if by_role {
         let message = Message::Delord(order);
-        return Ok(Some(Matching::decide(alloc, state, &message)));
+        let decision = Matching::decide(alloc, state, &message);
+        drop(message);
+        return Ok(Some(decision));
     }
-    Ok(Some(take_order(state, &order)))
+    let decision = take_order(state, &order);
+    drop(order);
+    Ok(Some(decision))
 }
 
 /// What is decided of the response that the line is; by the role, where it is asked.
@@ -91,13 +105,18 @@ fn response_taken(
         return Ok(None);
     };
     if response.processed.rows().len() > MOST_PROCESSED_ROWS {
+        drop(response);
         return Ok(None);
     }
     if by_role {
         let message = Message::Delres(response);
-        return Ok(Some(Initiating::decide(alloc, state, &message)));
+        let decision = Initiating::decide(alloc, state, &message);
+        drop(message);
+        return Ok(Some(decision));
     }
-    Ok(Some(take_response(alloc, state, &response)))
+    let decision = take_response(alloc, state, &response);
+    drop(response);
+    Ok(Some(decision))
 }
 
 /// What the role of a side decides.
@@ -132,5 +151,6 @@ pub(crate) fn decided(
         return Ok(false);
     };
     add_decision(&decision, text);
+    drop(decision);
     Ok(true)
 }

@@ -18,16 +18,29 @@ fn direction_of(word: &str) -> Option<Direction> {
     }
 }
 
-/// The words as quantities.
-fn hours_of(alloc: Global, words: &[&str]) -> Result<Option<Hours>, AllocError> {
-    let mut hours = Vec::new(alloc);
+/// Adds the words as quantities. `false` where one is none.
+fn add_hours(words: &[&str], hours: &mut Vec<Quantity>) -> Result<bool, AllocError> {
     for word in words {
         let Some(quantity) = quantity_of(word) else {
-            return Ok(None);
+            return Ok(false);
         };
         hours.push(quantity)?;
     }
-    Ok(Some(Hours::from(hours)))
+    Ok(true)
+}
+
+/// The words as quantities.
+fn hours_of(alloc: Global, words: &[&str]) -> Result<Option<Hours>, AllocError> {
+    let mut hours = Vec::new(alloc);
+    match add_hours(words, &mut hours) {
+        Ok(true) => Ok(Some(Hours::from(hours))),
+        refused => {
+            // (handed to `drop`, by one call: going out of scope here would be checked field by
+            // field on each way out)
+            drop(hours);
+            refused.map(|_| None)
+        }
+    }
 }
 
 /// The words as the pair and the direction of a row.
@@ -48,80 +61,115 @@ fn row_of(alloc: Global, words: &[&str]) -> Result<Option<Row>, AllocError> {
         return Ok(None);
     }
     let (key, quantities) = words.split_at(3);
-    let (Some((pair, direction)), Some(hours)) = (key_of(key), hours_of(alloc, quantities)?) else {
+    let Some((pair, direction)) = key_of(key) else {
         return Ok(None);
     };
-    Ok(Some(Row {
-        pair,
-        direction,
-        hours,
-    }))
+    match hours_of(alloc, quantities)? {
+        Some(hours) => Ok(Some(Row {
+            pair,
+            direction,
+            hours,
+        })),
+        None => Ok(None),
+    }
 }
 
-/// The words as rows of so many hours.
-fn rows_of(alloc: Global, words: &[&str], hours: u8) -> Result<Option<Vec<Row>>, AllocError> {
-    let mut rows = Vec::new(alloc);
+/// Adds the words as rows of so many hours. `false` where they are none.
+fn add_rows(
+    alloc: Global,
+    words: &[&str],
+    hours: u8,
+    rows: &mut Vec<Row>,
+) -> Result<bool, AllocError> {
     for words in words.chunks(3 + usize::from(hours)) {
         let Some(row) = row_of(alloc, words)? else {
-            return Ok(None);
+            return Ok(false);
         };
         rows.push(row)?;
     }
-    Ok(Some(rows))
+    Ok(true)
 }
 
-/// The row of the numbered portfolio and `B`, in `IM`, with the quantity in each hour.
-fn numbered_row(
-    alloc: Global,
-    number: u16,
-    hours: u8,
-    quantity: Quantity,
-) -> Result<Option<Row>, AllocError> {
+/// The pair of the numbered portfolio and `B`.
+fn numbered_pair(alloc: Global, number: u16) -> Result<Option<Pair>, AllocError> {
     let initiating = format!(in alloc; "P{number:04}")?;
-    let (Ok(initiating), Ok(matching)) = (Code::read(initiating.as_str()), Code::read("B")) else {
+    let initiating = Code::read(initiating.as_str());
+    let (Ok(initiating), Ok(matching)) = (initiating, Code::read("B")) else {
         return Ok(None);
     };
-    Ok(Some(Row {
-        pair: Pair {
-            initiating,
-            matching,
-        },
-        direction: Direction::IM,
-        hours: Hours::from(vec![in alloc; quantity; usize::from(hours)]?),
+    Ok(Some(Pair {
+        initiating,
+        matching,
     }))
 }
 
-/// The rows of the portfolios with these numbers.
-fn numbered_rows(
+/// Adds the rows of the portfolios with these numbers, and `B`, in `IM`, with the quantity in each
+/// hour.
+fn add_numbered_rows(
     alloc: Global,
     first: u16,
     last: u16,
     hours: u8,
     quantity: Quantity,
-) -> Result<Option<Vec<Row>>, AllocError> {
-    let mut rows = Vec::new(alloc);
+    rows: &mut Vec<Row>,
+) -> Result<bool, AllocError> {
     for number in first..=last {
-        let Some(row) = numbered_row(alloc, number, hours, quantity)? else {
-            return Ok(None);
+        let Some(pair) = numbered_pair(alloc, number)? else {
+            return Ok(false);
         };
-        rows.push(row)?;
+        let quantities = vec![in alloc; quantity; usize::from(hours)]?;
+        rows.push(Row {
+            pair,
+            direction: Direction::IM,
+            hours: Hours::from(quantities),
+        })?;
     }
-    Ok(Some(rows))
+    Ok(true)
 }
 
-/// The rows of `rows 1 4096 10`: of the portfolios `P0001` to `P4096`, with 10 in each hour.
-fn many_rows(alloc: Global, words: &[&str], hours: u8) -> Result<Option<Vec<Row>>, AllocError> {
+/// Adds the rows of `rows 1 4096 10`: of the portfolios `P0001` to `P4096`, with 10 in each hour.
+fn add_many_rows(
+    alloc: Global,
+    words: &[&str],
+    hours: u8,
+    rows: &mut Vec<Row>,
+) -> Result<bool, AllocError> {
     let [first, last, quantity] = words else {
-        return Ok(None);
+        return Ok(false);
     };
     let (Ok(first), Ok(last), Some(quantity)) = (
         first.parse::<u16>(),
         last.parse::<u16>(),
         quantity_of(quantity),
     ) else {
-        return Ok(None);
+        return Ok(false);
     };
-    numbered_rows(alloc, first, last, hours, quantity)
+    add_numbered_rows(alloc, first, last, hours, quantity, rows)
+}
+
+/// The table of the hours and rows of these words.
+fn table_of_rows(
+    alloc: Global,
+    first: u8,
+    last: u8,
+    words: &[&str],
+) -> Result<Option<Table>, AllocError> {
+    if last < first || last > LAST_HOUR {
+        return Ok(None);
+    }
+    let hours = last - first + 1;
+    let mut rows = Vec::new(alloc);
+    let added = match words {
+        ["rows", words @ ..] => add_many_rows(alloc, words, hours, &mut rows),
+        _ => add_rows(alloc, words, hours, &mut rows),
+    };
+    match added {
+        Ok(true) => Ok(Table::build(first, last, rows).ok()),
+        refused => {
+            drop(rows);
+            refused.map(|_| None)
+        }
+    }
 }
 
 /// The table of these words.
@@ -132,18 +180,7 @@ fn table_of_words(alloc: Global, words: &[&str]) -> Result<Option<Table>, AllocE
     let (Ok(first), Ok(last)) = (first.parse::<u8>(), last.parse::<u8>()) else {
         return Ok(None);
     };
-    if last < first || last > LAST_HOUR {
-        return Ok(None);
-    }
-    let hours = last - first + 1;
-    let rows = match words {
-        ["rows", words @ ..] => many_rows(alloc, words, hours)?,
-        _ => rows_of(alloc, words, hours)?,
-    };
-    let Some(rows) = rows else {
-        return Ok(None);
-    };
-    Ok(Table::build(first, last, rows).ok())
+    table_of_rows(alloc, first, last, words)
 }
 
 /// The table of a line.
@@ -164,8 +201,18 @@ pub(crate) fn two_tables(
     let Some((first, second)) = line.split_once(between) else {
         return Ok(None);
     };
-    Ok(match (table_of(alloc, first)?, table_of(alloc, second)?) {
-        (Some(first), Some(second)) => Some((first, second)),
-        _ => None,
-    })
+    let Some(first) = table_of(alloc, first)? else {
+        return Ok(None);
+    };
+    match table_of(alloc, second) {
+        Ok(Some(second)) => Ok(Some((first, second))),
+        Ok(None) => {
+            drop(first);
+            Ok(None)
+        }
+        Err(fault) => {
+            drop(first);
+            Err(fault)
+        }
+    }
 }
