@@ -65,11 +65,17 @@ fn names(text: &mut Answer) -> bool {
 /// the state comes back.
 fn closed(state: CycleState, processed: Table) -> Result<Frozen, CycleState> {
     if processed.rows().len() > MOST_PROCESSED_ROWS {
+        // (handed to `drop`, by one call: going out of scope here would be checked field by field
+        // on each way out)
+        drop(processed);
         return Err(state);
     }
     match state {
         CycleState::Collecting(collecting) => Ok(collecting.close(processed)),
-        state => Err(state),
+        state => {
+            drop(processed);
+            Err(state)
+        }
     }
 }
 
@@ -174,6 +180,7 @@ impl Cycles {
     /// Closes the cycle, where it collects and the table has as many rows as a processed one may.
     fn close_with(&mut self, processed: Table, text: &mut Answer) -> bool {
         let Some(state) = self.state.take() else {
+            drop(processed);
             return false;
         };
         match closed(state, processed) {
@@ -201,6 +208,7 @@ impl Cycles {
     /// processed one may.
     fn meet_with(&mut self, alloc: Global, peer: Table, text: &mut Answer) -> bool {
         if peer.rows().len() > MOST_PROCESSED_ROWS {
+            drop(peer);
             return false;
         }
         match self.state.take() {
@@ -209,6 +217,7 @@ impl Cycles {
                 true
             }
             other => {
+                drop(peer);
                 self.keep(other);
                 false
             }

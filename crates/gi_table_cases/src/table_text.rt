@@ -10,19 +10,32 @@ use std::alloc::Global;
 /// Of a table of more rows the first, the last and the number between are shown.
 const MOST_SHOWN: usize = 20;
 
-/// The quantities of the words.
-pub(crate) fn hours_of(alloc: Global, words: Words<'_>) -> Result<Option<Hours>, Fault> {
-    let mut quantities = Vec::new(alloc);
+/// Adds the quantities of the words. `false` where a word is none.
+fn push_hours(words: Words<'_>, quantities: &mut Vec<Quantity>) -> Result<bool, Fault> {
     if words.is_empty() {
-        return Ok(Some(Hours::from(quantities)));
+        return Ok(true);
     }
     for word in words.rest().split(' ') {
         let Some(quantity) = Words::of(word).quantity() else {
-            return Ok(None);
+            return Ok(false);
         };
         quantities.push(quantity)?;
     }
-    Ok(Some(Hours::from(quantities)))
+    Ok(true)
+}
+
+/// The quantities of the words.
+pub(crate) fn hours_of(alloc: Global, words: Words<'_>) -> Result<Option<Hours>, Fault> {
+    let mut quantities = Vec::new(alloc);
+    match push_hours(words, &mut quantities) {
+        Ok(true) => Ok(Some(Hours::from(quantities))),
+        refused => {
+            // (handed to `drop`, by one call: going out of scope here would be checked field by
+            // field on each way out)
+            drop(quantities);
+            refused.map(|_| None)
+        }
+    }
 }
 
 /// The row of the words: a key and then the quantities.
@@ -83,43 +96,53 @@ fn push_like_row(
     Ok(true)
 }
 
-/// The rows of the words: the initiating code, how many there are, and the quantity.
-fn like_rows(alloc: Global, mut words: Words<'_>, hours: u8) -> Result<Option<Vec<Row>>, Fault> {
+/// Adds the rows of the words: the initiating code, how many there are, and the quantity.
+fn push_like_rows(
+    alloc: Global,
+    mut words: Words<'_>,
+    hours: u8,
+    rows: &mut Vec<Row>,
+) -> Result<bool, Fault> {
     let (Some(initiating), Some(count), Some(quantity)) = (
         words.code(),
         words.number(),
         words.quantity(),
     ) else {
-        return Ok(None);
+        return Ok(false);
     };
-    let mut rows = Vec::new(alloc);
     for number in 0..count {
-        if !push_like_row(alloc, number, (initiating, quantity), hours, &mut rows)? {
-            return Ok(None);
+        if !push_like_row(alloc, number, (initiating, quantity), hours, rows)? {
+            return Ok(false);
         }
     }
-    Ok(Some(rows))
+    Ok(true)
 }
 
-/// The rows that come before the first bar: none, or like rows behind the word `rows`.
-fn rows_of(alloc: Global, mut words: Words<'_>, hours: u8) -> Result<Option<Vec<Row>>, Fault> {
+/// Adds the rows that come before the first bar: none, or like rows behind the word `rows`.
+fn push_begun(
+    alloc: Global,
+    mut words: Words<'_>,
+    hours: u8,
+    rows: &mut Vec<Row>,
+) -> Result<bool, Fault> {
     match words.next() {
-        "" => Ok(Some(Vec::new(alloc))),
-        "rows" => like_rows(alloc, words, hours),
-        _ => Ok(None),
+        "" => Ok(true),
+        "rows" => push_like_rows(alloc, words, hours, rows),
+        _ => Ok(false),
     }
 }
 
-/// The first and the last hour, and the rows that come before the first bar.
-fn begun(alloc: Global, text: &str) -> Result<Option<(u8, u8, Vec<Row>)>, Fault> {
+/// The first and the last hour. Adds the rows that come before the first bar.
+fn begun(alloc: Global, text: &str, rows: &mut Vec<Row>) -> Result<Option<(u8, u8)>, Fault> {
     let mut words = Words::of(text);
     let (Some(first), Some(last)) = (words.byte(), words.byte()) else {
         return Ok(None);
     };
     let hours = last.saturating_sub(first).saturating_add(1);
-    match rows_of(alloc, words, hours)? {
-        Some(rows) => Ok(Some((first, last, rows))),
-        None => Ok(None),
+    if push_begun(alloc, words, hours, rows)? {
+        Ok(Some((first, last)))
+    } else {
+        Ok(None)
     }
 }
 
@@ -134,21 +157,33 @@ fn push_row(alloc: Global, text: &str, rows: &mut Vec<Row>) -> Result<bool, Faul
     }
 }
 
+/// The hours of a call. Adds its rows.
+fn push_rows(alloc: Global, text: &str, rows: &mut Vec<Row>) -> Result<Option<(u8, u8)>, Fault> {
+    let mut parts = text.split(" | ");
+    let Some(hours) = begun(alloc, parts.next().unwrap_or(""), rows)? else {
+        return Ok(None);
+    };
+    for part in parts {
+        if !push_row(alloc, part, rows)? {
+            return Ok(None);
+        }
+    }
+    Ok(Some(hours))
+}
+
 /// What `Table::build` answers to the hours and rows of a call.
 pub(crate) fn table_of(
     alloc: Global,
     text: &str,
 ) -> Result<Option<Result<Table, TableFault>>, Fault> {
-    let mut parts = text.split(" | ");
-    let Some((first, last, mut rows)) = begun(alloc, parts.next().unwrap_or(""))? else {
-        return Ok(None);
-    };
-    for part in parts {
-        if !push_row(alloc, part, &mut rows)? {
-            return Ok(None);
+    let mut rows = Vec::new(alloc);
+    match push_rows(alloc, text, &mut rows) {
+        Ok(Some((first, last))) => Ok(Some(Table::build(first, last, rows))),
+        refused => {
+            drop(rows);
+            refused.map(|_| None)
         }
     }
-    Ok(Some(Table::build(first, last, rows)))
 }
 
 /// Adds the quantities, each behind a space.

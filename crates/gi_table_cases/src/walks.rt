@@ -11,6 +11,9 @@ use gi_pairs::{MOST_PROCESSED_ROWS, Table};
 use std::alloc::Global;
 use std::thread::Threads;
 
+// What goes out of scope here is handed to `drop`, by one call, since it would be checked field by
+// field on each way out.
+
 /// The calls of the subject `walks`: the lesser of the last `lesser`, where all three ways agreed.
 #[derive(Drop)]
 struct Walks {
@@ -40,12 +43,43 @@ fn walked(
         return Ok(None);
     }
     let walked = lesser(alloc, own, peer)?;
-    let parallel = lesser_parallel(threads, alloc, own, peer)?;
-    Ok(if parallel == walked {
-        Some(walked)
-    } else {
-        None
-    })
+    let Ok(parallel) = lesser_parallel(threads, alloc, own, peer) else {
+        drop(walked);
+        return Err(Fault::OutOfMemory);
+    };
+    let is_same = parallel == walked;
+    drop(parallel);
+    if is_same {
+        return Ok(Some(walked));
+    }
+    drop(walked);
+    Ok(None)
+}
+
+/// What was walked, where reading each hour gives the same. Adds how many rows it has, or `differ`.
+fn plainly(
+    alloc: Global,
+    own: &Table,
+    peer: &Table,
+    walked: Table,
+    text: &mut Answer,
+) -> Result<Option<Table>, Fault> {
+    match is_plain(alloc, own, peer, &walked) {
+        Ok(true) => {
+            let rows = walked.rows().len();
+            text.word(&rows);
+            Ok(Some(walked))
+        }
+        Ok(false) => {
+            drop(walked);
+            text.word(&"differ");
+            Ok(None)
+        }
+        Err(fault) => {
+            drop(walked);
+            Err(fault)
+        }
+    }
 }
 
 /// The lesser, where all three ways give the same. Adds how many rows it has, or `differ`.
@@ -56,17 +90,34 @@ fn agreed(
     peer: &Table,
     text: &mut Answer,
 ) -> Result<Option<Table>, Fault> {
-    let Some(walked) = walked(threads, alloc, own, peer)? else {
-        text.word(&"differ");
-        return Ok(None);
-    };
-    if !is_plain(alloc, own, peer, &walked)? {
-        text.word(&"differ");
-        return Ok(None);
+    match walked(threads, alloc, own, peer)? {
+        Some(walked) => plainly(alloc, own, peer, walked, text),
+        None => {
+            text.word(&"differ");
+            Ok(None)
+        }
     }
-    let rows = walked.rows().len();
-    text.word(&rows);
-    Ok(Some(walked))
+}
+
+/// The same, and then that of the second table with the first.
+fn both_agreed(
+    threads: &(impl Threads + Sync),
+    alloc: Global,
+    own: &Table,
+    peer: &Table,
+    text: &mut Answer,
+) -> Result<Option<Table>, Fault> {
+    let first = agreed(threads, alloc, own, peer, text)?;
+    match agreed(threads, alloc, peer, own, text) {
+        Ok(second) => {
+            drop(second);
+            Ok(first)
+        }
+        Err(fault) => {
+            drop(first);
+            Err(fault)
+        }
+    }
 }
 
 /// The hours of the words, and two tables for them.
@@ -83,11 +134,21 @@ fn tables_of(alloc: Global, given: &str) -> Result<Option<(Table, Table)>, Fault
         return Ok(None);
     };
     let own = own.table(alloc, first, last)?;
-    let peer = peer.table(alloc, first, last)?;
-    Ok(own.zip(peer))
+    match peer.table(alloc, first, last) {
+        Ok(peer) => Ok(own.zip(peer)),
+        Err(fault) => {
+            drop(own);
+            Err(fault)
+        }
+    }
 }
 
 impl Walks {
+    /// Keeps a lesser in the place of the one before, which is let go here alone.
+    fn keep(&mut self, lesser: Option<Table>) {
+        self.lesser = lesser;
+    }
+
     /// `lesser FIRST LAST | GRID | GRID`: how many rows the lesser of both tables has, and that of the
     /// second one with the first.
     fn lesser(
@@ -100,8 +161,9 @@ impl Walks {
         let Some((own, peer)) = tables_of(alloc, given)? else {
             return Ok(false);
         };
-        self.lesser = agreed(threads, alloc, &own, &peer, text)?;
-        agreed(threads, alloc, &peer, &own, text)?;
+        let agreed = both_agreed(threads, alloc, &own, &peer, text);
+        drop((own, peer));
+        self.keep(agreed?);
         Ok(true)
     }
 
@@ -135,6 +197,25 @@ impl Walks {
             _ => Ok(false),
         }
     }
+
+    /// Adds the cases with their answers.
+    fn answer_all(
+        &mut self,
+        threads: &(impl Threads + Sync),
+        alloc: Global,
+        cases: &str,
+        answer: &mut Answer,
+        text: &mut Answer,
+    ) -> Result<(), Fault> {
+        for line in cases.lines() {
+            if add_case(line, text) {
+                answer.clear();
+                let is_made = self.answer(threads, alloc, line, answer)?;
+                add_answer(is_made, answer, text);
+            }
+        }
+        Ok(())
+    }
 }
 
 /// The cases with their answers.
@@ -144,13 +225,15 @@ pub fn walk_answers(
     cases: &str,
 ) -> Result<String, Fault> {
     let mut walks = Walks { lesser: None };
+    let mut answer = Answer::new(alloc);
     let mut text = Answer::new(alloc);
-    for line in cases.lines() {
-        if add_case(line, &mut text) {
-            let mut answer = Answer::new(alloc);
-            let is_made = walks.answer(threads, alloc, line, &mut answer)?;
-            add_answer(is_made, &mut answer, &mut text);
+    let answered = walks.answer_all(threads, alloc, cases, &mut answer, &mut text);
+    drop((walks, answer));
+    match answered {
+        Ok(()) => text.into_text(),
+        Err(fault) => {
+            drop(text);
+            Err(fault)
         }
     }
-    text.into_text()
 }
