@@ -7,9 +7,9 @@ use gi_desk::Call;
 use gi_script::{Instruction, Script, read_script};
 use gi_simulation::{Simulated, Simulation, refused_submissions, simulate};
 use std::alloc::{AllocError, Global};
+use std::mem::ManuallyDrop;
 
 /// The calls of the subject `simulations`.
-#[derive(Drop)]
 pub struct Simulations {
     /// The script so far.
     script: String,
@@ -137,6 +137,14 @@ fn add_from(lines: &str, first: u32, text: &mut Answer) {
     }
 }
 
+/// Adds the first so many lines of a script.
+fn add_first(script: &str, count: usize, text: &mut String) -> Result<(), AllocError> {
+    for line in script.lines().take(count) {
+        write!(text, "{line}\n")?;
+    }
+    Ok(())
+}
+
 /// Adds what the lines of a script from number `first` on printed, and whether all of it is made.
 fn add_simulated(simulated: &Simulated, first: u32, text: &mut Answer) {
     add_from(simulated.text.as_str(), first, text);
@@ -156,9 +164,11 @@ impl Simulations {
         }
     }
 
-    /// Keeps a simulation in the place of the one before, which is let go here alone.
+    /// Keeps a simulation in the place of the one before, which stays until the program ends, as
+    /// `answered` keeps its subject.
     fn take(&mut self, simulation: Simulation) {
-        let _former = self.simulation.replace(simulation);
+        let former = self.simulation.replace(simulation);
+        let _former = unsafe { ManuallyDrop::new_unchecked(former) };
     }
 
     /// Forgets the script so far.
@@ -195,10 +205,9 @@ impl Simulations {
             return Ok(false);
         };
         let mut first = String::new(alloc);
-        for line in self.script.as_str().lines().take(count as usize) {
-            write!(first, "{line}\n")?;
-        }
+        let added = add_first(self.script.as_str(), count as usize, &mut first);
         self.script = first;
+        added?;
         Ok(true)
     }
 

@@ -14,9 +14,9 @@ use gi_world::{Run, Step, World, run_world};
 use lone::Lone;
 pub use queries::query;
 use std::alloc::Global;
+use std::mem::ManuallyDrop;
 
 /// The calls of the subject `worlds`.
-#[derive(Drop)]
 pub struct Worlds {
     world: Option<World>,
     point: Option<Code>,
@@ -56,9 +56,10 @@ impl Worlds {
         }
     }
 
-    /// Keeps a world in the place of the one before, which is let go here alone.
+    /// Keeps a world in the place of the one before, which stays until the program ends, as `answered`
+    /// keeps its subject.
     fn take(&mut self, world: World) {
-        let _former = self.world.replace(world);
+        let _former = unsafe { ManuallyDrop::new_unchecked(self.world.replace(world)) };
     }
 
     /// Forgets the steps so far.
@@ -101,7 +102,11 @@ impl Worlds {
         let Some(step) = step_of(alloc, world, side, words)? else {
             return Ok(add_nothing(words, text));
         };
-        add_outcome(&world.step(&step), text);
+        let outcome = world.step(&step);
+        add_outcome(&outcome, text);
+        // (handed to `drop`, by one call: going out of scope here would be checked field by field
+        // on each way out)
+        drop(outcome);
         self.steps.push(step)?;
         Ok(true)
     }

@@ -7,9 +7,9 @@ use gi_day::Calendar;
 use gi_desk::{Call, Desk};
 use gi_matcher::Matching;
 use std::alloc::{AllocError, Global};
+use std::mem::ManuallyDrop;
 
 /// The desk, once there is one.
-#[derive(Drop)]
 pub struct Lone {
     desk: Option<Desk<Matching>>,
 }
@@ -39,7 +39,11 @@ fn make(
     let Some(call) = asked(alloc, desk, words)? else {
         return Ok(false);
     };
-    add_reply(&desk.step(&call), text);
+    let reply = desk.step(&call);
+    add_reply(&reply, text);
+    // (handed to `drop`, by one call: going out of scope here would be checked field by field on
+    // each way out)
+    drop((call, reply));
     Ok(true)
 }
 
@@ -47,6 +51,11 @@ impl Lone {
     /// There is no desk yet.
     pub fn new() -> Lone {
         Lone { desk: None }
+    }
+
+    /// Keeps a desk in the place of the one before, which stays until the program ends.
+    fn keep(&mut self, desk: Desk<Matching>) {
+        let _former = unsafe { ManuallyDrop::new_unchecked(self.desk.replace(desk)) };
     }
 
     /// A desk without facts, at the interconnection point.
@@ -59,7 +68,7 @@ impl Lone {
         };
         match Desk::replay(alloc, calendar, point, Vec::new(alloc)) {
             Ok(desk) => {
-                self.desk = Some(desk);
+                self.keep(desk);
                 text.add("ok\n");
             }
             Err(fault) => {

@@ -41,6 +41,16 @@ fn bytes_of(alloc: Global, nomres: Nomres) -> Result<Vec<u8>, AllocError> {
     encode(alloc, &Message::Nomres(nomres))
 }
 
+/// Adds a nomination response, or that there is none.
+fn add_nomres(alloc: Global, nomres: Option<Nomres>, text: &mut Answer) -> Result<bool, Fault> {
+    match nomres {
+        Some(nomres) => add_bytes(bytes_of(alloc, nomres)?.as_slice(), text),
+        None => text.add("none"),
+    }
+    text.end_line();
+    Ok(true)
+}
+
 /// Adds what the desk tells a portfolio of a cycle.
 fn add_told<R: Role>(
     alloc: Global,
@@ -51,12 +61,8 @@ fn add_told<R: Role>(
     let (Some(portfolio), Some(id)) = (words.code(), words.cycle()) else {
         return Ok(false);
     };
-    match desk.told(portfolio, id)? {
-        Some(nomres) => add_bytes(bytes_of(alloc, nomres)?.as_slice(), text),
-        None => text.add("none"),
-    }
-    text.end_line();
-    Ok(true)
+    let nomres = desk.told(portfolio, id)?;
+    add_nomres(alloc, nomres, text)
 }
 
 /// Adds how far a cycle is.
