@@ -1,9 +1,10 @@
 //! What a fact lets out, by what it records.
 
 ghost use Rattle.std.specs.Prelude.{◌≡◌, ◌∷◌, [], IfOk};
+ghost use Rattle.gi_messages.specs.Writing.{text_of};
 ghost use Rattle.gi_messages.specs.declared.message.Message.TheVariants as messages;
 ghost use Rattle.gi_desk.specs.LetOut.{frozen_of, let_out_on_closing, sent as sent_of};
-ghost use Rattle.gi_desk.specs.Messages.{acknow_of, on_met, to_user};
+ghost use Rattle.gi_desk.specs.Messages.{acknow_of, on_closed, on_met, to_user};
 
 use crate::packet::{Packet, Recipient};
 use crate::role::Role;
@@ -12,14 +13,23 @@ use gi_messages::{Acknow, Message, Nomint};
 use gi_pairs::Code;
 use std::alloc::{AllocError, Global};
 
+/// The one packet of a message, which is dropped.
+fn packet_of(alloc: Global, to: Recipient, message: Message) -> Result<Vec<Packet>, AllocError>
+    ensures { IfOk result (λ packets. packets.items ≡ record { to = to; body = text_of message } ∷ []) }
+{
+    let packet = Packet::of(alloc, to, &message);
+    // (handed to drop, by one call: going out of scope here would be checked field by field on each way out)
+    drop(message);
+    Ok(vec![in alloc; packet?]?)
+}
+
 fn sent(alloc: Global, message: Option<Message>) -> Result<Vec<Packet>, AllocError>
     ensures { IfOk result (λ packets. packets.items ≡ sent_of message) }
 {
-    let mut packets = Vec::new(alloc);
-    if let Some(message) = message {
-        packets.push(Packet::of(alloc, Recipient::Peer, &message)?)?;
+    match message {
+        Some(message) => packet_of(alloc, Recipient::Peer, message),
+        None => Ok(Vec::new(alloc)),
     }
-    Ok(packets)
 }
 
 pub(crate) fn on_taking(alloc: Global, document: &Nomint) -> Result<Vec<Packet>, AllocError>
@@ -31,8 +41,7 @@ pub(crate) fn on_taking(alloc: Global, document: &Nomint) -> Result<Vec<Packet>,
         day: document.day,
         version: document.version,
     });
-    let packet = Packet::of(alloc, Recipient::User(document.portfolio), &message)?;
-    Ok(vec![in alloc; packet]?)
+    packet_of(alloc, Recipient::User(document.portfolio), message)
 }
 
 /// The matched cycle as it was frozen: a role writes of a closing from that alone.
@@ -41,6 +50,20 @@ fn frozen_again(cycle: &Matched) -> Result<Frozen, AllocError>
 {
     let own = cycle.own().copy()?;
     Ok(Collecting::new(cycle.id()).close(own))
+}
+
+/// What a role writes of the closing of a cycle that has met.
+fn on_closed_again<R: Role>(
+    alloc: Global,
+    point: Code,
+    cycle: &Matched,
+) -> Result<Option<Message>, AllocError>
+    ensures { IfOk result (λ message. message ≡ on_closed R.SIDE point (frozen_of cycle.now)) }
+{
+    let frozen = frozen_again(cycle)?;
+    let message = R::on_closed(alloc, point, &frozen);
+    drop(frozen);
+    message
 }
 
 pub(crate) fn on_closing<R: Role>(
@@ -53,7 +76,7 @@ pub(crate) fn on_closing<R: Role>(
     let message = match state {
         CycleState::Collecting(_) => None,
         CycleState::Frozen(cycle) => R::on_closed(alloc, point, cycle)?,
-        CycleState::Matched(cycle) => R::on_closed(alloc, point, &frozen_again(cycle)?)?,
+        CycleState::Matched(cycle) => on_closed_again::<R>(alloc, point, cycle)?,
     };
     sent(alloc, message)
 }

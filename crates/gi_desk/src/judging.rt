@@ -117,6 +117,13 @@ pub(crate) fn is_record(outcome: &Outcome) -> bool
     matches!(outcome, Outcome::Records(_))
 }
 
+/// Whether an outcome is a record; it is dropped.
+pub(crate) fn records(outcome: Outcome) -> bool
+    ensures { result ≡ is_record_of outcome }
+{
+    is_record(&outcome)
+}
+
 pub(crate) fn unless_full(facts: &[Fact], outcome: Outcome) -> Outcome
     ensures { result ≡ unless_full_of facts.now outcome }
 {

@@ -60,7 +60,8 @@ pub(crate) fn close(
         closing: number,
         meeting: None,
     };
-    stages.insert(*id, stage)?;
+    // (handed to drop, by one call: going out of scope here would be checked field by field on each way out)
+    drop(stages.insert(*id, stage)?);
     Ok(())
 }
 
@@ -78,11 +79,11 @@ fn meet_in(alloc: Global, state: &mut CycleState, peer: Table) -> Result<(), All
     };
     match cycle.meet(alloc, peer) {
         Ok(matched) => {
-            *state = CycleState::Matched(matched);
+            drop(mem::replace(state, CycleState::Matched(matched)));
             Ok(())
         }
         Err((cycle, _)) => {
-            *state = CycleState::Frozen(cycle);
+            drop(mem::replace(state, CycleState::Frozen(cycle)));
             Err(AllocError)
         }
     }

@@ -86,7 +86,10 @@ fn packet_for(
     ensures { IfOk result (λ packet. packet ≡ to_user portfolio (messages.Nomres (told_of side point cycle.now portfolio))) }
 {
     let message = Message::Nomres(told(alloc, side, point, cycle, portfolio)?);
-    Packet::of(alloc, Recipient::User(portfolio), &message)
+    let packet = Packet::of(alloc, Recipient::User(portfolio), &message);
+    // (handed to drop, by one call: going out of scope here would be checked field by field on each way out)
+    drop(message);
+    packet
 }
 
 pub(crate) fn packets_for(

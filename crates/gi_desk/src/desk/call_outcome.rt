@@ -1,6 +1,6 @@
 //! What a call comes to.
 
-ghost use Rattle.std.specs.Prelude.{◌≡◌, IfErr, IfOk, IsTrue};
+ghost use Rattle.std.specs.Prelude.{◌≡◌, IfErr, IfOk, IsTrue, Ok};
 ghost use Rattle.gi_messages.specs.Decoding.{decoded};
 ghost use Rattle.gi_desk.specs.History.{state_of};
 ghost use Rattle.gi_desk.specs.Deciding.{HasFewRows, IsForRole, decision};
@@ -13,7 +13,7 @@ use crate::call::Call;
 use crate::decision::Decision;
 use crate::desk::Desk;
 use crate::judging::{
-    addressed, can_meet, contracted, is_record, is_short, marked, noticed, unless_full,
+    addressed, can_meet, contracted, is_short, marked, noticed, records, unless_full,
 };
 use crate::outcome::Outcome;
 use crate::refusal::Refusal;
@@ -55,7 +55,11 @@ impl<R: Role> Desk<R> {
     {
         match decode(self.alloc, bytes) {
             Ok(Message::Nomint(document)) => Ok(self.nominated(document)),
-            Ok(_) => Ok(Outcome::Refuses(Refusal::WrongKind)),
+            Ok(other) => {
+                // (handed to drop, by one call: going out of scope here would be checked field by field on each way out)
+                drop(other);
+                Ok(Outcome::Refuses(Refusal::WrongKind))
+            }
             Err(MessageFault::OutOfMemory) => Err(AllocError),
             Err(fault) => Ok(Outcome::Refuses(Refusal::Message(fault))),
         }
@@ -99,10 +103,26 @@ impl<R: Role> Desk<R> {
         let collecting = CycleState::Collecting(Collecting::new(*id));
         let state = self.find(id).unwrap_or(&collecting);
         let decision = R::decide(self.alloc, state, message);
+        drop(collecting);
         if is_short(&decision) {
+            drop(decision);
             return Err(AllocError);
         }
         Ok(self.by_decision(*id, decision))
+    }
+
+    /// What a message that could be read comes to, where the peer sent it.
+    fn received(&self, message: &Message) -> Result<Outcome, AllocError>
+        requires { HasFewRows message.now }
+        ensures { IfOk result (λ outcome. outcome ≡ delivered_of R.SIDE self.now.point self.now.facts (Ok message.now)) }
+    {
+        let Some((point, id)) = addressed(R::SIDE, message) else {
+            return Ok(Outcome::Refuses(Refusal::WrongKind));
+        };
+        if point != self.point {
+            return Ok(Outcome::Refuses(Refusal::WrongPoint));
+        }
+        self.decided(&id, message)
     }
 
     fn delivered(&self, bytes: &[u8]) -> Result<Outcome, AllocError>
@@ -114,13 +134,9 @@ impl<R: Role> Desk<R> {
             Err(MessageFault::OutOfMemory) => return Err(AllocError),
             Err(fault) => return Ok(Outcome::Refuses(Refusal::Message(fault))),
         };
-        let Some((point, id)) = addressed(R::SIDE, &message) else {
-            return Ok(Outcome::Refuses(Refusal::WrongKind));
-        };
-        if point != self.point {
-            return Ok(Outcome::Refuses(Refusal::WrongPoint));
-        }
-        self.decided(&id, &message)
+        let outcome = self.received(&message);
+        drop(message);
+        outcome
     }
 
     fn resending(&self, id: &CycleId) -> Outcome
@@ -162,10 +178,10 @@ impl<R: Role> Desk<R> {
         ensures { result ≡ would_record_of R.SIDE self.now.point self.now.facts fact.now }
     {
         match fact {
-            Fact::Contracted(contract) => is_record(&contracted(self.contracts(), contract)),
-            Fact::Noticed(notice) => is_record(&noticed(&self.calendar, notice)),
+            Fact::Contracted(contract) => records(contracted(self.contracts(), contract)),
+            Fact::Noticed(notice) => records(noticed(&self.calendar, notice)),
             Fact::Nominated(document) => self.would_take(document),
-            Fact::Closed(id) => is_record(&self.closed(id)),
+            Fact::Closed(id) => records(self.closed(id)),
             Fact::Met { id, peer } => self.would_meet(id, peer),
         }
     }

@@ -50,7 +50,11 @@ impl<R: Role> Desk<R> {
     {
         let own = self.processed(id)?;
         let number = self.next_number();
-        self.facts.reserve(1)?;
+        let Ok(()) = self.facts.reserve(1) else {
+            // (handed to drop, by one call: going out of scope here would be checked field by field on each way out)
+            drop(own);
+            return Err(AllocError);
+        };
         close(&mut self.stages, id, own, number)?;
         self.facts.push_reserved(Fact::Closed(*id));
         Ok(())
@@ -65,14 +69,23 @@ impl<R: Role> Desk<R> {
     {
         // The fact and the cycle hold the peer's table in the same memory.
         let peer = peer.share()?;
-        let fact = Fact::Met {
-            id: *id,
-            peer: peer.copy()?,
+        let Ok(copy) = peer.copy() else {
+            drop(peer);
+            return Err(AllocError);
         };
         let number = self.next_number();
-        self.facts.reserve(1)?;
-        meet(self.alloc, &mut self.stages, id, peer, number)?;
-        self.facts.push_reserved(fact);
+        let Ok(()) = self.facts.reserve(1) else {
+            drop((peer, copy));
+            return Err(AllocError);
+        };
+        let Ok(()) = meet(self.alloc, &mut self.stages, id, peer, number) else {
+            drop(copy);
+            return Err(AllocError);
+        };
+        self.facts.push_reserved(Fact::Met {
+            id: *id,
+            peer: copy,
+        });
         Ok(())
     }
 
@@ -109,12 +122,24 @@ impl<R: Role> Desk<R> {
         ensures next { OnOk result (self.new ≡ record self.old { facts = self.old.facts ++ Nominated document ∷ [] }) }
         ensures kept { OnErr result (self.new ≡ self.old) }
     {
-        let taken = document.copy()?;
+        let Ok(taken) = document.copy() else {
+            drop(document);
+            return Err(AllocError);
+        };
         let number = self.next_number();
-        self.facts.reserve(1)?;
+        let Ok(()) = self.facts.reserve(1) else {
+            drop((document, taken));
+            return Err(AllocError);
+        };
         // Where the book has no room then, no nomination is in force that this number could be of.
-        self.takings.insert(PortfolioDay::of(&document), number)?;
-        self.book.take(taken)?;
+        let Ok(_) = self.takings.insert(PortfolioDay::of(&document), number) else {
+            drop((document, taken));
+            return Err(AllocError);
+        };
+        let Ok(()) = self.book.take(taken) else {
+            drop(document);
+            return Err(AllocError);
+        };
         self.facts.push_reserved(Fact::Nominated(document));
         Ok(())
     }

@@ -43,6 +43,8 @@ impl<R: Role> Desk<R> {
         ensures refused { (n : ℕ) → result ≡ Err (BadFact n) → (n ≡ length self.old.facts + 1) × (may_follow R.SIDE self.old.point self.old.facts fact ≡ false) }
     {
         if self.facts.len() >= MOST_FACTS || !self.would_record(&fact) {
+            // (handed to drop, by one call: going out of scope here would be checked field by field on each way out)
+            drop(fact);
             return Err(ReplayFault::BadFact(self.next_number()));
         }
         Ok(self.record(fact)?)
@@ -61,7 +63,13 @@ impl<R: Role> Desk<R> {
     {
         let mut desk = Desk::empty(alloc, calendar, point);
         for fact in facts {
-            desk.record_again(fact)?;
+            match desk.record_again(fact) {
+                Ok(()) => {}
+                Err(fault) => {
+                    drop(desk);
+                    return Err(fault);
+                }
+            }
         }
         desk.saved = desk.facts.len() as u32;
         Ok(desk)

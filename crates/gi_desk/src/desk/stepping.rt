@@ -63,9 +63,14 @@ impl<R: Role> Desk<R> {
         ensures short { IfErr result (λ _. IsTrue (may_want R.SIDE self.now call.now)) }
     {
         let outcome = self.outcome(call)?;
+        let Ok(out) = self.out(&outcome) else {
+            // (handed to drop, by one call: going out of scope here would be checked field by field on each way out)
+            drop(outcome);
+            return Err(AllocError);
+        };
         let reply = Reply {
             answer: self.answer(&outcome),
-            out: Packets::from(self.out(&outcome)?),
+            out: Packets::from(out),
         };
         Ok(Prepared { outcome, reply })
     }

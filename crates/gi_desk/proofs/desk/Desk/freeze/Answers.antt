@@ -22,7 +22,7 @@ invariant_of-self-2 g c =
     let legal = kept-legal side inside.point inside.facts.items c.args.self.now (Closed id) c.self.invariant.stages.legal
     (ap (λ (s : DeskState). s.point) view) facts_is c.requires.recorded c.requires.room in
     let facts : c.push_reserved.new.self.items ≡ inside.facts.items ++ Closed id ∷ [] =
-    c.push_reserved.ensures.items ∙ ap (λ (fs : List Fact). fs ++ Closed id ∷ []) c.in_ok-reserve.ensures.items in
+    c.push_reserved.ensures.items ∙ ap (λ (fs : List Fact). fs ++ Closed id ∷ []) c.in-Ok.ensures.items in
     let own = c.in_ok-own.ensures.value ∙ ap (λ (fs : List Fact). processed_of (capacity_of fs) (documents_of fs) side id.day id.cycle) facts_is in
     let number : c.next_number-number.result ≡ length inside.facts.items + 1 = c.next_number-number.ensures ∙ ap (λ (fs : List Fact). length fs + 1) facts_is in
     kept-closed side inside.point inside.facts.items inside.stages.entries inside.book inside.contracts inside.takings.entries inside.saved id c.push_reserved.new.self.items c.close.new.stages.entries

@@ -6,10 +6,10 @@ use Rattle.gi_desk.proofs.Outcomes.{can_follow}
 use Rattle.gi_desk.proofs.StepLaws.{may_grow}
 use Rattle.gi_desk.proofs.desk.Desk.prepare.Goals as goal
 
-pub returns-in_err-out-clause-short : goal.returns-in_err-out-clause-short
-returns-in_err-out-clause-short g c =
+pub returns-in_default-clause-short : goal.returns-in_default-clause-short
+returns-in_default-clause-short g c =
     let short : IsTrue (may_want g.R.Role.SIDE c.args.self.now c.args.call.now) =
-    may_grow g.R.Role.SIDE c.args.self.now c.args.call.now c.in_ok-outcome.outcome c.in_ok-outcome.ensures.value c.in_err-out.ensures.short in
+    may_grow g.R.Role.SIDE c.args.self.now c.args.call.now c.in_ok-outcome.outcome c.in_ok-outcome.ensures.value c.in_default.ensures.short in
     search (rules, short)
 
 pub returns-clause-value : goal.returns-clause-value
@@ -19,7 +19,7 @@ returns-clause-value g c =
     let s = c.args.self.now in
     let is : c.in_ok-outcome.outcome ≡ outcome side s c.args.call.now = c.in_ok-outcome.ensures.value in
     let answer : c.answer.result ≡ answer_of s (outcome side s c.args.call.now) = c.answer.ensures ∙ ap (answer_of s) is in
-    let out : c.from.result ≡ out_of side s (outcome side s c.args.call.now) = c.from.ensures ∙ c.in_ok-out.ensures.value ∙ ap (out_of side s) is in
+    let out : c.from.result ≡ out_of side s (outcome side s c.args.call.now) = c.from.ensures ∙ c.in-Ok.ensures.value ∙ ap (out_of side s) is in
     λ t. record { outcome = is t; reply = record { answer = answer t; out = out t } }
 
 pub out-requires : goal.out-requires

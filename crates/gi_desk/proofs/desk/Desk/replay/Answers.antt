@@ -1,4 +1,4 @@
-use Rattle.std.proofs.Common.{◌≡◌, ◌++◌, [], ◌∷◌, List, length, append_assoc, append-nil, true, false, None, Err, ap, sym, subst, ◌∙◌, arith, rules}
+use Rattle.std.proofs.Common.{◌≡◌, ◌++◌, [], ◌∷◌, List, length, append_assoc, append-nil, true, false, None, Err, ap, refl, sym, subst, ◌∙◌, arith, rules}
 use Rattle.std.specs.Vec.Iter.{into_iter_items}
 use Rattle.gi_desk.specs.Machine.{DeskState, bad_fact, may_follow}
 use Rattle.gi_facts.specs.declared.fact.Fact.{Fact}
@@ -12,8 +12,8 @@ loop-fact-preserved g c =
     let x = c.in-Some.fact in
     let side = g.R.Role.SIDE in
     let steps : into_iter_items at.fact-iterator ≡ x ∷ into_iter_items c.next.new.self = c.in-Some.ensures.steps.0 in
-    let may : may_follow side at.desk.point at.desk.facts x ≡ true = c.in_ok-record_again.ensures.may in
-    let next : c.record_again.new.self ≡ record at.desk { facts = at.desk.facts ++ x ∷ [] } = c.in_ok-record_again.ensures.next in (
+    let may : may_follow side at.desk.point at.desk.facts x ≡ true = c.in-Ok.ensures.may in
+    let next : c.record_again.new.self ≡ record at.desk { facts = at.desk.facts ++ x ∷ [] } = c.in-Ok.ensures.next in (
       append_assoc at.yielded (x ∷ []) _ ∙ rw (← steps) at.invariant.0,
       next ∙ ap (λ (s : DeskState). record s { facts = s.facts ++ x ∷ [] }) at.invariant.1,
       followed side c.args.point at.yielded at.desk x at.invariant.2 (ap (λ (s : DeskState). s.point) at.invariant.1) (ap (λ (s : DeskState). s.facts) at.invariant.1) may,
@@ -23,23 +23,22 @@ loop-fact-preserved g c =
           omega arith,
     )
 
-pub returns-in_err-record_again : goal.returns-in_err-record_again
-returns-in_err-record_again g c =
+pub returns-in-Err : goal.returns-in-Err
+returns-in-Err g c =
     let at = c.loop-fact in
     let x = c.in-Some.fact in
     let side = g.R.Role.SIDE in
     let steps : into_iter_items at.fact-iterator ≡ x ∷ into_iter_items c.next.new.self = c.in-Some.ensures.steps.0 in
     let all : at.yielded ++ x ∷ into_iter_items c.next.new.self ≡ c.args.facts.items = rw (← steps) at.invariant.0 ∙ c.into_iter-fact-iterator.ensures.into_iter_gives.0 in
-    let fault : c.from_residual.result ≡ Err c.in_err-record_again.field-0.0 = search rules in
-    refused_as side c.args.point c.args.facts.items c.from_residual.result c.in_err-record_again.field-0.0 fault
-    (λ n is. let refused = c.record_again.ensures.refused n (c.in_err-record_again.was ∙ ap Err is) in
+    refused_as side c.args.point c.args.facts.items (Err c.in-Err.fault) c.in-Err.fault refl
+    (λ n is. let refused = c.record_again.ensures.refused n (c.in-Err.is ∙ ap Err is) in
     refused_so side c.args.point at.yielded at.desk x (into_iter_items c.next.new.self) c.args.facts.items n at.invariant.2
     (ap (λ (s : DeskState). s.point) at.invariant.1) (ap (λ (s : DeskState). s.facts) at.invariant.1) refused.1 refused.0 all)
     (some_fact at.yielded x (into_iter_items c.next.new.self) c.args.facts.items all)
 
 pub overflow_cast-desk : goal.overflow_cast-desk
 overflow_cast-desk g c =
-    let few = legal-few g.R.Role.SIDE c.desk-2.inside.point c.desk-2.inside.facts.items c.desk-2.invariant.stages.legal in
+    let few = legal-few g.R.Role.SIDE c.desk.inside.point c.desk.inside.facts.items c.desk.invariant.stages.legal in
     grind (arith, few)
 
 pub returns : goal.returns
@@ -48,10 +47,10 @@ returns g c =
     let none = c.in-None.ensures.steps in
     let empty : into_iter_items at.fact-iterator ≡ [] = nothing_left _ (sym at.invariant.3 ∙ none.0) in
     let all : at.yielded ≡ c.args.facts.items = sym (append-nil at.yielded) ∙ rw empty at at.invariant.0 ∙ c.into_iter-fact-iterator.ensures.into_iter_gives.0 in
-    let was = c.desk-2.view_is ∙ at.invariant.1 in
-    let facts : c.desk-2.inside.facts.items ≡ c.args.facts.items = ap (λ (s : DeskState). s.facts) was ∙ all in
-    let point : c.desk-2.inside.point ≡ c.args.point = ap (λ (s : DeskState). s.point) was in
-    let halted : c.desk-2.inside.halted ≡ false = ap (λ (s : DeskState). s.halted) was in
-    let counted : c.len.result ≡ length c.desk-2.inside.facts.items = search rules in
+    let was = c.desk.view_is ∙ at.invariant.1 in
+    let facts : c.desk.inside.facts.items ≡ c.args.facts.items = ap (λ (s : DeskState). s.facts) was ∙ all in
+    let point : c.desk.inside.point ≡ c.args.point = ap (λ (s : DeskState). s.point) was in
+    let halted : c.desk.inside.halted ≡ false = ap (λ (s : DeskState). s.halted) was in
+    let counted : c.len.result ≡ length c.desk.inside.facts.items = search rules in
     let saved : c.len.result ≡ length c.args.facts.items = counted ∙ ap length facts in
     (subst (λ (fs : List Fact). bad_fact g.R.Role.SIDE c.args.point fs ≡ None) all at.invariant.2, λ t. record { point = point t; facts = facts t; saved = saved t; halted = halted t })
