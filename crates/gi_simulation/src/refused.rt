@@ -97,8 +97,18 @@ pub fn refused_submissions(
     ensures simulation { IfOk result (λ it. it.0 ≡ run_of (new_simulation script.point) (turns script.lines)) }
     ensures refused { IfErr result (λ fault. fault ≡ OutOfMemory) }
 {
-    let mut simulation = Simulation::new(alloc, script.point())?;
+    let mut simulation = match Simulation::new(alloc, script.point()) {
+        Ok(simulation) => simulation,
+        Err(fault) => {
+            // (handed to drop, by one call: going out of scope here would be checked field by field on each way out)
+            drop(script);
+            return Err(fault);
+        }
+    };
     let mut refused = Refused::new(alloc, side);
-    run(&mut simulation, script.into_lines(), &mut refused, false)?;
+    let Ok(()) = run(&mut simulation, script.into_lines(), &mut refused, false) else {
+        drop((simulation, refused));
+        return Err(StartFault::OutOfMemory);
+    };
     Ok((simulation, refused.portfolios))
 }

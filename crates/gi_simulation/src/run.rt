@@ -55,7 +55,10 @@ fn take_line<N: Notes>(
     ensures made { OnOk result (IsRun (noting_turn N.noting trace) simulation.old (turns_of line) notes.old notes.new simulation.new) }
     ensures cut { OnErr result (IsCutOff (noting_turn N.noting trace) simulation.old (turns_of line) notes.old notes.new simulation.new) }
 {
-    make_line(simulation, &line, notes, trace)
+    let made = make_line(simulation, &line, notes, trace);
+    // (handed to drop, by one call: going out of scope here would be checked field by field on each way out)
+    drop(line);
+    made
 }
 
 pub(crate) fn run<N: Notes>(

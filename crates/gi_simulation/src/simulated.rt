@@ -40,7 +40,14 @@ pub fn simulate(alloc: Global, script: Script, trace: bool) -> Result<Simulated,
         → IsCutOff (telling trace) (new_simulation script.point) (turns script.lines) [] (string_bytes it.text) it.simulation) }
     ensures refused { IfErr result (λ fault. fault ≡ OutOfMemory) }
 {
-    let mut simulation = Simulation::new(alloc, script.point())?;
+    let mut simulation = match Simulation::new(alloc, script.point()) {
+        Ok(simulation) => simulation,
+        Err(fault) => {
+            // (handed to drop, by one call: going out of scope here would be checked field by field on each way out)
+            drop(script);
+            return Err(fault);
+        }
+    };
     let mut text = Text::new(alloc);
     let complete = run(&mut simulation, script.into_lines(), &mut text, trace).is_ok();
     simulation.known();

@@ -91,11 +91,21 @@ impl Simulation {
         ensures value { IfOk result (λ simulation. simulation ≡ new_simulation point) }
         ensures refused { IfErr result (λ fault. fault ≡ OutOfMemory) }
     {
+        let world = World::new(alloc, point)?;
+        let Ok(to_initiating) = Link::new(alloc) else {
+            // (handed to drop, by one call: going out of scope here would be checked field by field on each way out)
+            drop(world);
+            return Err(StartFault::OutOfMemory);
+        };
+        let Ok(to_matching) = Link::new(alloc) else {
+            drop((world, to_initiating));
+            return Err(StartFault::OutOfMemory);
+        };
         Ok(Simulation {
             alloc,
-            world: World::new(alloc, point)?,
-            to_initiating: Link::new(alloc)?,
-            to_matching: Link::new(alloc)?,
+            world,
+            to_initiating,
+            to_matching,
         })
     }
 
@@ -259,8 +269,14 @@ impl Simulation {
         };
         let outcome = outcome(&reply);
         let peer = side_of(step).other();
-        let lines = self.told(peer, reply.out.as_slice(), trace)?;
-        self.send(peer, reply.out.into_vec())?;
+        let Ok(lines) = self.told(peer, reply.out.as_slice(), trace) else {
+            drop(reply);
+            return Err(AllocError);
+        };
+        let Ok(()) = self.send(peer, reply.out.into_vec()) else {
+            drop(lines);
+            return Err(AllocError);
+        };
         Ok((outcome, lines))
     }
 
@@ -282,7 +298,9 @@ impl Simulation {
         let Some(step) = self.prepare(instruction)? else {
             return Ok((without_step(instruction), lines));
         };
-        let (outcome, out) = self.step(&step, trace)?;
+        let made = self.step(&step, trace);
+        drop(step);
+        let (outcome, out) = made?;
         lines.push_str(out.as_str())?;
         Ok((Some(outcome), lines))
     }

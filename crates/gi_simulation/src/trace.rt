@@ -82,7 +82,12 @@ fn message_text(alloc: Global, bytes: &[u8]) -> Result<String, AllocError>
     ensures { IfOk result (λ text. string_bytes text ≡ message_text_of (decoded bytes.now)) }
 {
     match decode(alloc, bytes) {
-        Ok(message) => known_text(alloc, &message),
+        Ok(message) => {
+            let text = known_text(alloc, &message);
+            // (handed to drop, by one call: going out of scope here would be checked field by field on each way out)
+            drop(message);
+            text
+        }
         Err(MessageFault::OutOfMemory) => Err(AllocError),
         Err(_) => format!(in alloc; "unreadable"),
     }

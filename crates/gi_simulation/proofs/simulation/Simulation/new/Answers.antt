@@ -6,7 +6,7 @@ use Rattle.gi_simulation.proofs.simulation.Simulation.new.Goals as goal
 
 pub invariant_of-result : goal.invariant_of-result
 invariant_of-result c =
-    let world : c.in_ok-new.field-0 ≡ new_world c.args.point = search rules in
-    let initiating : c.in_ok-new-2.field-0 ≡ new_link = search rules in
-    let matching : c.in_ok-new-3.field-0 ≡ new_link = search rules in
+    let world : c.in_ok-world.world ≡ new_world c.args.point = search rules in
+    let initiating : c.in-Ok.to_initiating ≡ new_link = search rules in
+    let matching : c.in-Ok-new.to_matching ≡ new_link = search rules in
     new_sound c.args.point _ (λ t. record { world = world t; to_initiating = initiating t; to_matching = matching t })
