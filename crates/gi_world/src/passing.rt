@@ -35,7 +35,7 @@ pub(crate) fn place_of(packets: &[Packet], bytes: &[u8]) -> Option<usize>
         .position(|packet| packet.body.as_slice() == bytes)
 }
 
-pub(crate) fn for_peer(alloc: Global, packets: &[Packet]) -> Result<Vec<Packet>, AllocError>
+fn for_peer(alloc: Global, packets: &[Packet]) -> Result<Vec<Packet>, AllocError>
     ensures value { IfOk result (λ kept. kept.items ≡ filter is_for_peer_of packets.now) }
     ensures short { OnErr result (0 < length packets.now) }
 {
@@ -48,7 +48,7 @@ pub(crate) fn for_peer(alloc: Global, packets: &[Packet]) -> Result<Vec<Packet>,
     Ok(kept)
 }
 
-pub(crate) fn telling(alloc: Global, packets: &[Packet]) -> Result<Vec<Packet>, AllocError>
+fn telling(alloc: Global, packets: &[Packet]) -> Result<Vec<Packet>, AllocError>
     requires { All IsFromDesk packets.now }
     ensures value { IfOk result (λ kept. kept.items ≡ filter tells_of packets.now) }
     ensures short { OnErr result (0 < length packets.now) }
@@ -60,4 +60,23 @@ pub(crate) fn telling(alloc: Global, packets: &[Packet]) -> Result<Vec<Packet>, 
         }
     }
     Ok(kept)
+}
+
+/// Copies of the packets that a station keeps: those for the peer, and those that tell.
+pub(crate) fn kept(
+    alloc: Global,
+    packets: &[Packet],
+) -> Result<(Vec<Packet>, Vec<Packet>), AllocError>
+    requires { All IsFromDesk packets.now }
+    ensures sent { IfOk result (λ both. both.0.items ≡ filter is_for_peer_of packets.now) }
+    ensures told { IfOk result (λ both. both.1.items ≡ filter tells_of packets.now) }
+    ensures short { OnErr result (0 < length packets.now) }
+{
+    let sent = for_peer(alloc, packets)?;
+    let Ok(told) = telling(alloc, packets) else {
+        // (handed to drop, by one call: going out of scope here would be checked field by field on each way out)
+        drop(sent);
+        return Err(AllocError);
+    };
+    Ok((sent, told))
 }

@@ -91,7 +91,11 @@ pub fn run_world(alloc: Global, point: Code, steps: &[Step]) -> Result<Run, Star
 {
     histories_are_held();
     let mut world = World::new(alloc, point)?;
-    let mut outcomes = Vec::with_capacity(alloc, steps.len())?;
+    let Ok(mut outcomes) = Vec::with_capacity(alloc, steps.len()) else {
+        // (handed to drop, by one call: going out of scope here would be checked field by field on each way out)
+        drop(world);
+        return Err(StartFault::OutOfMemory);
+    };
     let done = match make_all(&mut world, &mut outcomes, steps) {
         Ok(()) => steps.len(),
         Err(_) => outcomes.len(),

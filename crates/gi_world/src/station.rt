@@ -6,12 +6,13 @@ ghost use Rattle.gi_desk.specs.Writable.{FitsDesk};
 ghost use Rattle.gi_world.specs.Agreement.{IsLegal};
 ghost use Rattle.gi_world.specs.World.{after_call, after_restart, new_station};
 
-use crate::passing::{for_peer, telling};
+use crate::passing::kept;
 use gi_day::Calendar;
 use gi_desk::{Call, Desk, Fact, Packet, ReplayFault, Reply, Role, fronts_are_legal};
 use gi_pairs::Code;
 use std::alloc::{AllocError, Global};
 use std::marker::Model;
+use std::mem;
 
 /// One operator's desk, the packets that it let out to its peer, and those that told its
 /// portfolios, in order.
@@ -82,13 +83,26 @@ impl<R: Role> Station<R> {
         known(&self.desk);
         let prepared = self.desk.prepare(call)?;
         let out = prepared.reply().out.as_slice();
-        let mut sent = for_peer(self.alloc, out)?;
-        let mut told = telling(self.alloc, out)?;
-        self.sent.reserve(sent.len())?;
-        self.told.reserve(told.len())?;
-        let reply = self.desk.make(prepared)?;
+        let Ok((mut sent, mut told)) = kept(self.alloc, out) else {
+            // (handed to drop, by one call: going out of scope here would be checked field by field on each way out)
+            drop(prepared);
+            return Err(AllocError);
+        };
+        let Ok(()) = self.sent.reserve(sent.len()) else {
+            drop((prepared, sent, told));
+            return Err(AllocError);
+        };
+        let Ok(()) = self.told.reserve(told.len()) else {
+            drop((prepared, sent, told));
+            return Err(AllocError);
+        };
+        let Ok(reply) = self.desk.make(prepared) else {
+            drop((sent, told));
+            return Err(AllocError);
+        };
         self.sent.append(&mut sent).unwrap();
         self.told.append(&mut told).unwrap();
+        drop((sent, told));
         Ok(reply)
     }
 
@@ -124,7 +138,8 @@ impl<R: Role> Station<R> {
         fronts_are_legal();
         self.desk.known();
         let facts = self.front(keep)?;
-        self.desk = self.replay(facts)?;
+        let desk = self.replay(facts)?;
+        drop(mem::replace(&mut self.desk, desk));
         Ok(())
     }
 }

@@ -180,7 +180,10 @@ impl Stations {
             return Err(WorldFault::NoSuchPacket);
         };
         let call = self.asked(side, packet)?;
-        Ok(WorldReply::Desk(self.take(side, &call)?))
+        let reply = self.take(side, &call);
+        // (handed to drop, by one call: going out of scope here would be checked field by field on each way out)
+        drop(call);
+        Ok(WorldReply::Desk(reply?))
     }
 
     #[tactic(auto, unfolding(crate::specs::World::outcome, crate::specs::World::after, crate::specs::World::may_want))]
