@@ -31,23 +31,31 @@ pub(crate) fn are_same_facts(facts: &[Fact], others: &[Fact]) -> bool
     true
 }
 
-/// Compared as facts, like notices and cycles below: `same_facts_are_equal` speaks of facts alone.
+/// Contracts, notices and cycles are compared so: `same_facts_are_equal` speaks of facts alone.
+fn are_equal(fact: Fact, other: Fact) -> bool
+    ensures { IsTrue result ↔ (fact ≡ other) }
+{
+    let is_same = is_same_fact(&fact, &other);
+    drop((fact, other));
+    is_same
+}
+
 fn is_same_contract(contract: &Contract, other: &Contract) -> bool
     ensures { IsTrue result ↔ (contract.now ≡ other.now) }
 {
-    is_same_fact(&Fact::Contracted(*contract), &Fact::Contracted(*other))
+    are_equal(Fact::Contracted(*contract), Fact::Contracted(*other))
 }
 
 fn is_same_notice(notice: &Notice, other: &Notice) -> bool
     ensures { IsTrue result ↔ (notice.now ≡ other.now) }
 {
-    is_same_fact(&Fact::Noticed(*notice), &Fact::Noticed(*other))
+    are_equal(Fact::Noticed(*notice), Fact::Noticed(*other))
 }
 
 fn is_same_cycle(id: &CycleId, other: &CycleId) -> bool
     ensures { IsTrue result ↔ (id.now ≡ other.now) }
 {
-    is_same_fact(&Fact::Closed(*id), &Fact::Closed(*other))
+    are_equal(Fact::Closed(*id), Fact::Closed(*other))
 }
 
 fn is_same_call(call: &Call, other: &Call) -> bool

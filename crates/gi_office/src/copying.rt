@@ -15,7 +15,11 @@ fn packets_copy(alloc: Global, packets: &[Packet]) -> Result<Vec<Packet>, AllocE
 {
     let mut copies = Vec::with_capacity(alloc, packets.len())?;
     for packet in packets {
-        copies.push(packet.copy()?)?;
+        let Ok(copy) = packet.copy() else {
+            drop(copies);
+            return Err(AllocError);
+        };
+        copies.push_reserved(copy);
     }
     Ok(copies)
 }
@@ -48,7 +52,11 @@ pub(crate) fn next_facts<R: Role>(alloc: Global, desk: &Desk<R>) -> Result<Vec<F
     let count = (desk.len() - saved).min(MOST_FACTS as u32);
     let mut copies = Vec::with_capacity(alloc, count as usize)?;
     for before in 0..count {
-        copies.push_reserved(fact_copy(desk, saved + before + 1)?);
+        let Ok(copy) = fact_copy(desk, saved + before + 1) else {
+            drop(copies);
+            return Err(AllocError);
+        };
+        copies.push_reserved(copy);
     }
     Ok(copies)
 }

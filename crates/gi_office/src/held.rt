@@ -45,7 +45,10 @@ fn entry_of(alloc: Global, number: u8, call: &Call, reply: &Reply) -> Result<Ent
     ensures { IfOk result (λ entry. entry ≡ record { seat = number; call = call.now; reply = reply.now }) }
 {
     let reply = reply_copy(alloc, reply)?;
-    let call = call.copy()?;
+    let Ok(call) = call.copy() else {
+        drop(reply);
+        return Err(AllocError);
+    };
     Ok(Entry {
         seat: number,
         call,
@@ -56,7 +59,10 @@ fn entry_of(alloc: Global, number: u8, call: &Call, reply: &Reply) -> Result<Ent
 fn note_of(alloc: Global, place: u64, call: Call, reply: &Reply) -> Result<Note, AllocError>
     ensures { IfOk result (λ note. note ≡ record { place = place; call = call; reply = reply.now }) }
 {
-    let reply = reply_copy(alloc, reply)?;
+    let Ok(reply) = reply_copy(alloc, reply) else {
+        drop(call);
+        return Err(AllocError);
+    };
     Ok(Note { place, call, reply })
 }
 

@@ -78,7 +78,7 @@ fn joined<R: Role>(former: Settled<R>, later: Settled<R>) -> Result<Settled<R>, 
         before,
         opening,
         trail,
-        desk: _,
+        desk: ended,
     } = former;
     let Settled {
         earlier: further,
@@ -93,13 +93,18 @@ fn joined<R: Role>(former: Settled<R>, later: Settled<R>) -> Result<Settled<R>, 
     let mut further_trail = further_trail;
     let calls = trail.len() - before;
     let before = trail.len() + further_before;
-    append(
+    let appended = append(
         &mut earlier,
         Stretch { opening, calls },
         &mut further,
         &mut trail,
         &mut further_trail,
-    )?;
+    );
+    drop((ended, further, further_trail));
+    let Ok(()) = appended else {
+        drop((earlier, trail, desk));
+        return Err(LifeFault::OutOfMemory);
+    };
     Ok(Settled {
         earlier,
         before,

@@ -33,11 +33,14 @@ pub(crate) fn seats_of<L: Ledger>(
     ensures { IfOk result (λ seats. seats.items ≡ new_seats count) }
 {
     let mut rest = share;
-    let mut seats = Vec::with_capacity(alloc, count as usize)?;
+    let Ok(mut seats) = Vec::with_capacity(alloc, count as usize) else {
+        drop(rest);
+        return Err(AllocError);
+    };
     for number in 1..count {
         let share = rest.split_off(1, 0);
-        seats.push(seat_of(alloc, number, share))?;
+        seats.push_reserved(seat_of(alloc, number, share));
     }
-    seats.push(seat_of(alloc, count, rest))?;
+    seats.push_reserved(seat_of(alloc, count, rest));
     Ok(seats)
 }

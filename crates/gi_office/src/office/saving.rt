@@ -19,6 +19,7 @@ use gi_desk::{Answer, Call, Fact, Role};
 use gi_store::{BookStore, StoreFault, fitting};
 use sqlite::Alter;
 use std::alloc::AllocError;
+use std::mem;
 use std::sync::Wait;
 use std::sync::ledger::Ledger;
 
@@ -38,7 +39,10 @@ fn turn_of(answer: Result<Receipt, OfficeFault>) -> Result<Turn, SaveFault>
         Err(fault) => return Err(SaveFault::Office(fault)),
     };
     match receipt.reply.answer {
-        Answer::Refused(refusal) => Err(SaveFault::Marked(refusal)),
+        Answer::Refused(refusal) => {
+            drop(receipt);
+            Err(SaveFault::Marked(refusal))
+        }
         _ => Ok(Turn::Saved(receipt)),
     }
 }
@@ -180,7 +184,8 @@ impl<R: Role, L: Ledger> Office<R, L> {
         ensures marked { OnOk result (Marks R.SIDE n fact seat.old (Ok turn.new) seat.new) }
         ensures refused { IfErr result (λ fault. Marks R.SIDE n fact seat.old (Err fault) seat.new) }
     {
-        *turn = self.mark(rt, seat, n, fact)?;
+        let next = self.mark(rt, seat, n, fact)?;
+        drop(mem::replace(turn, next));
         Ok(())
     }
 
@@ -205,7 +210,10 @@ impl<R: Role, L: Ledger> Office<R, L> {
         ensures { Halts R.SIDE fault seat.old result seat.new }
     {
         match self.ask_and_wake(rt, seat, Call::Halt) {
-            Ok(_) => Err(SaveFault::Store(fault)),
+            Ok(receipt) => {
+                drop(receipt);
+                Err(SaveFault::Store(fault))
+            }
             Err(refused) => Err(SaveFault::Office(refused)),
         }
     }

@@ -50,6 +50,7 @@ impl<R: Role, L: Ledger> Office<R, L> {
         ensures { Submits R.SIDE (G.may_end gate.now number call) seat.old body result seat.new }
     {
         if !gate.hold(rt, number, call) {
+            drop(body);
             return Err(None);
         }
         match self.submit_told(rt, gate, number, call, seat, body) {

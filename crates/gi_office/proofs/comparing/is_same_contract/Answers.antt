@@ -3,4 +3,4 @@ use Rattle.gi_office.proofs.Sames.{contracts}
 use Rattle.gi_office.proofs.comparing.is_same_contract.Goals as goal
 
 pub returns : goal.returns
-returns c = contracts (IsTrue c.is_same_fact.result) c.args.contract.now c.args.other.now c.is_same_fact.ensures
+returns c = contracts (IsTrue c.are_equal.result) c.args.contract.now c.args.other.now c.are_equal.ensures

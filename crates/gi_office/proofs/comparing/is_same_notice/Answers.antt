@@ -3,4 +3,4 @@ use Rattle.gi_office.proofs.Sames.{notices}
 use Rattle.gi_office.proofs.comparing.is_same_notice.Goals as goal
 
 pub returns : goal.returns
-returns c = notices (IsTrue c.is_same_fact.result) c.args.notice.now c.args.other.now c.is_same_fact.ensures
+returns c = notices (IsTrue c.are_equal.result) c.args.notice.now c.args.other.now c.are_equal.ensures

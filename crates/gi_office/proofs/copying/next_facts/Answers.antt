@@ -6,11 +6,11 @@ use Rattle.gi_office.proofs.copying.next_facts.Goals as goal
 pub loop-before-preserved : goal.loop-before-preserved
 loop-before-preserved g c =
     let at = c.loop-before in
-    let copy = c.in_ok-fact_copy.field-0 in
+    let copy = c.in-Ok.copy in
     let pushed = c.push_reserved.ensures.items in
     record {
-      copies = next_pushed c.saved-saved.result at.before c.args.desk.now.facts at.copies.items c.push_reserved.new.self.items copy c.in_ok-fact_copy.ensures.value at.invariant.copies pushed;
-      writable = writable_pushed at.copies.items c.push_reserved.new.self.items copy pushed at.invariant.writable c.in_ok-fact_copy.ensures.writable;
+      copies = next_pushed c.saved-saved.result at.before c.args.desk.now.facts at.copies.items c.push_reserved.new.self.items copy c.in-Ok.ensures.value at.invariant.copies pushed;
+      writable = writable_pushed at.copies.items c.push_reserved.new.self.items copy pushed at.invariant.writable c.in-Ok.ensures.writable;
       counted = omega (arith, ap length pushed, length_push at.copies.items copy, at.invariant.counted);
       room = omega (arith, at.invariant.room, c.push_reserved.ensures.capacity);
     }

@@ -15,8 +15,8 @@ invariant_of-result g c =
     let goes =
     subst (λ (x : SettledState). GoesOn x.desk later.desk.point (opening_of (lives_of later.desk later.earlier.items later.opening later.trail.items))) (sym c.former.view_is)
     (subst (λ (x : SettledState). GoesOn c.args.former.desk x.desk.point (opening_of x.lives)) (sym c.later.view_is) c.requires) in
-    let earlier : c.append.new.earlier.items ≡ former.earlier.items ++ stretch ∷ later.earlier.items = c.in_ok-append.ensures.earlier in
-    let trail : c.append.new.trail.items ≡ former.trail.items ++ later.trail.items = c.in_ok-append.ensures.trail in
+    let earlier : c.append-appended.new.earlier.items ≡ former.earlier.items ++ stretch ∷ later.earlier.items = c.in-Ok.ensures.earlier in
+    let trail : c.append-appended.new.trail.items ≡ former.trail.items ++ later.trail.items = c.in-Ok.ensures.trail in
     let count : c.len-2.result ≡ length former.trail.items = search rules in
     let had : c.len.result ≡ length former.trail.items = search rules in
     let number : calls ≡ length former.trail.items - former.before = ap (λ (n : ℕ). n - former.before) had in
@@ -34,15 +34,15 @@ returns-clause-value g c =
     let goes =
     subst (λ (x : SettledState). GoesOn x.desk later.desk.point (opening_of (lives_of later.desk later.earlier.items later.opening later.trail.items))) (sym c.former.view_is)
     (subst (λ (x : SettledState). GoesOn c.args.former.desk x.desk.point (opening_of x.lives)) (sym c.later.view_is) c.requires) in
-    let earlier : c.append.new.earlier.items ≡ former.earlier.items ++ stretch ∷ later.earlier.items = c.in_ok-append.ensures.earlier in
-    let trail : c.append.new.trail.items ≡ former.trail.items ++ later.trail.items = c.in_ok-append.ensures.trail in
+    let earlier : c.append-appended.new.earlier.items ≡ former.earlier.items ++ stretch ∷ later.earlier.items = c.in-Ok.ensures.earlier in
+    let trail : c.append-appended.new.trail.items ≡ former.trail.items ++ later.trail.items = c.in-Ok.ensures.trail in
     let had : c.len.result ≡ length former.trail.items = search rules in
     let number : calls ≡ length former.trail.items - former.before = ap (λ (n : ℕ). n - former.before) had in
     let lives =
     (λ i. lives_of later.desk (earlier i) later.opening (trail i))
     ∙ joined-lives side former.desk later.desk former.earlier.items later.earlier.items former.before former.opening later.opening later.before former.trail.items
     later.trail.items calls c.former.invariant c.later.invariant number goes in
-    let both : SettledState = record { lives = lives_of later.desk c.append.new.earlier.items later.opening c.append.new.trail.items; desk = later.desk } in
+    let both : SettledState = record { lives = lives_of later.desk c.append-appended.new.earlier.items later.opening c.append-appended.new.trail.items; desk = later.desk } in
     let first : both ≡ joined_of (record { lives = lives_of former.desk former.earlier.items former.opening former.trail.items; desk = former.desk }) (record { lives = lives_of later.desk later.earlier.items later.opening later.trail.items; desk = later.desk }) =
     (λ i. record { lives = lives i; desk = later.desk }) in
     first ∙ (λ i. joined_of (c.former.view_is i) (c.later.view_is i))

@@ -1,5 +1,6 @@
-use Rattle.std.proofs.Common.{◌≡◌, ◌+◌, ◌-◌, map, ap, ◌∙◌, sym, [], ◌∷◌, ◌++◌, arith}
+use Rattle.std.proofs.Common.{◌≡◌, ◌+◌, ◌-◌, map, ap, ◌∙◌, sym, [], ◌∷◌, ◌++◌, length, arith}
 use Rattle.std.specs.List.{range_with_len}
+use Rattle.std.proofs.lemmas.List.{length_push}
 use Rattle.std.proofs.lemmas.List.FromFn.{map-range_with_len_more}
 use Rattle.gi_office.specs.Opening.{new_seat}
 use Rattle.gi_office.proofs.seating.seats_of.Goals as goal
@@ -19,5 +20,7 @@ loop-number-preserved g c =
     record {
       parts = omega (arith, had, left);
       none = omega (arith, still, none);
-      seats = c.in_ok-push.ensures.items ∙ (λ i. c.loop-number.invariant.seats i ++ seat i ∷ []) ∙ sym more;
+      counted = omega (arith, ap length c.push_reserved.ensures.items, length_push c.loop-number.seats.items c.seat_of.result, c.loop-number.invariant.counted);
+      room = omega (arith, c.loop-number.invariant.room, c.push_reserved.ensures.capacity);
+      seats = c.push_reserved.ensures.items ∙ (λ i. c.loop-number.invariant.seats i ++ seat i ∷ []) ∙ sym more;
     }
