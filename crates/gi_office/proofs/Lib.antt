@@ -12,4 +12,5 @@ mod Sames
 mod Sent
 mod Sessions
 mod Standing
+mod Strangers
 mod Turns

@@ -58,6 +58,12 @@ pub record IsStranger (side : Side) (s : DeskState) (entries : List Entry) (plac
   pub strange : ¬ (IsFrom side s entry.call)
   pub before : AreFrom side s (take (place - 1) entries)
 
+-- what is told of this side where what was delivered to it was not all sent by the other: its first stranger, or want of memory
+abbrev pub IsStrangerFault : Side → Side → DeskState → List Entry → Unreconciled → Type 0
+IsStrangerFault own other s entries NotAPair = ⊥
+IsStrangerFault own other s entries (Stranger side place) = (side ≡ own) × IsStranger other s entries place
+IsStrangerFault own other s entries OutOfMemory = Unit {0}
+
 -- the first of the initiating side comes before that of the matching side
 abbrev pub IsFirstStranger : SettledState → SettledState → Side → ℕ → Type 0
 IsFirstStranger initiating matching I place = IsStranger M matching.desk (entries_of initiating.lives) place

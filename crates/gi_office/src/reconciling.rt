@@ -1,9 +1,9 @@
 //! Two offices that are over, set against each other.
 
-ghost use Rattle.std.specs.Prelude.{◌≡◌, IfOk, MatchOption};
+ghost use Rattle.std.specs.Prelude.{◌≡◌, IfErr, IfOk, MatchOption, OnOk};
 ghost use Rattle.std.specs.List.{list_any};
 ghost use Rattle.gi_desk.specs.Queries.{outgoing};
-ghost use Rattle.gi_office.specs.Reconciling.{AgreeOnOneQuantity, AreFrom, IsStranger, Reconciles, carries, entries_of, is_from};
+ghost use Rattle.gi_office.specs.Reconciling.{AgreeOnOneQuantity, AreFrom, IsStranger, IsStrangerFault, Reconciles, carries, entries_of, is_from};
 
 use crate::entry::Entry;
 use crate::settled::Settled;
@@ -61,6 +61,21 @@ fn stranger<R: Role, S: Role>(
     Ok(stranger_among(sender, packets.as_slice(), receiver.entries()))
 }
 
+/// Whether all that was delivered to this side was sent by the other.
+fn none_strange<R: Role, S: Role>(
+    side: Side,
+    receiver: &Settled<R>,
+    sender: &Settled<S>,
+) -> Result<(), Unreconciled>
+    ensures from { OnOk result (AreFrom S.SIDE sender.now.desk (entries_of receiver.now.lives)) }
+    ensures refused { IfErr result (IsStrangerFault side S.SIDE sender.now.desk (entries_of receiver.now.lives)) }
+{
+    match stranger(receiver, sender)? {
+        Some(place) => Err(Unreconciled::Stranger { side, place }),
+        None => Ok(()),
+    }
+}
+
 /// Sets the offices of the two operators against each other: whether both are of one point, else
 /// `NotAPair`, and what was delivered to each, accepted or not, is what a saved fact of the other
 /// lets out to its peer, else `Stranger`, the first; `OutOfMemory`. Where it answers `Ok`, and what
@@ -78,17 +93,7 @@ pub fn reconcile(
     if initiating.desk().point() != matching.desk().point() {
         return Err(Unreconciled::NotAPair);
     }
-    if let Some(place) = stranger(initiating, matching)? {
-        return Err(Unreconciled::Stranger {
-            side: Side::I,
-            place,
-        });
-    }
-    if let Some(place) = stranger(matching, initiating)? {
-        return Err(Unreconciled::Stranger {
-            side: Side::M,
-            place,
-        });
-    }
+    none_strange(Side::I, initiating, matching)?;
+    none_strange(Side::M, matching, initiating)?;
     Ok(())
 }

@@ -59,7 +59,11 @@ fn rooms_for<L: Ledger>(
 {
     let mut rooms = Vec::with_capacity(alloc, sessions.len())?;
     for session in sessions {
-        rooms.push(Vec::with_capacity(alloc, session.count())?)?;
+        let Ok(room) = Vec::with_capacity(alloc, session.count()) else {
+            drop(rooms);
+            return Err(AllocError);
+        };
+        rooms.push_reserved(room);
     }
     Ok(rooms)
 }

@@ -39,10 +39,7 @@ fn turn_of(answer: Result<Receipt, OfficeFault>) -> Result<Turn, SaveFault>
         Err(fault) => return Err(SaveFault::Office(fault)),
     };
     match receipt.reply.answer {
-        Answer::Refused(refusal) => {
-            drop(receipt);
-            Err(SaveFault::Marked(refusal))
-        }
+        Answer::Refused(refusal) => Err(SaveFault::Marked(refusal)),
         _ => Ok(Turn::Saved(receipt)),
     }
 }

@@ -7,4 +7,4 @@ pub returns : goal.returns
 returns g c =
     let at = c.loop-session in
     let sessions = c.args.sessions.now in
-    all-roomed sessions (drop at.session-index sessions) at.rooms.items (drop_all at.session-index sessions (omega (arith, c.loop-session-test.false))) at.invariant
+    all-roomed sessions (drop at.session-index sessions) at.rooms.items (drop_all at.session-index sessions (omega (arith, c.loop-session-test.false))) at.invariant.rooms
