@@ -1,5 +1,5 @@
 -- What is told of a stranger is what two offices are refused for.
-use Rattle.std.proofs.Common.{◌≡◌, ℕ, Err, sym, subst}
+use Rattle.std.proofs.Common.{Err, sym, subst}
 use Rattle.gi_pairs.specs.declared.side.Side.{Side}
 use Rattle.gi_pairs.specs.declared.side.Side.TheVariants.{I, M}
 use Rattle.gi_office.specs.Reconciling.{AreFrom, AreOfOnePoint, IsFirstStranger, IsStrangerFault, Reconciles, entries_of}

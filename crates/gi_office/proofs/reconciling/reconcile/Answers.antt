@@ -1,4 +1,4 @@
-use Rattle.std.proofs.Common.{rules, ◌≡◌, Err}
+use Rattle.std.proofs.Common.{rules, Err}
 use Rattle.gi_office.specs.Reconciling.{AreOfOnePoint, Reconciles}
 use Rattle.gi_office.proofs.Reconciled.{reconciled}
 use Rattle.gi_office.proofs.Strangers.{told_first, told_next}
