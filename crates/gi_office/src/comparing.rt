@@ -36,6 +36,7 @@ fn are_equal(fact: Fact, other: Fact) -> bool
     ensures { IsTrue result ↔ (fact ≡ other) }
 {
     let is_same = is_same_fact(&fact, &other);
+    // (handed to drop, by one call: going out of scope here would be checked field by field on each way out)
     drop((fact, other));
     is_same
 }

@@ -16,6 +16,7 @@ fn packets_copy(alloc: Global, packets: &[Packet]) -> Result<Vec<Packet>, AllocE
     let mut copies = Vec::with_capacity(alloc, packets.len())?;
     for packet in packets {
         let Ok(copy) = packet.copy() else {
+            // (handed to drop, by one call: going out of scope here would be checked field by field on each way out)
             drop(copies);
             return Err(AllocError);
         };

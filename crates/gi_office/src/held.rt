@@ -46,6 +46,7 @@ fn entry_of(alloc: Global, number: u8, call: &Call, reply: &Reply) -> Result<Ent
 {
     let reply = reply_copy(alloc, reply)?;
     let Ok(call) = call.copy() else {
+        // (handed to drop, by one call: going out of scope here would be checked field by field on each way out)
         drop(reply);
         return Err(AllocError);
     };

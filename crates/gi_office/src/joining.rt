@@ -100,6 +100,7 @@ fn joined<R: Role>(former: Settled<R>, later: Settled<R>) -> Result<Settled<R>, 
         &mut trail,
         &mut further_trail,
     );
+    // (handed to drop, by one call: going out of scope here would be checked field by field on each way out)
     drop((ended, further, further_trail));
     let Ok(()) = appended else {
         drop((earlier, trail, desk));

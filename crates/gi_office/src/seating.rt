@@ -34,6 +34,7 @@ pub(crate) fn seats_of<L: Ledger>(
 {
     let mut rest = share;
     let Ok(mut seats) = Vec::with_capacity(alloc, count as usize) else {
+        // (handed to drop, by one call: going out of scope here would be checked field by field on each way out)
         drop(rest);
         return Err(AllocError);
     };

@@ -60,6 +60,7 @@ fn rooms_for<L: Ledger>(
     let mut rooms = Vec::with_capacity(alloc, sessions.len())?;
     for session in sessions {
         let Ok(room) = Vec::with_capacity(alloc, session.count()) else {
+            // (handed to drop, by one call: going out of scope here would be checked field by field on each way out)
             drop(rooms);
             return Err(AllocError);
         };

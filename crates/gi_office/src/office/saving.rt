@@ -208,6 +208,7 @@ impl<R: Role, L: Ledger> Office<R, L> {
     {
         match self.ask_and_wake(rt, seat, Call::Halt) {
             Ok(receipt) => {
+                // (handed to drop, by one call: going out of scope here would be checked field by field on each way out)
                 drop(receipt);
                 Err(SaveFault::Store(fault))
             }

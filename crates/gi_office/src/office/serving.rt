@@ -50,6 +50,7 @@ impl<R: Role, L: Ledger> Office<R, L> {
         ensures { Submits R.SIDE (G.may_end gate.now number call) seat.old body result seat.new }
     {
         if !gate.hold(rt, number, call) {
+            // (handed to drop, by one call: going out of scope here would be checked field by field on each way out)
             drop(body);
             return Err(None);
         }
