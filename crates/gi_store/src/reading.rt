@@ -1,6 +1,6 @@
 //! Rows are read as facts.
 
-ghost use Rattle.std.specs.Prelude.{◌≡◌, ◌≤◌, IfOk, IfErr};
+ghost use Rattle.std.specs.Prelude.{◌≡◌, ◌≤◌, ◌+◌, ◌++◌, length, IfOk, IfErr, OnOk};
 ghost use Rattle.sqlite_value.specs.Order.{column};
 ghost use Rattle.sqlite_value.specs.declared.value.Value.TheVariants.{Int};
 ghost use Rattle.gi_store.specs.Facts.{AreFactsFrom, Covers, HasBody, IsBodyFault, IsReadFault, IsRowFault};
@@ -52,6 +52,16 @@ fn read_row(alloc: Global, row: &Row, next: u64) -> Result<Vec<Fact>, StoreFault
     body_of(alloc, row, number)
 }
 
+fn append_row(alloc: Global, row: &Row, facts: &mut Vec<Fact>) -> Result<(), StoreFault>
+    ensures appended { OnOk result ((batch : _) × Covers (length facts.old.items + 1) row.now batch × (facts.new.items ≡ facts.old.items ++ batch)) }
+    ensures refused { IfErr result (IsRowFault (length facts.old.items + 1) row.now) }
+{
+    let next = facts.len() as u64 + 1;
+    let mut batch = read_row(alloc, row, next)?;
+    facts.append(&mut batch)?;
+    Ok(())
+}
+
 /// The first fault is the first by number only where the rows come in the order of their numbers.
 pub fn read_facts(alloc: Global, rows: &[Row]) -> Result<Vec<Fact>, StoreFault>
     ensures facts { IfOk result (λ facts. AreFactsFrom 1 rows.now facts.items) }
@@ -59,9 +69,7 @@ pub fn read_facts(alloc: Global, rows: &[Row]) -> Result<Vec<Fact>, StoreFault>
 {
     let mut facts = Vec::new(alloc);
     for row in rows {
-        let next = facts.len() as u64 + 1;
-        let mut batch = read_row(alloc, row, next)?;
-        facts.append(&mut batch)?;
+        append_row(alloc, row, &mut facts)?;
     }
     Ok(facts)
 }
