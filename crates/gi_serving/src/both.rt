@@ -63,7 +63,7 @@ fn put<A: Drop>(place: &mut A, value: A)
     *place = value;
 }
 
-/// At both offices at once, from all of their seats, which come back.
+/// Submits at both offices at once, by all of their seats, which come back.
 fn submit_from<
     L: Ledger + Send + Sync,
     K: Ledger + Send + Sync,
