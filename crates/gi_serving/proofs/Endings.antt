@@ -1,15 +1,18 @@
 -- How it ended, from what was made and what closing both offices came to.
-use Rattle.std.proofs.Common.{arith, ◌≡◌, ℕ, ◌+◌, ◌-◌, List, [], ◌∷◌, drop, length, map, Result, Ok, Err, inl, inr, ap, ◌∙◌, sym, subst}
+use Rattle.std.proofs.Common.{arith, ◌≡◌, ℕ, ◌+◌, ◌-◌, List, [], ◌∷◌, ◌++◌, drop, length, map, Result, Ok, Err, inl, inr, ap, ◌∙◌, sym, subst}
 use Rattle.std.specs.List.{range_with_len}
+use Rattle.std.specs.Prelude.{IfOk}
 use Rattle.std.proofs.lemmas.List.{length-append}
 use Rattle.std.proofs.lemmas.List.FromFn.{length-map-range_with_len}
 use Rattle.gi_office.specs.Keeping.{SeatState}
 use Rattle.gi_office.specs.Opening.{new_seat, new_seats}
-use Rattle.gi_office.specs.Settling.{SettledState}
+use Rattle.gi_office.specs.Reconciling.{AgreeOnOneQuantity, Reconciles}
+use Rattle.gi_office.specs.Settling.{AreLegal, SettledState}
 use Rattle.gi_office.specs.declared.unreconciled.Unreconciled.{Unreconciled}
 use Rattle.gi_office.specs.declared.unsettled.Unsettled.{Unsettled}
+use Rattle.gi_pairs.specs.declared.side.Side.TheVariants.{I, M}
 use Rattle.gi_script.specs.declared.line.Line.{Line}
-use Rattle.gi_serving.specs.Closing.{AreLastLines, IsClosed, end_of}
+use Rattle.gi_serving.specs.Closing.{AreLastLines, IsClosed, IsReconciled, end_of, reconciled_line}
 use Rattle.gi_serving.specs.Ending.{AreSamePlaces, Closes, IsCut, IsOver, IsTold, place_of}
 use Rattle.gi_serving.specs.Making.{OfficesState, Runs, RunsSome, new_offices}
 use Rattle.gi_serving.specs.Runs.{pieces}
@@ -32,6 +35,20 @@ closes parts peer_parts sessions reached old last new end result closed (inr h) 
   closed = subst (λ (e : Result (Unit {0}) ServeFault). IsClosed parts (sessions + 1) reached.initiating.seats peer_parts (sessions + 1) reached.matching.seats last e) (sym h.1) closed;
   added = h.0;
 })
+
+pub reconciled_so : (front line text : List ℕ) (initiating matching : SettledState) (answer : Result (Unit {0}) Unreconciled) (end : Result (Unit {0}) ServeFault)
+    → Reconciles initiating matching answer → IfOk answer (λ done. AgreeOnOneQuantity initiating matching)
+    → AreLegal I initiating.lives initiating.desk → AreLegal M matching.lives matching.desk
+    → line ≡ reconciled_line answer → text ≡ front ++ line → end ≡ end_of answer → IsReconciled front initiating matching text end
+reconciled_so front line text initiating matching answer end reconciles quantity legal peer_legal told added ended = record {
+  answer = answer;
+  reconciles = reconciles;
+  text_is = added ∙ ap (λ (t : List ℕ). front ++ t) told;
+  end_is = ended;
+  initiating_legal = legal;
+  matching_legal = peer_legal;
+  one_quantity = λ is. subst (λ (r : Result (Unit {0}) Unreconciled). IfOk r (λ done. AgreeOnOneQuantity initiating matching)) is quantity;
+}
 
 not_cut : (parts seats : ℕ) (handed : List SeatState) (peer_parts peer_seats : ℕ) (peer_handed : List SeatState) (last : List ℕ) (end : Result (Unit {0}) ServeFault)
     → IsClosed parts seats handed peer_parts peer_seats peer_handed last end → IsCut end → ⊥

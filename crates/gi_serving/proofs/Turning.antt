@@ -17,9 +17,10 @@ use Rattle.gi_office.specs.declared.save_fault.SaveFault.TheVariants as savings
 use Rattle.gi_office.specs.declared.turn.Turn.{Turn}
 use Rattle.gi_office.specs.declared.turn.Turn.TheVariants as turns
 use Rattle.gi_pairs.specs.declared.side.Side.{Side}
+use Rattle.gi_pairs.specs.declared.side.Side.TheVariants.{I, M}
 use Rattle.gi_store.specs.Book.{BookState}
 use Rattle.gi_store.specs.declared.store_fault.StoreFault.{StoreFault}
-use Rattle.gi_serving.specs.Asking.{IsMark, MarksLast, NotesMarks, saved_of}
+use Rattle.gi_serving.specs.Asking.{IsMark, MarksLast, NotesMarks, OtherIs, saved_of}
 
 noted_so : (old new : SeatState) (marks : List Note) → All IsMark marks → new ≡ record old { notes = old.notes ++ marks; amount = old.amount + length marks } → NotesMarks old new
 noted_so old new marks are is = record { marks = marks; are_marks = are; new_is = is }
@@ -97,3 +98,11 @@ turn_marks side store before after old result new (inr h) = followed side store 
 pub last_marks : {A E : Type 0} (r : Result A E) (old new others : List SeatState) (main after : SeatState) → old ≡ others ++ main ∷ [] → new ≡ others ++ after ∷ [] → OnOk r (NotesMarks main after) → OnOk r (MarksLast old new)
 last_marks (Ok x) old new others main after taken given notes = record { others = others; main = main; after = after; old_is = taken; new_is = given; notes = notes }
 last_marks (Err e) old new others main after taken given notes = tt
+
+-- ---- the other side
+
+pub kept_so : {A E : Type 0} (r : Result A E) (seat : SeatState) → OnOk r (NotesMarks seat seat)
+kept_so r seat = whatever (NotesMarks seat seat) r (none_marked seat)
+
+pub other_at_I : {X : Type 0} (side : Side) (old new peer : X) → side ≡ I → OtherIs side old new peer peer
+other_at_I {X} side old new peer is = subst (λ (s : Side). OtherIs s old new peer peer) (sym is) refl

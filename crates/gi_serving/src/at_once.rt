@@ -44,7 +44,6 @@ fn wakers(alloc: Global) -> Result<(Waker, Waker, Receiver<Side>), AllocError>
     ))
 }
 
-#[tactic(auto, using(crate::proofs::Turning::none_marked))]
 fn turned_at<L: Ledger, K: Ledger, S: Alter, W: Wait>(
     rt: &W,
     side: Side,

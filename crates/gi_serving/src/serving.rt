@@ -78,7 +78,6 @@ fn made<
 }
 
 /// Makes the first piece, saves what it recorded, and sends what was let out.
-#[tactic(auto, using(crate::proofs::Places::same_again, crate::proofs::Places::same_length, crate::proofs::Places::still_some, crate::proofs::Walking::first_saved))]
 fn made_and_saved<
     L: Ledger + Send + Sync,
     K: Ledger + Send + Sync,
@@ -143,7 +142,6 @@ fn step<
     }
 }
 
-#[tactic(auto, using(crate::proofs::Places::same_again, crate::proofs::Places::same_length, crate::proofs::Walking::begun, crate::proofs::Walking::so_far, crate::proofs::Walking::to_the_end))]
 fn run<
     L: Ledger + Send + Sync,
     K: Ledger + Send + Sync,

@@ -9,6 +9,12 @@ use Rattle.gi_serving.proofs.Dealing.{main_submits}
 use Rattle.gi_serving.proofs.Places.{with_main}
 use Rattle.gi_serving.proofs.at_once.at_once.Goals as goal
 
+pub whole-requires : goal.whole-requires
+whole-requires g c = c.join-saved.ensures.first.4
+
+pub returns-clause-cut : goal.returns-clause-cut
+returns-clause-cut g c = c.whole.ensures.cut
+
 pub returns-clause-places : goal.returns-clause-places
 returns-clause-places g c =
     let others = c.parted-seats.result.0.items in

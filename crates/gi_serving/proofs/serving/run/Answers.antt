@@ -1,9 +1,46 @@
-use Rattle.std.proofs.Common.{rules, ◌≡◌, ◌≤◌, ◌+◌, ◌-◌, max, length, take, drop, string_bytes, ℕ, ◌∙◌, sym, subst}
+use Rattle.std.proofs.Common.{arith, rules, ◌≡◌, ◌≤◌, ◌+◌, ◌-◌, max, length, take, drop, string_bytes, ℕ, ap, refl, ◌∙◌, sym, subst}
 use Rattle.std.proofs.lemmas.List.{take_rest}
 use Rattle.gi_serving.specs.Making.{AddsFirst, offices_of}
-use Rattle.gi_serving.proofs.Places.{same_again}
-use Rattle.gi_serving.proofs.Walking.{next_made}
+use Rattle.gi_serving.proofs.Places.{same_again, same_length}
+use Rattle.gi_serving.proofs.Walking.{begun, next_made, so_far, to_the_end}
 use Rattle.gi_serving.proofs.serving.run.Goals as goal
+
+pub loop-at-init : goal.loop-at-init
+loop-at-init g c =
+    let start = offices_of c.args.both.now.initiating c.args.both.now.matching in
+    record {
+      within = omega arith;
+      sessions = refl;
+      ours = refl;
+      theirs = refl;
+      watched = c.requires.begun;
+      made = begun c.args.both.now.sessions c.args.lines.now start (string_bytes c.args.text.now) c.requires.none;
+    }
+
+pub step-requires-clause-batch : goal.step-requires-clause-batch
+step-requires-clause-batch g c κs within = c.batch_length-batch.ensures.counted
+
+pub step-requires-clause-within : goal.step-requires-clause-within
+step-requires-clause-within g c κs within = c.batch_length-batch.ensures.within
+
+pub step-requires-clause-ours : goal.step-requires-clause-ours
+step-requires-clause-ours g c κs within =
+    same_length c.args.both.now.initiating.seats.items c.loop-at.both.initiating.seats.items c.loop-at.invariant.ours
+    ∙ c.requires.ours
+    ∙ ap (λ (n : ℕ). n + 1) (sym c.loop-at.invariant.sessions)
+
+pub step-requires-clause-theirs : goal.step-requires-clause-theirs
+step-requires-clause-theirs g c κs within =
+    same_length c.args.both.now.matching.seats.items c.loop-at.both.matching.seats.items c.loop-at.invariant.theirs
+    ∙ c.requires.theirs
+    ∙ ap (λ (n : ℕ). n + 1) (sym c.loop-at.invariant.sessions)
+
+pub returns-in-Err-clause-told : goal.returns-in-Err-clause-told
+returns-in-Err-clause-told g c =
+    let start = offices_of c.args.both.now.initiating c.args.both.now.matching in
+    let reached = offices_of c.loop-at.both.initiating c.loop-at.both.matching in
+    so_far c.args.both.now.sessions c.args.lines.now c.loop-at.at (g.V.Watch.told c.loop-at.watch) start reached (string_bytes c.loop-at.text) (string_bytes c.step.new.text)
+    c.loop-at.invariant.watched c.in-Err.ensures.kept c.loop-at.invariant.made
 
 pub loop-at-preserved : goal.loop-at-preserved
 loop-at-preserved g c =
@@ -31,3 +68,16 @@ loop-at-preserved g c =
           (subst (λ (n : ℕ). AddsFirst sessions left n now old new next) (sym count)
           (subst (λ (n : ℕ). AddsFirst n left (max c.batch_length-batch.result 1) now old new next) c.loop-at.invariant.sessions adds));
     }
+
+pub returns-clause-told : goal.returns-clause-told
+returns-clause-told g c =
+    let start = offices_of c.args.both.now.initiating c.args.both.now.matching in
+    let reached = offices_of c.loop-at.both.initiating c.loop-at.both.matching in
+    let text = string_bytes c.loop-at.text in
+    so_far c.args.both.now.sessions c.args.lines.now c.loop-at.at (g.V.Watch.told c.loop-at.watch) start reached text text c.loop-at.invariant.watched refl c.loop-at.invariant.made
+
+pub returns-clause-whole : goal.returns-clause-whole
+returns-clause-whole g c =
+    let start = offices_of c.args.both.now.initiating c.args.both.now.matching in
+    let reached = offices_of c.loop-at.both.initiating c.loop-at.both.matching in
+    to_the_end c.args.both.now.sessions c.args.lines.now c.loop-at.at start reached (string_bytes c.loop-at.text) (omega (arith, c.loop-at-test.false)) c.loop-at.invariant.made

@@ -3,11 +3,11 @@ use Rattle.gi_serving.specs.Asking.{AsksLast}
 use Rattle.gi_serving.specs.Words.{word_in}
 use Rattle.gi_serving.specs.declared.word.Word.{Word}
 use Rattle.gi_serving.proofs.Asked.{asked_last, both_known}
-use Rattle.gi_serving.proofs.running.Running.ask.Goals as goal
+use Rattle.gi_serving.proofs.running.ask.Goals as goal
 
 pub returns-clause-asked : goal.returns-clause-asked
 returns-clause-asked g c =
-    let old = c.args.self.now.seats.items in
+    let old = c.args.seats.now.items in
     let new = c.push_reserved.new.self.items in
     let others = c.pop.new.self.items in
     let main = c.unwrap-main.result in
