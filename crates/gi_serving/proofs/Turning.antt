@@ -106,3 +106,6 @@ kept_so r seat = whatever (NotesMarks seat seat) r (none_marked seat)
 
 pub other_at_I : {X : Type 0} (side : Side) (old new peer : X) → side ≡ I → OtherIs side old new peer peer
 other_at_I {X} side old new peer is = subst (λ (s : Side). OtherIs s old new peer peer) (sym is) refl
+
+pub other_at_M : {X : Type 0} (side : Side) (one peer_old peer_new : X) → side ≡ M → OtherIs side one one peer_old peer_new
+other_at_M {X} side one peer_old peer_new is = subst (λ (s : Side). OtherIs s one one peer_old peer_new) (sym is) refl

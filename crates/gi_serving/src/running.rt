@@ -136,7 +136,6 @@ fn saved_all<R: Role, L: Ledger, S: Alter, W: Wait>(
     unreachable!()
 }
 
-#[tactic(auto, using(crate::proofs::Places::put_back))]
 fn ask<R: Role, L: Ledger, W: Wait>(
     rt: &W,
     office: &Office<R, L>,
@@ -336,7 +335,8 @@ impl<R: Role, L: Ledger, S: Alter + Drop> Running<R, L, S> {
         match opened(alloc, blank, desk, sessions) {
             Ok((office, seats)) => Ok(just_opened(alloc, office, book, seats, way)),
             Err(refused) => {
-                drop((book, way));
+                drop(book);
+                drop(way);
                 Err(refused)
             }
         }
