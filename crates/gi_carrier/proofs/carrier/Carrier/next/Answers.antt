@@ -1,5 +1,4 @@
-use Rattle.std.proofs.Common.{Contains, arith, map, rules, sym, ap, ◌∙◌, option_map}
-use Rattle.std.proofs.lemmas.Grind.{common_steps}
+use Rattle.std.proofs.Common.{Contains, map, sym, ap, ◌∙◌, option_map}
 use Rattle.std.proofs.lemmas.List.Elements.{All-contains_itself, All-same}
 use Rattle.gi_carrier.specs.Kept.{bytes_of, messages_of}
 use Rattle.gi_carrier.proofs.CarrierLaws.{bytes_are, waited_are, waited_is}
@@ -20,13 +19,3 @@ pub returns-clause-wait : goal.returns-clause-wait
 returns-clause-wait c =
     let same = sym (ap (λ s. s.waiting) c.self.view_is) in
     waited_are c.args.self.now.waiting (messages_of c.self.inside.waiting) (messages_of c.make.new.waiting) c.move_at.result same c.in_ok-given.ensures.left
-
--- (what proves a goal is named, so that a wrong body is refused sooner)
-pub returns-clause-left : goal.returns-clause-left
-returns-clause-left c = grind (arith, common_steps)
-
-pub returns-then-is_empty-clause-left : goal.returns-then-is_empty-clause-left
-returns-then-is_empty-clause-left c = grind (arith, common_steps)
-
-pub returns-in_err-given-clause-kept : goal.returns-in_err-given-clause-kept
-returns-in_err-given-clause-kept c = search rules
