@@ -1,6 +1,0 @@
-use Rattle.std.proofs.Common.{rules}
-use Rattle.gi_desk.proofs.packet.Packet.copy.Goals as goal
-
--- (what proves a goal is named, so that a wrong body is refused sooner)
-pub returns : goal.returns
-returns c = search rules
