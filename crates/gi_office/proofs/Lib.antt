@@ -9,6 +9,7 @@ mod Points
 mod Reconciled
 mod Runs
 mod Sames
+mod Seats
 mod Sent
 mod Sessions
 mod Standing

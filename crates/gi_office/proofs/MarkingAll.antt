@@ -1,5 +1,5 @@
 -- Marks of facts, one after the other.
-use Rattle.std.proofs.Common.{◌≡◌, ◌≤◌, ℕ, ◌+◌, suc, List, [], ◌∷◌, ◌++◌, length, Ok, Err, append-nil, append_assoc, refl, sym, ap, ◌∙◌, subst, arith}
+use Rattle.std.proofs.Common.{◌≡◌, ◌≤◌, ℕ, ◌+◌, suc, List, [], ◌∷◌, ◌++◌, length, Ok, Err, append-nil, append_assoc, length-append, refl, sym, ap, ◌∙◌, subst, arith}
 use Rattle.std.proofs.lemmas.List.{length_push}
 use Rattle.gi_pairs.specs.declared.side.Side.{Side}
 use Rattle.gi_facts.specs.declared.fact.Fact.{Fact}
@@ -60,6 +60,13 @@ goes_on side n facts rest later fact old turn seat marked (Saved receipt) new so
   each = one_more side n so.done so.receipts fact receipt old seat new so.each (subst (λ (k : ℕ). Marks side (n + k) fact seat (Ok (Saved receipt)) new) so.count mark);
   last = (so.receipts, refl);
 }
+
+-- there is a fact for each mark, and for the next one
+pub marks_fit :
+    (side : Side) (n : ℕ) (facts rest later : List Fact) (fact : Fact) (old : SeatState) (turn : Turn) (seat : SeatState) (marked : ℕ)
+    → AreMarkedBefore side n facts rest old turn seat marked → rest ≡ fact ∷ later → marked + 1 ≤ length facts
+marks_fit side n facts rest later fact old turn seat marked so step =
+    omega (arith, so.count, ap (length {A = Fact}) so.are, length-append so.done rest, ap (length {A = Fact}) step)
 
 pub stops :
     (side : Side) (n : ℕ) (facts rest later : List Fact) (fact : Fact) (old : SeatState) (turn : Turn) (seat : SeatState) (marked : ℕ) (fault : SaveFault) (new : SeatState)

@@ -1,10 +1,12 @@
 -- Facts of one kind are equal exactly where what they are of is.
-use Rattle.std.proofs.Common.{◌≡◌, ◌↔◌, ap}
+use Rattle.std.proofs.Common.{◌≡◌, ◌↔◌, ℕ, ap, sym, ◌∙◌}
 use Rattle.gi_pairs.specs.declared.cycle_id.CycleId.{CycleId}
 use Rattle.gi_processing.specs.declared.contract.Contract.{Contract}
 use Rattle.gi_processing.specs.declared.notice.Notice.{Notice}
 use Rattle.gi_facts.specs.declared.fact.Fact.{Fact}
 use Rattle.gi_facts.specs.declared.fact.Fact.TheVariants.{Contracted, Noticed, Closed}
+use Rattle.gi_desk.specs.declared.call.Call.{Call}
+use Rattle.gi_desk.specs.declared.call.Call.TheVariants.{MarkSaved}
 
 abbrev pub contract_of : Contract → Fact → Contract
 contract_of c (Contracted contract) = contract
@@ -26,3 +28,12 @@ notices P a b same = (λ p. ap (notice_of a) (same.0 p), λ e. same.1 (ap Notice
 
 pub cycles : (P : Type 0) (a b : CycleId) → P ↔ (Closed a ≡ Closed b) → P ↔ (a ≡ b)
 cycles P a b same = (λ p. ap (cycle_of a) (same.0 p), λ e. same.1 (ap Closed e))
+
+abbrev pub marked_of : Fact → Call → Fact
+marked_of f (MarkSaved n fact) = fact
+marked_of f other = f
+
+pub marks :
+    (P : Type 0) (n m : ℕ) (a b : Fact) (call other : Call) → call ≡ MarkSaved n a → other ≡ MarkSaved m b → n ≡ m → P ↔ (a ≡ b) → P ↔ (call ≡ other)
+marks P n m a b call other first second number same =
+    (λ p. first ∙ (λ i. MarkSaved (number i) (same.0 p i)) ∙ sym second, λ e. same.1 (ap (marked_of a) (sym first ∙ e ∙ second)))

@@ -1,5 +1,6 @@
 -- What a turn comes to, from what its parts do.
-use Rattle.std.proofs.Common.{◌≡◌, ◌≤◌, inl, inr, ℕ, ◌+◌, ◌-◌, ◌^◌, true, false, List, length, take, drop, Some, Result, ap, sym, subst, arith}
+use Rattle.std.proofs.Common.{◌≡◌, ◌≤◌, inl, inr, ℕ, ◌+◌, ◌-◌, ◌^◌, true, false, List, [], ◌∷◌, length, take, drop, Some, Result, refl, ap, sym, ◌∙◌, subst, arith}
+use Rattle.std.specs.Prelude.{if◌then◌else◌}
 use Rattle.std.specs.List.{AllByRecursion}
 use Rattle.std.proofs.lemmas.List.{length-take}
 use Rattle.sqlite_trees.specs.declared.store.Store.{Ghosts}
@@ -14,7 +15,8 @@ use Rattle.gi_store.specs.Book.{BookState}
 use Rattle.gi_store.specs.Clean.{IsClean}
 use Rattle.gi_store.specs.declared.store_fault.StoreFault.{StoreFault}
 use Rattle.gi_office.specs.Keeping.{SeatState}
-use Rattle.gi_office.specs.Saving.{AreNext, Halts, HasFrom, IsWriteFault, MarksAll, Saves, Stand, WritesAtMost, WritesNothing, is_ahead, next_facts}
+use Rattle.gi_office.specs.Saving.{AreNext, Halts, HasFrom, IsWriteFault, MarksAll, Saves, Stand, WritesAtMost, WritesNothing, is_ahead, look_of, next_facts, next_look}
+use Rattle.gi_office.specs.declared.look.Look.TheVariants.{Halted, Next}
 use Rattle.gi_office.specs.declared.save_fault.SaveFault.{SaveFault}
 use Rattle.gi_office.specs.declared.turn.Turn.{Turn}
 
@@ -31,6 +33,17 @@ copied_next s n copies seen are same count writable numbers some = subst (λ (fs
   where
     drop_saved : DeskState → List Fact
     drop_saved d = drop d.saved d.facts
+
+shown : (n : ℕ) (facts : List Fact) → 1 ≤ length facts → Next n facts ≡ next_look n facts
+shown n [] some = absurd (omega (arith, some))
+shown n (fact ∷ facts) some = refl
+
+pub looked_next :
+    (s : DeskState) (n : ℕ) (copies seen : List Fact) → s.halted ≡ false → copies ≡ next_facts s → seen ≡ copies → n ≡ s.saved → 1 ≤ length copies → Next (n + 1) seen ≡ look_of s
+looked_next s n copies seen runs are same count some =
+    let some_next : 1 ≤ length (next_facts s) = subst (λ (fs : List Fact). 1 ≤ length fs) are some in
+    (λ i. Next (count i + 1) ((same ∙ are) i)) ∙ shown (s.saved + 1) (next_facts s) some_next
+    ∙ sym (λ i. if runs i then Halted else next_look (s.saved + 1) (next_facts s))
 
 module _ {S : Type 0} (side : Side) (store : Ghosts S) (before after : BookState S) (n : ℕ) (given slice : List Fact) (front : ℕ) where
   pub stood :

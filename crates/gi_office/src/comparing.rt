@@ -5,7 +5,7 @@ ghost use Rattle.gi_office.specs.Settling.{note_of};
 
 use crate::entry::Entry;
 use crate::note::Note;
-use gi_desk::{Call, Fact, Packet, Reply};
+use gi_desk::{Answer, Call, Fact, Packet, Reply};
 use gi_facts::same_facts_are_equal;
 use gi_pairs::CycleId;
 use gi_processing::{Contract, Notice};
@@ -97,10 +97,17 @@ fn are_same_packets(packets: &[Packet], others: &[Packet]) -> bool
     true
 }
 
+fn is_same_answer(answer: &Answer, other: &Answer) -> bool
+    ensures { IsTrue result ↔ (answer.now ≡ other.now) }
+{
+    answer == other
+}
+
 fn is_same_reply(reply: &Reply, other: &Reply) -> bool
     ensures { IsTrue result ↔ (reply.now ≡ other.now) }
 {
-    reply.answer == other.answer && are_same_packets(reply.out.as_slice(), other.out.as_slice())
+    is_same_answer(&reply.answer, &other.answer)
+        && are_same_packets(reply.out.as_slice(), other.out.as_slice())
 }
 
 pub(crate) fn is_noted(notes: &[Note], index: usize, place: u64, entry: &Entry) -> bool
