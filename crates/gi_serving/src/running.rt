@@ -136,101 +136,6 @@ fn saved_all<R: Role, L: Ledger, S: Alter, W: Wait>(
     unreachable!()
 }
 
-fn ask<R: Role, L: Ledger, W: Wait>(
-    rt: &W,
-    office: &Office<R, L>,
-    seats: &mut Vec<Seat<L>>,
-    call: Call,
-) -> Result<Option<Word>, AllocError>
-    requires { 0 < length seats.old.items }
-    ensures seats { AreSamePlaces seats.old.items seats.new.items }
-    ensures told { IfOk result (λ word. is_some word ≡ is_made call) }
-    ensures asked { IfOk result (λ word. AsksLast R.SIDE seats.old.items call word seats.new.items) }
-{
-    let main = seats.pop().unwrap();
-    let (main, answer) = called(rt, office, main, call);
-    seats.push_reserved(main);
-    word_of(answer)
-}
-
-fn ask_copy<R: Role, L: Ledger, W: Wait>(
-    rt: &W,
-    office: &Office<R, L>,
-    seats: &mut Vec<Seat<L>>,
-    call: &Call,
-) -> Result<Option<Word>, AllocError>
-    requires { 0 < length seats.old.items }
-    ensures seats { AreSamePlaces seats.old.items seats.new.items }
-    ensures told { IfOk result (λ word. is_some word ≡ is_made call.now) }
-    ensures asked { IfOk result (λ word. AsksLast R.SIDE seats.old.items call.now word seats.new.items) }
-{
-    let call = call.copy()?;
-    ask(rt, office, seats, call)
-}
-
-fn set(way: &mut Link, plan: &Plan) -> Result<Option<Word>, AllocError>
-    ensures way { OnOk result (way.new ≡ record { carrier = way.old.carrier; plan = plan.now }) }
-    ensures told { IfOk result (λ word. word ≡ None) }
-{
-    way.set(plan)?;
-    Ok(None)
-}
-
-/// Where the carrier gave nothing, none is delivered.
-fn deliver<R: Role, L: Ledger, W: Wait>(
-    rt: &W,
-    office: &Office<R, L>,
-    seats: &mut Vec<Seat<L>>,
-    message: Option<Vec<u8>>,
-) -> Result<Option<Word>, AllocError>
-    requires { 0 < length seats.old.items }
-    ensures seats { AreSamePlaces seats.old.items seats.new.items }
-    ensures told { IfOk result (λ word. is_some word ≡ true) }
-    ensures carried { IfOk result (λ word. Carries R.SIDE (option_map bytes_of message) seats.old.items word seats.new.items) }
-{
-    match message {
-        Some(message) => ask(rt, office, seats, Call::Deliver(Body::from(message))),
-        None => Ok(Some(Word::Nothing)),
-    }
-}
-
-fn carry<R: Role, L: Ledger, W: Wait>(
-    rt: &W,
-    office: &Office<R, L>,
-    seats: &mut Vec<Seat<L>>,
-    way: &mut Link,
-) -> Result<Option<Word>, AllocError>
-    requires { 0 < length seats.old.items }
-    ensures seats { AreSamePlaces seats.old.items seats.new.items }
-    ensures way { OnOk result (way.new ≡ moved_on way.old) }
-    ensures told { IfOk result (λ word. is_some word ≡ true) }
-    ensures carried { IfOk result (λ word. Carries R.SIDE (given way.old.plan way.old.carrier) seats.old.items word seats.new.items) }
-{
-    let message = way.next()?;
-    deliver(rt, office, seats, message)
-}
-
-fn make<R: Role, L: Ledger, W: Wait>(
-    rt: &W,
-    office: &Office<R, L>,
-    seats: &mut Vec<Seat<L>>,
-    way: &mut Link,
-    instruction: &Instruction,
-) -> Result<Option<Word>, AllocError>
-    requires { 0 < length seats.old.items }
-    ensures seats { AreSamePlaces seats.old.items seats.new.items }
-    ensures way { OnOk result (way.new ≡ way_after instruction.now way.old) }
-    ensures told { IfOk result (λ word. is_some word ≡ is_told instruction.now) }
-    ensures made { IfOk result (λ word. MakesSeats R.SIDE instruction.now way.old seats.old.items word seats.new.items) }
-{
-    match instruction {
-        Instruction::Call { side: _, call } => ask_copy(rt, office, seats, call),
-        Instruction::Carry { side: _ } => carry(rt, office, seats, way),
-        Instruction::Plan { side: _, plan } => set(way, plan),
-        _ => Ok(None),
-    }
-}
-
 fn add_copies(packets: &mut Vec<Packet>, more: &[Packet]) -> Result<(), AllocError>
     ensures { OnOk result (packets.new.items ≡ packets.old.items ++ more.now) }
 {
@@ -247,21 +152,6 @@ fn out_since(alloc: Global, notes: &[Note], sent: usize) -> Result<Vec<Packet>, 
     for note in &notes[sent.min(notes.len())..] {
         add_copies(&mut packets, note.reply.out.as_slice())?;
     }
-    Ok(packets)
-}
-
-/// What the last seat was let out behind the first so many of its notes, which then all count as sent.
-fn let_out<L: Ledger>(
-    alloc: Global,
-    seats: &[Seat<L>],
-    sent: &mut usize,
-) -> Result<Vec<Packet>, AllocError>
-    requires { 0 < length seats.now }
-    ensures out { IfOk result (λ packets. LetsOut sent.old seats.now packets.items sent.new) }
-{
-    let notes = seats.last().unwrap().notes();
-    let packets = out_since(alloc, notes, *sent)?;
-    *sent = notes.len();
     Ok(packets)
 }
 
@@ -335,10 +225,103 @@ impl<R: Role, L: Ledger, S: Alter + Drop> Running<R, L, S> {
         match opened(alloc, blank, desk, sessions) {
             Ok((office, seats)) => Ok(just_opened(alloc, office, book, seats, way)),
             Err(refused) => {
-                drop(book);
-                drop(way);
+                drop((book, way));
                 Err(refused)
             }
+        }
+    }
+
+    #[tactic(auto, using(crate::proofs::Places::put_back))]
+    fn ask<W: Wait>(&mut self, rt: &W, call: Call) -> Result<Option<Word>, AllocError>
+        requires { 0 < length self.old.seats.items }
+        ensures office { self.new.office ≡ self.old.office }
+        ensures seats { AreSamePlaces self.old.seats.items self.new.seats.items }
+        ensures sent { self.new.sent ≡ self.old.sent }
+        ensures way { self.new.way ≡ self.old.way }
+        ensures told { IfOk result (λ word. is_some word ≡ is_made call) }
+        ensures asked { IfOk result (λ word. AsksLast R.SIDE self.old.seats.items call word self.new.seats.items) }
+    {
+        let main = self.seats.pop().unwrap();
+        let (main, answer) = called(rt, &self.office, main, call);
+        self.seats.push_reserved(main);
+        word_of(answer)
+    }
+
+    fn ask_copy<W: Wait>(&mut self, rt: &W, call: &Call) -> Result<Option<Word>, AllocError>
+        requires { 0 < length self.old.seats.items }
+        ensures office { self.new.office ≡ self.old.office }
+        ensures seats { AreSamePlaces self.old.seats.items self.new.seats.items }
+        ensures sent { self.new.sent ≡ self.old.sent }
+        ensures way { self.new.way ≡ self.old.way }
+        ensures told { IfOk result (λ word. is_some word ≡ is_made call.now) }
+        ensures asked { IfOk result (λ word. AsksLast R.SIDE self.old.seats.items call.now word self.new.seats.items) }
+    {
+        let call = call.copy()?;
+        self.ask(rt, call)
+    }
+
+    fn set(&mut self, plan: &Plan) -> Result<Option<Word>, AllocError>
+        ensures office { self.new.office ≡ self.old.office }
+        ensures seats { self.new.seats ≡ self.old.seats }
+        ensures sent { self.new.sent ≡ self.old.sent }
+        ensures way { OnOk result (self.new.way ≡ record { carrier = self.old.way.carrier; plan = plan.now }) }
+        ensures told { IfOk result (λ word. word ≡ None) }
+    {
+        self.way.set(plan)?;
+        Ok(None)
+    }
+
+    /// Where the carrier gave nothing, none is delivered.
+    fn deliver<W: Wait>(
+        &mut self,
+        rt: &W,
+        message: Option<Vec<u8>>,
+    ) -> Result<Option<Word>, AllocError>
+        requires { 0 < length self.old.seats.items }
+        ensures office { self.new.office ≡ self.old.office }
+        ensures seats { AreSamePlaces self.old.seats.items self.new.seats.items }
+        ensures sent { self.new.sent ≡ self.old.sent }
+        ensures way { self.new.way ≡ self.old.way }
+        ensures told { IfOk result (λ word. is_some word ≡ true) }
+        ensures carried { IfOk result (λ word. Carries R.SIDE (option_map bytes_of message) self.old.seats.items word self.new.seats.items) }
+    {
+        match message {
+            Some(message) => self.ask(rt, Call::Deliver(Body::from(message))),
+            None => Ok(Some(Word::Nothing)),
+        }
+    }
+
+    fn carry<W: Wait>(&mut self, rt: &W) -> Result<Option<Word>, AllocError>
+        requires { 0 < length self.old.seats.items }
+        ensures office { self.new.office ≡ self.old.office }
+        ensures seats { AreSamePlaces self.old.seats.items self.new.seats.items }
+        ensures sent { self.new.sent ≡ self.old.sent }
+        ensures way { OnOk result (self.new.way ≡ moved_on self.old.way) }
+        ensures told { IfOk result (λ word. is_some word ≡ true) }
+        ensures carried { IfOk result (λ word. Carries R.SIDE (given self.old.way.plan self.old.way.carrier) self.old.seats.items word self.new.seats.items) }
+    {
+        let message = self.way.next()?;
+        self.deliver(rt, message)
+    }
+
+    fn make<W: Wait>(
+        &mut self,
+        rt: &W,
+        instruction: &Instruction,
+    ) -> Result<Option<Word>, AllocError>
+        requires { 0 < length self.old.seats.items }
+        ensures office { self.new.office ≡ self.old.office }
+        ensures seats { AreSamePlaces self.old.seats.items self.new.seats.items }
+        ensures sent { self.new.sent ≡ self.old.sent }
+        ensures way { OnOk result (self.new.way ≡ way_after instruction.now self.old.way) }
+        ensures told { IfOk result (λ word. is_some word ≡ is_told instruction.now) }
+        ensures made { IfOk result (λ word. MakesSeats R.SIDE instruction.now self.old.way self.old.seats.items word self.new.seats.items) }
+    {
+        match instruction {
+            Instruction::Call { side: _, call } => self.ask_copy(rt, call),
+            Instruction::Carry { side: _ } => self.carry(rt),
+            Instruction::Plan { side: _, plan } => self.set(plan),
+            _ => Ok(None),
         }
     }
 
@@ -350,13 +333,7 @@ impl<R: Role, L: Ledger, S: Alter + Drop> Running<R, L, S> {
         ensures seats { AreSamePlaces self.old.seats.items self.new.seats.items }
         ensures made { IfOk result (λ text. MakesAt R.SIDE line.now (state_of self.old) (string_bytes text) (state_of self.new)) }
     {
-        let word = make(
-            rt,
-            &self.office,
-            &mut self.seats,
-            &mut self.way,
-            &line.instruction,
-        )?;
+        let word = self.make(rt, &line.instruction)?;
         told_text(self.alloc, line.number, R::SIDE, word)
     }
 
@@ -376,6 +353,19 @@ impl<R: Role, L: Ledger, S: Alter + Drop> Running<R, L, S> {
         saved
     }
 
+    fn let_out(&mut self) -> Result<Vec<Packet>, AllocError>
+        requires { 0 < length self.old.seats.items }
+        ensures office { self.new.office ≡ self.old.office }
+        ensures seats { self.new.seats ≡ self.old.seats }
+        ensures way { self.new.way ≡ self.old.way }
+        ensures out { IfOk result (λ packets. LetsOut self.old.sent self.old.seats.items packets.items self.new.sent) }
+    {
+        let notes = self.seats.last().unwrap().notes();
+        let packets = out_since(self.alloc, notes, self.sent)?;
+        self.sent = notes.len();
+        Ok(packets)
+    }
+
     /// Over the way to the other office.
     pub(crate) fn send(&mut self, way: &mut Link) -> Result<(), AllocError>
         requires { 0 < length self.old.seats.items }
@@ -384,7 +374,7 @@ impl<R: Role, L: Ledger, S: Alter + Drop> Running<R, L, S> {
         ensures way { self.new.way ≡ self.old.way }
         ensures sent { OnOk result (Sends self.old.sent self.old.seats.items self.new.sent way.old way.new) }
     {
-        let packets = let_out(self.alloc, &self.seats, &mut self.sent)?;
+        let packets = self.let_out()?;
         way.send_packets(packets)
     }
 

@@ -1,26 +1,13 @@
-use Rattle.std.proofs.Common.{◌≡◌, ◌++◌, ◌∷◌, [], is_some, Option, ◌∙◌}
-use Rattle.std.proofs.lemmas.Result.{IfOk-weaker}
+use Rattle.std.proofs.Common.{◌≡◌, ◌++◌, ◌∷◌, [], is_some, Option}
 use Rattle.gi_serving.specs.Asking.{AsksLast}
 use Rattle.gi_serving.specs.Words.{word_in}
 use Rattle.gi_serving.specs.declared.word.Word.{Word}
 use Rattle.gi_serving.proofs.Asked.{asked_last, both_known}
-use Rattle.gi_serving.proofs.Places.{put_back}
-use Rattle.gi_serving.proofs.running.ask.Goals as goal
-
-pub returns-clause-seats : goal.returns-clause-seats
-returns-clause-seats g c =
-    let old = c.args.seats.now.items in
-    let others = c.pop.new.self.items in
-    let main = c.unwrap-main.result in
-    let taken : old ≡ others ++ main ∷ [] = rw c.unwrap-main.ensures at c.pop.ensures.items in
-    put_back others old c.push_reserved.new.self.items main c.called-main.result.0 taken c.push_reserved.ensures.items c.called-main.ensures.place
-
-pub returns-clause-told : goal.returns-clause-told
-returns-clause-told g c = IfOk-weaker c.word_of.result _ _ (λ word h. h ∙ c.called-main.ensures.made) c.word_of.ensures.told
+use Rattle.gi_serving.proofs.running.Running.ask.Goals as goal
 
 pub returns-clause-asked : goal.returns-clause-asked
 returns-clause-asked g c =
-    let old = c.args.seats.now.items in
+    let old = c.args.self.now.seats.items in
     let new = c.push_reserved.new.self.items in
     let others = c.pop.new.self.items in
     let main = c.unwrap-main.result in
