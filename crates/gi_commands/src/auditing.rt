@@ -31,6 +31,7 @@ pub fn facts_audit(
     let initiating = match replayed::<Initiating>(alloc, point, initiating) {
         Ok(initiating) => initiating,
         Err(fault) => {
+            // (handed to drop, by one call: going out of scope here would be checked field by field on each way out)
             drop(matching);
             return Err(fault);
         }

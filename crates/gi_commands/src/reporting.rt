@@ -118,6 +118,7 @@ pub fn script_report(
     let script = read_script(alloc, input)?;
     let (simulation, submissions) = refused_submissions(alloc, side, script)?;
     let text = side_report(alloc, kind, side, simulation.world(), &submissions);
+    // (handed to drop, by one call: going out of scope here would be checked field by field on each way out)
     drop(simulation);
     drop(submissions);
     match text {

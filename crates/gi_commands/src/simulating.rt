@@ -59,6 +59,7 @@ pub fn simulated(alloc: Global, input: Vec<u8>, trace: bool) -> Result<Written, 
     drop(input);
     let made = simulate(alloc, script, trace)?;
     if !made.complete {
+        // (handed to drop, by one call: going out of scope here would be checked field by field on each way out)
         drop(made.simulation);
         return Ok(Written {
             text: made.text,

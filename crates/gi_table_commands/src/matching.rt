@@ -121,6 +121,7 @@ fn response_to(
     ensures fault { IfErr result (IsUnanswered order.now own) }
 {
     if !same_shape(order, &own) {
+        // (handed to drop, by one call: going out of scope here would be checked field by field on each way out)
         drop(own);
         return Err(Fault::ShapeDiffers);
     }
