@@ -1,6 +1,5 @@
 -- Where each delivery was sent, both last desks met what the other one froze; so what they confirm and told is the lower.
-use Rattle.std.proofs.Common.{arith, ◌≡◌, ◌≤◌, ◌⊎◌, ⊎_elim, ℕ, List, [], ◌∷◌, ◌++◌, length, take, filter, All, Contains, None, Option, Some, true, refl, sym, ◌∙◌, subst}
-use Rattle.std.specs.Prelude.{MatchOption}
+use Rattle.std.proofs.Common.{arith, ◌≡◌, ◌≤◌, ◌⊎◌, ⊎_elim, ℕ, List, [], ◌∷◌, ◌++◌, length, take, filter, All, Contains, None, Some, true, refl, sym, ◌∙◌, subst}
 use Rattle.std.proofs.lemmas.Grind.{flat_map-append}
 use Rattle.std.proofs.lemmas.List.Elements.{All-contains, All-contains_itself, All-weaker}
 use Rattle.gi_pairs.specs.declared.side.Side.{Side}
@@ -170,9 +169,6 @@ side_told side (life ∷ later) e legal =
     (λ packet there telling. lives_tell side life later e packet legal (in_from_contains packet (said_in (entries_of (life ∷ later))) there) telling)
 
 -- ---- both sides
-
-pub none-there : (A : Type 0) (B : ℕ → Type 0) (o : Option ℕ) → o ≡ None → MatchOption o A B → A
-none-there A B o is holds = subst (λ (x : Option ℕ). MatchOption x A B) is holds
 
 -- what each office says of itself
 pub record IsKnownSide (side : Side) (settled : SettledState) : Type 0 where

@@ -1,27 +1,22 @@
 -- Facts that were read from the rows of a book, or saved as its next row, stand there.
-use Rattle.std.proofs.Common.{◌≡◌, ◌≤◌, ◌⊎◌, inl, inr, ℕ, ◌+◌, ◌-◌, Bool, true, false, List, [], ◌∷◌, ◌++◌, length, take, slice_get, Option, None, Some, Result, Ok, Err, IfOk, IfErr, MatchBool, Contains, refl, sym, ap, ◌∙◌, subst, arith}
+use Rattle.std.proofs.Common.{◌≡◌, ◌≤◌, inl, inr, ℕ, ◌+◌, ◌-◌, Bool, true, false, List, [], ◌∷◌, ◌++◌, length, take, slice_get, Option, None, Some, Result, Ok, Err, IfOk, IfErr, MatchBool, Contains, refl, sym, ap, ◌∙◌, subst, arith}
 use Rattle.std.specs.Prelude.{◌==◌, OnOk}
-use Rattle.std.proofs.lemmas.Bool.{false≢true}
 use Rattle.std.proofs.lemmas.Bool.Decides.{nat_tests}
 use Rattle.std.proofs.lemmas.List.{length-drop, length-take-le}
 use Rattle.std.proofs.lemmas.List.Elements.{Contains-append_right, Contains-push}
 use Rattle.std.proofs.lemmas.List.Sorted.{Contains-permutation, IsPermutation-sym}
 use Rattle.sqlite_value.specs.Order.{Row}
-use Rattle.sqlite_trees.specs.declared.store.Store.{Ghosts}
-use Rattle.sqlite.specs.Held.{state}
 use Rattle.sqlite.specs.State.{State}
 use Rattle.gi_facts.specs.Batch.{batch_of, batch_text, most_facts}
 use Rattle.gi_facts.specs.declared.fact.Fact.{Fact}
 use Rattle.gi_store.specs.Batches.{is_batch}
-use Rattle.gi_store.specs.Book.{AnswersBatch, AnswersSave, AreSaved, BookState, IsLoadFault}
-use Rattle.gi_store.specs.Clean.{IsClean}
+use Rattle.gi_store.specs.Book.{AnswersBatch, AnswersSave, AreSaved}
 use Rattle.gi_store.specs.FaultText.{IsFailure}
 use Rattle.gi_store.specs.Facts.{AreFactsFrom, Covers}
-use Rattle.gi_store.specs.Keeping.{AddsNoOutcome, Keeps}
 use Rattle.gi_store.specs.Rows.{fact_rows, facts_in, row_of}
 use Rattle.gi_store.specs.declared.store_fault.StoreFault.{StoreFault}
 use Rattle.gi_store.specs.declared.store_fault.StoreFault.TheVariants.{NotNext}
-use Rattle.gi_office.specs.Saving.{GoesOnBy, HasFrom, HasOthers, IsWriteFault, Stand, WritesAtMost, is_ahead}
+use Rattle.gi_office.specs.Saving.{GoesOnBy, HasFrom, Stand}
 use Rattle.gi_office.proofs.NextFacts.{slice_get-append, slice_get-drop}
 
 -- one of the rows covers this number with the fact
@@ -124,22 +119,3 @@ answered_batch n facts loaded result some few answers =
 
 pub goes_on_count : (n : ℕ) (facts all : List Fact) (count : ℕ) → GoesOnBy n facts all count → count ≡ length all - (n - 1)
 goes_on_count n facts all count goes = sym (length-take-le count facts goes.within) ∙ (sym (ap (length {A = Fact}) goes.are) ∙ length-drop (n - 1) all)
-
--- ---- what writing comes to
-
--- a book that is not ahead is none that is
-pub not_both : {P : Type 0} (b : Bool) → b ≡ true → b ≡ false → P
-not_both b is not = absurd (false≢true (sym not ∙ is))
-
-module _ {S : Type 0} (store : Ghosts S) (old new : BookState S) (n : ℕ) (facts : List Fact) (front : ℕ) where
-  pub refused_ahead :
-      (result : Result ℕ StoreFault) → is_ahead n old.loaded ≡ true
-      → (IsClean store new.connection → IfErr result (λ fault. IsLoadFault (state store old.connection) fault ⊎ HasOthers n facts (state store new.connection) fault))
-      → IfErr result (IsWriteFault store old new n facts front)
-  refused_ahead (Ok count) is refused = tt
-  refused_ahead (Err fault) is refused = record { ahead = λ _ clean. refused clean; behind = not_both (is_ahead n old.loaded) is }
-
-  pub keeps_written :
-      Keeps (state store old.connection) (state store new.connection) → AddsNoOutcome (state store old.connection) (state store new.connection)
-      → WritesAtMost n (take front facts) (state store old.connection) (state store new.connection)
-  keeps_written kept crash = record { rows = λ is_open. inl (kept.same is_open); crash = λ db may. inl (crash db may) }

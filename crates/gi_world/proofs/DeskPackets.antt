@@ -1,5 +1,5 @@
 -- What a desk writes to its peer tells nothing, for it reads as an order or as a response; what it writes to a portfolio acknowledges or confirms.
-use Rattle.std.proofs.Common.{◌≡◌, List, [], All, Contains, true, false, Ok, refl, sym, ap, ◌∙◌}
+use Rattle.std.proofs.Common.{◌≡◌, [], All, Contains, true, false, Ok, refl, sym, ap, ◌∙◌}
 use Rattle.std.proofs.lemmas.List.Elements.{All-contains_itself, All-weaker}
 use Rattle.json.specs.Print.{escape_byte}
 use Rattle.gi_pairs.specs.declared.side.Side.{Side}

@@ -1,7 +1,6 @@
 -- When a call may want memory: where its reply lets packets out.
-use Rattle.std.proofs.Common.{◌≡◌, ◌<◌, List, [], ◌∷◌, filter, length, Bool, Result, Ok, Err, arith, refl, subst}
+use Rattle.std.proofs.Common.{◌≡◌, ◌<◌, List, [], ◌∷◌, filter, length, Bool, arith, refl, subst}
 use Rattle.std.specs.Prelude.{IsTrue}
-use Rattle.std.specs.Result.{OnErr}
 use Rattle.gi_pairs.specs.declared.side.Side.{Side}
 use Rattle.gi_desk.specs.Machine.{DeskState, grows, may_want, out_of, outcome, reply}
 use Rattle.gi_desk.specs.declared.call.Call.{Call}
@@ -31,7 +30,3 @@ lets_out_short side s call r is some =
 pub some_before : {X : Type 0} (test : X → Bool) (xs : List X) → 0 < length (filter test xs) → 0 < length xs
 some_before test [] some = some
 some_before test (x ∷ xs) some = omega arith
-
-pub on_err : {X E P : Type 0} (r : Result X E) → P → OnErr r P
-on_err (Ok x) p = tt
-on_err (Err fault) p = p
