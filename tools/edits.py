@@ -5,6 +5,7 @@ import os
 import re
 
 FUNCTION = re.compile(r"^( *)(?:pub(?:\(\w+\))? )?(?:const )?fn (\w+)")
+CLAUSE = r"(requires|ensures|ghost|invariant|decreases)\b"
 OWNER = re.compile(r"^(?:impl(?:<[^>]*>)?|(?:pub(?:\(\w+\))? )?trait) (.*?) *\{?$")
 
 
@@ -93,12 +94,12 @@ class Edit:
     def __init__(self, crate, folder, name):
         self.crate, self.name, self.changes, self.functions = crate, name.removesuffix(".edit"), [], {}
         self.file = f"{folder}/{name}"
-        self.is_alone, self.has_waited, self.is_whole, by, path, old, text = False, False, False, None, "", "", ""
+        self.is_alone, self.has_waited, self.is_whole, self.by, path, old, text = False, False, False, None, "", "", ""
         for line in text_of(self.file).split("\n"):
             word, _, rest = line.partition(":")
             rest = rest.removeprefix(" ")
             if word == "by":
-                by = rest
+                self.by = rest
             elif word == "file":
                 path = rest
                 if not path.startswith("src/") or os.path.normpath(path) != path:
@@ -113,24 +114,45 @@ class Edit:
                 raise ValueError(f"it has the line {line[:60]}")
         if old:
             raise ValueError("an 'old:' line has no 'new:' line")
-        if by:
-            self.is_alone, self.is_whole, self.functions = True, True, {by: None}
+        if self.by:
+            self.is_alone, self.is_whole, self.functions = True, True, {self.by: None}
         if not self.functions:
             raise ValueError("it changes no function, and no line 'by:' names one")
 
     def change(self, path, text, old, new):
-        if text.count(old) != 1:
-            raise ValueError(f"its old text is in {path} {text.count(old)} times, and not once")
-        start = text.index(old)
-        if re.match(r" *(requires|ensures|ghost|invariant|decreases)\b", text[text.rfind("\n", 0, start) + 1 :]):
+        # (a text that is a whole line may be a part of others)
+        found = [it.start() for it in re.finditer(re.escape(old), text)]
+        lines = [it.start() for it in re.finditer(rf"^{re.escape(old)}$", text, re.M)] if len(found) > 1 else []
+        if len(lines or found) != 1:
+            raise ValueError(f"its old text is in {path} {len(found)} times, and not once")
+        (start,) = lines or found
+        line = text[text.rfind("\n", 0, start) + 1 :]
+        if re.match(rf" *{CLAUSE}", line) or any(self.is_of_file(text, new[: it.start()]) for it in re.finditer(CLAUSE, new)):
             raise ValueError("it changes a clause, and no code")
+        if re.match(r" *#!?\[tactic\b", line) or "#[tactic" in new:
+            raise ValueError("it changes what proves a function, and no code")
         self.changes.append((path, start, start + len(old), new))
+        if self.by or ("fn " in old and new.endswith(old.lstrip())):
+            # (that one refuses it; or it puts another function before the one of the old text, which it leaves)
+            self.is_alone = True
+            return
         try:
             function = Function(self.crate, path, text, start + len(old))
-            self.functions[function.name] = function
-            self.is_alone |= re.search(r"\bfn\b", old + new) is not None
         except LookupError:
             self.is_alone = True
+            return
+        # (what old and new text begin with alike is not changed)
+        first = start + len(os.path.commonprefix([old, new]))
+        if not function.body or first < function.body[0] - 1 or start + len(old) > function.body[1]:
+            raise ValueError(f"it changes what stands outside of the body of {function.own_name}, and no code")
+        self.functions[function.name] = function
+        self.is_alone |= re.search(r"\bfn\b", old + new) is not None
+
+    @staticmethod
+    def is_of_file(text, before):
+        """Whether a clause behind this part of a new text is not one of a function that the edit brings."""
+        names = re.findall(r"\bfn (\w+)", before)
+        return not names or re.search(rf"\bfn {names[-1]}\b", text) is not None
 
 
 def placed(text, changes, start=0, end=None):
