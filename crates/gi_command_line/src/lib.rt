@@ -1,6 +1,7 @@
 //! The words of a command line: the commands that the program knows, what their help teaches, and what is asked for.
 #![tactic(auto)]
 
+mod commands;
 mod laws;
 mod numbers;
 mod request;

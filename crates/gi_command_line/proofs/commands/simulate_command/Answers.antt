@@ -1,0 +1,6 @@
+use Rattle.clap.specs.Words.{app_of}
+use Rattle.gi_command_line.proofs.Building.{one_more}
+use Rattle.gi_command_line.proofs.commands.simulate_command.Goals as goal
+
+pub returns : goal.returns
+returns c = one_more app_of _ _ _ _ _ c.with_arg.ensures c.flag.ensures.rule c.with_help-command.ensures

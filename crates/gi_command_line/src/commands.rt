@@ -1,0 +1,441 @@
+//! The commands that the program knows, their words and options, and what their help teaches.
+ghost use Rattle.std.specs.Prelude.{◌≡◌, IfOk, false, true};
+ghost use Rattle.clap.specs.Words.{App, app_of, new_app, rule_of, with_rule, with_subcommand};
+ghost use Rattle.gi_command_line.specs.CommandLine.{flag as flag_rule, named, needed as needed_rule, option as option_rule, the_audit, the_explain, the_hours, the_match, the_program, the_report, the_serve, the_simulate, with_book as with_book_rules, with_hour as with_hour_rules, with_pair as with_pair_rules, word as word_rule};
+
+use clap::{Arg, ArgAction, Command};
+use std::alloc::{AllocError, Global};
+
+const PROGRAM_HELP: &str = "\
+With no command `match` is meant. A fault is one line on standard error, `gi_dispatch: ` and its
+name (a wrong command line is told in more words), and nothing on standard output, unless memory or
+a writer fails, an office that runs gives up, or books differ.
+
+Exit status: 0 done, 1 refused input, a reader or writer that failed, or offices or books that do
+not agree, 2 wrong command line, 3 a book that failed or is none, 4 want of memory.
+
+Examples: gi_dispatch match < examples/match.txt
+          gi_dispatch hours 2026-01-15
+          gi_dispatch simulate --trace < examples/day.script
+          gi_dispatch report confirmed I < examples/day.script
+          gi_dispatch explain I A B IM 2026-01-15 35 24 < examples/day.script
+          gi_dispatch audit --initiating day-I.db --matching day-M.db --point BORDER-1
+          gi_dispatch serve < scenarios/serve/plain_exchange.script";
+
+const HOURS_HELP: &str = "\
+DAY is a gas day from 2000-01-01 to 2199-12-31, written YYYY-MM-DD. It starts at 06:00 Central
+European time, and has 23 or 25 hours where the clock changes before it ends (on the Saturday).
+Standard output gets one line with the number of its hours and cycles, and one for each nomination
+cycle: its number, its start in UTC, and the first hour that it covers (it covers all later hours
+too). Standard input is not read.
+
+Faults, the first of: DayText (not YYYY-MM-DD of a date of the calendar), DayRange (a date outside
+the range), Write.";
+
+const MATCH_HELP: &str = "\
+Standard input has two lines of JSON: the initiating operator's DELORD, and the matching operator's
+own processed table in the form of a DELORD. Standard output gets one line, the DELRES: for each
+portfolio pair, direction and hour the lower of the two quantities, in kWh/h.
+
+Faults, the first of: Read, TooLarge (over 67,108,864 bytes), Lines (not two lines), `order: ` or
+`own: ` with what is wrong with that line, ShapeDiffers (another point, day, cycle or hours), Write.";
+
+const SIMULATE_HELP: &str = "\
+Standard input is a script: both operators' desks and the carriers between them, step by step. Its
+first line is `point CODE`, and each further one, with SIDE `I` or `M`, is one of
+
+  SIDE contract PORTFOLIO DAY DIRECTION FIRM INTERRUPTIBLE      kWh/h in each hour
+  SIDE notice DAY DIRECTION FIRST LAST FIRM INTERRUPTIBLE       hours, and per mille
+  SIDE submit BODY                                              a NOMINT, to the end of the line
+  SIDE close DAY CYCLE
+  SIDE resend DAY CYCLE
+  SIDE halt
+  SIDE save COUNT                                               the next COUNT unsaved facts
+  SIDE deliver NUMBER                                           that packet of the other side
+  SIDE restart KEEP                                             from the first KEEP facts
+  SIDE carry                                                    what the carrier gives to SIDE
+  plan SIDE MOVES                                               pass, drop, repeat, hold
+
+Standard output gets a line for each step: the number of the script's line, the side, and what came
+of it. Two lines with what each side holds come last. With --trace, lines that begin with two spaces
+follow a step's: what a carrier did with a message, as `  pass DELORD 2026-01-15 35`, and one for
+each packet that the step let out, as `  -> M DELORD 2026-01-15 35` to the other side or
+`  -> B NOMRES 2026-01-15 35 A IM 24: 7` to a portfolio, with its counterparty, direction, first hour
+and quantities in kWh/h.
+
+Faults, the first of: Read, TooLarge (over 67,108,864 bytes), Point (no first line `point CODE`),
+`line N: Unreadable`, before any step; then Write. Where memory runs out in a step, the lines of
+those before it are written.";
+
+const REPORT_HELP: &str = "\
+KIND is `open` (closed cycles that are not confirmed), `confirmed` (confirmed quantities in kWh/h,
+hour by hour) or `refused` (how many submissions of each portfolio were refused), and SIDE is `I` or
+`M`. FORMAT is `text` in columns, `csv` with a header line, or `json` with an object a line. Standard
+input is a script as for `simulate`, whose steps are made and not told. With --book and --point the
+side's desk is read from its book instead, standard input is not read, and `refused` has no lines.
+
+Faults: those of `simulate`. With a book, the first of: CodeText (CODE is no code), Version, Gap N,
+Damaged N or Store (the file is not there, is no database, or fails), BadFact N (no desk records
+fact N after those before it), Write.";
+
+const EXPLAIN_HELP: &str = "\
+What one quantity comes from at SIDE, `I` or `M`: that of the initiating operator's portfolio
+INITIATING and the matching one's MATCHING, in DIRECTION (`IM` or `MI`), on the gas day DAY
+(YYYY-MM-DD), in nomination cycle CYCLE (0 to 36) and in hour HOUR (1 to 25). Standard output gets
+twelve lines, always in the same order, with the numbers of the facts: what was asked, the
+nomination, the contract and the notice that count, what is available, the sums of what is
+nominated, the processed quantity by its formula, the closing that froze it, the other side's
+quantity, the lower of both, whether that is confirmed, and whom it was told. Standard input is a
+script as for `report`; with --book and --point the side's desk is read from its book instead.
+
+Faults, the first of: CodeText (INITIATING or MATCHING is no code), DayText or DayRange, as for
+`hours`; then those of `report`.";
+
+const AUDIT_HELP: &str = "\
+Compares the books of both operators, as an outsider would: it trusts neither, and makes each
+side's desk from its facts. The books have to be of one moment, when no office runs. Standard output
+gets a line for each cycle that either has closed: agreed, with the sum of its confirmed quantities
+by direction in kWh; open at I or at both; or what differs, with the numbers of the facts, the first
+row and hour, and both quantities. The last line is `agreed` (exit status 0), or `differs at DAY
+CYCLE` for the first cycle that differs (exit status 1). Standard input is not read.
+
+Faults, the first of: CodeText (CODE is no code); Version, Gap N, Damaged N or Store, as for
+`report`, of the initiating operator's book, then of the matching one's; BadFact N of the one, then
+of the other; Write; Differs, once the lines are written.";
+
+const SERVE_HELP: &str = "\
+Standard input is a script as for `simulate`, without `save`, `deliver` and `restart` lines: two
+running offices save by themselves, and only what the carriers give is delivered. Each longest run
+of `submit` lines is a batch, which N sessions of each office (1 to 8, 2 where no number is given)
+make at the same time, each portfolio by one of them. The offices go on with the books in the files
+PREFIX-I.db and PREFIX-M.db, which are made where they are not there; with no PREFIX, the books are
+in memory.
+
+Standard output gets a line for each step, with no numbers of facts: the number of the script's
+line, the side, and what came of it. Then come two lines with what each side holds, and three that
+tell whether each office's records agree with its desk, and the two offices with each other.
+
+Faults, the first of: Read, TooLarge, Point, `line N: Unreadable`, as for `simulate`; for the book
+of I and then for that of M, Version, Gap N, Damaged N, Store or BadFact N, as for `report`; Write;
+and what a running office could not do, told after the lines of what was done before.";
+
+fn word<'a>(alloc: Global, name: &'a str, help: &'a str) -> Arg<'a>
+    ensures rule { rule_of result ≡ word_rule name.entry.now }
+    ensures local { result.global ≡ false }
+{
+    Arg::new(alloc, name).required(true).help(help)
+}
+
+fn option<'a>(alloc: Global, name: &'a str, value: &'a str, help: &'a str) -> Arg<'a>
+    ensures rule { rule_of result ≡ option_rule name.entry.now }
+    ensures local { result.global ≡ false }
+{
+    Arg::new(alloc, name)
+        .long(name)
+        .value_name(value)
+        .help(help)
+}
+
+fn needed<'a>(alloc: Global, name: &'a str, value: &'a str, help: &'a str) -> Arg<'a>
+    ensures rule { rule_of result ≡ needed_rule name.entry.now }
+    ensures local { result.global ≡ false }
+{
+    option(alloc, name, value, help).required(true)
+}
+
+fn flag<'a>(alloc: Global, name: &'a str, help: &'a str) -> Arg<'a>
+    ensures rule { rule_of result ≡ flag_rule name.entry.now }
+    ensures local { result.global ≡ false }
+{
+    Arg::new(alloc, name)
+        .long(name)
+        .action(ArgAction::SetTrue)
+        .help(help)
+}
+
+// What goes wrong in a command is handed on with it and not by `?`, and a command is made where the
+// program is not, since on each way out what goes out of scope is checked field by field.
+
+/// The command with this argument too.
+fn with_arg<'a>(
+    command: Result<Command<'a>, AllocError>,
+    arg: Arg<'a>,
+) -> Result<Command<'a>, AllocError>
+    requires local { arg.global ≡ false }
+    ensures { (app : App) → IfOk command.entry (λ it. app_of it ≡ app) → IfOk result (λ with. app_of with ≡ with_rule app (rule_of arg.entry)) }
+{
+    match command {
+        Ok(command) => command.arg(arg),
+        Err(error) => {
+            drop(arg);
+            Err(error)
+        }
+    }
+}
+
+/// Adds the words of a portfolio pair and a direction.
+fn with_pair<'a>(
+    alloc: Global,
+    command: Result<Command<'a>, AllocError>,
+) -> Result<Command<'a>, AllocError>
+    ensures { (app : App) → IfOk command.entry (λ it. app_of it ≡ app) → IfOk result (λ with. app_of with ≡ with_pair_rules app) }
+{
+    let command = with_arg(
+        command,
+        word(alloc, "INITIATING", "The initiating operator's portfolio"),
+    );
+    let command = with_arg(
+        command,
+        word(alloc, "MATCHING", "The matching operator's portfolio"),
+    );
+    with_arg(command, word(alloc, "DIRECTION", "IM or MI"))
+}
+
+/// Adds the words of a gas day, a cycle and an hour.
+fn with_hour<'a>(
+    alloc: Global,
+    command: Result<Command<'a>, AllocError>,
+) -> Result<Command<'a>, AllocError>
+    ensures { (app : App) → IfOk command.entry (λ it. app_of it ≡ app) → IfOk result (λ with. app_of with ≡ with_hour_rules app) }
+{
+    let command = with_arg(command, word(alloc, "DAY", "The gas day"));
+    let command = with_arg(
+        command,
+        word(alloc, "CYCLE", "The nomination cycle, 0 to 36"),
+    );
+    with_arg(
+        command,
+        word(alloc, "HOUR", "The hour of the gas day, 1 to 25"),
+    )
+}
+
+/// Adds the options of a book.
+fn with_book<'a>(
+    alloc: Global,
+    command: Result<Command<'a>, AllocError>,
+) -> Result<Command<'a>, AllocError>
+    ensures { (app : App) → IfOk command.entry (λ it. app_of it ≡ app) → IfOk result (λ with. app_of with ≡ with_book_rules app) }
+{
+    let command = with_arg(
+        command,
+        option(
+            alloc,
+            "book",
+            "FILE",
+            "The side's book, in place of a script",
+        ),
+    );
+    with_arg(
+        command,
+        option(alloc, "point", "CODE", "The point that the book is of"),
+    )
+}
+
+/// A command with its help.
+fn with_help<'a>(
+    alloc: Global,
+    name: &'a str,
+    about: &'a str,
+    help: &'a str,
+) -> Result<Command<'a>, AllocError>
+    ensures { IfOk result (λ it. app_of it ≡ new_app name.entry.now) }
+{
+    Ok(Command::new(alloc, name).about(about).after_help(help))
+}
+
+fn match_command<'a>(alloc: Global) -> Result<Command<'a>, AllocError>
+    ensures { IfOk result (λ it. app_of it ≡ the_match) }
+{
+    with_help(
+        alloc,
+        "match",
+        "Answers an order with the lesser of two tables",
+        MATCH_HELP,
+    )
+}
+
+fn hours_command<'a>(alloc: Global) -> Result<Command<'a>, AllocError>
+    ensures { IfOk result (λ it. app_of it ≡ the_hours) }
+{
+    let command = with_help(
+        alloc,
+        "hours",
+        "Tells the hours and cycles of a gas day",
+        HOURS_HELP,
+    );
+    with_arg(command, word(alloc, "DAY", "The gas day"))
+}
+
+fn simulate_command<'a>(alloc: Global) -> Result<Command<'a>, AllocError>
+    ensures { IfOk result (λ it. app_of it ≡ the_simulate) }
+{
+    let command = with_help(
+        alloc,
+        "simulate",
+        "Makes the steps of a script at both operators' desks",
+        SIMULATE_HELP,
+    );
+    with_arg(
+        command,
+        flag(alloc, "trace", "Tells also what moved in each step"),
+    )
+}
+
+fn report_command<'a>(alloc: Global) -> Result<Command<'a>, AllocError>
+    ensures { IfOk result (λ it. app_of it ≡ the_report) }
+{
+    let command = with_help(
+        alloc,
+        "report",
+        "Tells what a side holds after a script, or in its book",
+        REPORT_HELP,
+    );
+    let command = with_arg(command, word(alloc, "KIND", "open, confirmed or refused"));
+    let command = with_arg(command, word(alloc, "SIDE", "I or M"));
+    let format = "text, csv or json; text where none is named";
+    let command = with_arg(command, option(alloc, "format", "FORMAT", format));
+    with_book(alloc, command)
+}
+
+fn explain_command<'a>(alloc: Global) -> Result<Command<'a>, AllocError>
+    ensures { IfOk result (λ it. app_of it ≡ the_explain) }
+{
+    let command = with_help(
+        alloc,
+        "explain",
+        "Tells what one quantity comes from, after a script or in a book",
+        EXPLAIN_HELP,
+    );
+    let command = with_arg(command, word(alloc, "SIDE", "I or M"));
+    let command = with_pair(alloc, command);
+    let command = with_hour(alloc, command);
+    with_book(alloc, command)
+}
+
+fn audit_command<'a>(alloc: Global) -> Result<Command<'a>, AllocError>
+    ensures { IfOk result (λ it. app_of it ≡ the_audit) }
+{
+    let command = with_help(alloc, "audit", "Compares both operators' books", AUDIT_HELP);
+    let command = with_arg(
+        command,
+        needed(
+            alloc,
+            "initiating",
+            "FILE",
+            "The initiating operator's book",
+        ),
+    );
+    let command = with_arg(
+        command,
+        needed(alloc, "matching", "FILE", "The matching operator's book"),
+    );
+    with_arg(
+        command,
+        needed(alloc, "point", "CODE", "The point that the books are of"),
+    )
+}
+
+fn serve_command<'a>(alloc: Global) -> Result<Command<'a>, AllocError>
+    ensures { IfOk result (λ it. app_of it ≡ the_serve) }
+{
+    let command = with_help(
+        alloc,
+        "serve",
+        "Runs both offices by a script, each with sessions of its own",
+        SERVE_HELP,
+    );
+    let command = with_arg(
+        command,
+        option(alloc, "sessions", "N", "The sessions of each office"),
+    );
+    let books = "The sides' books, PREFIX-I.db and PREFIX-M.db";
+    with_arg(command, option(alloc, "books", "PREFIX", books))
+}
+
+/// The program with this command too.
+fn with<'a>(
+    program: Command<'a>,
+    command: Result<Command<'a>, AllocError>,
+) -> Result<Command<'a>, AllocError>
+    ensures { (sub : App) → IfOk command.entry (λ it. app_of it ≡ sub) → sub.top.is_plain ≡ true
+        → IfOk result (λ with. app_of with ≡ with_subcommand (app_of program.entry) sub.top) }
+{
+    match command {
+        Ok(command) => program.subcommand(command),
+        Err(error) => {
+            drop(program);
+            Err(error)
+        }
+    }
+}
+
+fn with_match<'a>(alloc: Global, program: Command<'a>) -> Result<Command<'a>, AllocError>
+    ensures { IfOk result (λ with. app_of with ≡ with_subcommand (app_of program.entry) the_match.top) }
+{
+    with(program, match_command(alloc))
+}
+
+fn with_hours<'a>(alloc: Global, program: Command<'a>) -> Result<Command<'a>, AllocError>
+    ensures { IfOk result (λ with. app_of with ≡ with_subcommand (app_of program.entry) the_hours.top) }
+{
+    with(program, hours_command(alloc))
+}
+
+fn with_simulate<'a>(alloc: Global, program: Command<'a>) -> Result<Command<'a>, AllocError>
+    ensures { IfOk result (λ with. app_of with ≡ with_subcommand (app_of program.entry) the_simulate.top) }
+{
+    with(program, simulate_command(alloc))
+}
+
+fn with_report<'a>(alloc: Global, program: Command<'a>) -> Result<Command<'a>, AllocError>
+    ensures { IfOk result (λ with. app_of with ≡ with_subcommand (app_of program.entry) the_report.top) }
+{
+    with(program, report_command(alloc))
+}
+
+fn with_explain<'a>(alloc: Global, program: Command<'a>) -> Result<Command<'a>, AllocError>
+    ensures { IfOk result (λ with. app_of with ≡ with_subcommand (app_of program.entry) the_explain.top) }
+{
+    with(program, explain_command(alloc))
+}
+
+fn with_audit<'a>(alloc: Global, program: Command<'a>) -> Result<Command<'a>, AllocError>
+    ensures { IfOk result (λ with. app_of with ≡ with_subcommand (app_of program.entry) the_audit.top) }
+{
+    with(program, audit_command(alloc))
+}
+
+fn with_serve<'a>(alloc: Global, program: Command<'a>) -> Result<Command<'a>, AllocError>
+    ensures { IfOk result (λ with. app_of with ≡ with_subcommand (app_of program.entry) the_serve.top) }
+{
+    with(program, serve_command(alloc))
+}
+
+fn named_program<'a>(alloc: Global) -> Command<'a>
+    ensures { app_of result ≡ named }
+{
+    Command::new(alloc, "gi_dispatch")
+        .version("0.1.0")
+        .about("The dispatch offices of two adjacent gas transmission operators")
+        .after_help(PROGRAM_HELP)
+}
+
+/// Adds the commands about scripts.
+fn with_scripts<'a>(alloc: Global, program: Command<'a>) -> Result<Command<'a>, AllocError>
+    ensures { IfOk result (λ with. app_of with ≡ with_subcommand (with_subcommand (with_subcommand (app_of program.entry) the_simulate.top) the_report.top) the_explain.top) }
+{
+    let program = with_simulate(alloc, program)?;
+    let program = with_report(alloc, program)?;
+    with_explain(alloc, program)
+}
+
+pub fn commands<'a>(alloc: Global) -> Result<Command<'a>, AllocError>
+    ensures { IfOk result (λ program. app_of program ≡ the_program) }
+{
+    let program = named_program(alloc);
+    let program = with_match(alloc, program)?;
+    let program = with_hours(alloc, program)?;
+    let program = with_scripts(alloc, program)?;
+    let program = with_audit(alloc, program)?;
+    with_serve(alloc, program)
+}
