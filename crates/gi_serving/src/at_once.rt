@@ -6,6 +6,7 @@ ghost use Rattle.gi_pairs.specs.declared.side.Side.TheVariants.{I, M};
 ghost use Rattle.gi_serving.specs.Asking.{NotesMarks, OtherIs};
 ghost use Rattle.gi_serving.specs.Ending.{AreSamePlaces, IsCut, IsTurnFault, place_of};
 ghost use Rattle.gi_serving.specs.Submitting.{HasMain, SessionsMake, SubmitsBatch};
+ghost use Rattle.gi_serving.specs.declared.serve_fault.ServeFault.TheVariants.{OutOfMemory};
 
 use crate::batch::submitted;
 use crate::paired::both_of;
@@ -174,6 +175,8 @@ fn unless_cut<L: Ledger, K: Ledger>(
     ensures ours { IfOk result (λ both. submitted.0 ≡ Ok both.0) }
     ensures theirs { IfOk result (λ both. submitted.1 ≡ Ok both.1) }
     ensures saved { OnOk result (IsOk saved) }
+    ensures short { IfErr submitted.0 (λ _. result ≡ Err OutOfMemory) }
+    ensures peer_short { IfErr submitted.1 (λ _. result ≡ Err OutOfMemory) }
     ensures cut { IfErr result (λ fault. IsCut (Err fault)) }
 {
     let (ours, theirs) = submitted;
