@@ -34,7 +34,10 @@ fn step<R: Role>(desk: &mut Desk<R>, plain: &mut Plain, call: &Call) -> bool {
     let mut out = Vec::new(plain.alloc);
     let answer = plain.step(&mut out, call);
     let reply = desk.step(call);
-    reply.answer == answer && are_same(reply.out.as_slice(), &out)
+    let is_same = reply.answer == answer && are_same(reply.out.as_slice(), &out);
+    drop(reply);
+    drop(out);
+    is_same
 }
 
 /// Makes a call that is drawn at both: whether they reply the same.
@@ -45,7 +48,11 @@ fn step_drawn<R: Role>(
     random: &mut Random,
 ) -> bool {
     match drawn(plain, names, random) {
-        Some(call) => step(desk, plain, &call),
+        Some(call) => {
+            let is_same = step(desk, plain, &call);
+            drop(call);
+            is_same
+        }
         None => false,
     }
 }
@@ -66,7 +73,12 @@ fn have_same_facts<R: Role>(desk: &Desk<R>, facts: &[Fact]) -> bool {
 /// The bytes of what is told, no byte of nothing. `None` where there is no memory for them.
 fn text_of(alloc: Global, told: Option<Nomres>) -> Option<Vec<u8>> {
     match told {
-        Some(told) => encode(alloc, &Message::Nomres(told)).ok(),
+        Some(told) => {
+            let message = Message::Nomres(told);
+            let text = encode(alloc, &message).ok();
+            drop(message);
+            text
+        }
         None => Some(Vec::new(alloc)),
     }
 }

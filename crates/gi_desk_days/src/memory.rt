@@ -10,5 +10,10 @@ pub fn put<T: Drop>(list: &mut Vec<T>, item: T) {
 
 /// The message's bytes: no byte where there is no memory for them.
 pub fn written(alloc: Global, message: Message) -> Vec<u8> {
-    encode(alloc, &message).unwrap_or(Vec::new(alloc))
+    let bytes = encode(alloc, &message);
+    drop(message);
+    match bytes {
+        Ok(bytes) => bytes,
+        Err(_) => Vec::new(alloc),
+    }
 }

@@ -15,6 +15,9 @@ use gi_pairs::{Code, CycleId, Row, Side, Table};
 use gi_processing::Notice;
 use std::alloc::Global;
 
+// What goes out of scope here and in the modules beside is handed to `drop`, by one call, since it would
+// be checked field by field on each way out.
+
 #[derive(Drop)]
 pub struct Plain {
     pub alloc: Global,
@@ -96,6 +99,12 @@ fn not_the_lesser(confirmed: Option<&Table>, lesser: &Table) -> Option<Refusal> 
     Some(Refusal::NotTheLesser { row })
 }
 
+/// A message of another kind is refused.
+fn wrong_kind(message: Message) -> Outcome {
+    drop(message);
+    Outcome::Refuses(Refusal::WrongKind)
+}
+
 impl Plain {
     /// A desk without facts.
     pub fn new(alloc: Global, side: Side, point: Code) -> Option<Plain> {
@@ -170,19 +179,21 @@ impl Plain {
     }
 
     fn nominated(&self, document: Nomint) -> Outcome {
-        if let Some(fault) = self.nomination_fault(&document) {
-            return Outcome::Refuses(Refusal::Nomination(fault));
-        }
-        match number_of_taking(&self.facts, &document) {
-            Some(n) => Outcome::RepeatsNomination { n: number(n) },
-            None => Outcome::Records(Fact::Nominated(document)),
-        }
+        let refused = self.nomination_fault(&document).map(Refusal::Nomination);
+        let taken = number_of_taking(&self.facts, &document);
+        let outcome = match (refused, taken) {
+            (Some(refusal), _) => Outcome::Refuses(refusal),
+            (None, Some(n)) => Outcome::RepeatsNomination { n: number(n) },
+            (None, None) => return Outcome::Records(Fact::Nominated(document)),
+        };
+        drop(document);
+        outcome
     }
 
     fn submitted(&self, body: &Body) -> Outcome {
         match decode(self.alloc, body.as_slice()) {
             Ok(Message::Nomint(document)) => self.nominated(document),
-            Ok(_) => Outcome::Refuses(Refusal::WrongKind),
+            Ok(other) => wrong_kind(other),
             Err(fault) => Outcome::Refuses(Refusal::Message(fault)),
         }
     }
@@ -244,7 +255,10 @@ impl Plain {
         confirmed: Option<&Table>,
     ) -> Outcome {
         match self.meeting_fault(side, point, &id, &peer, confirmed) {
-            Some(refusal) => Outcome::Refuses(refusal),
+            Some(refusal) => {
+                drop(peer);
+                Outcome::Refuses(refusal)
+            }
             None => self.met(id, peer),
         }
     }
@@ -267,20 +281,17 @@ impl Plain {
             processed,
             confirmed,
         } = response;
-        self.met_by(
-            Side::I,
-            point,
-            CycleId { day, cycle },
-            processed,
-            Some(&confirmed),
-        )
+        let id = CycleId { day, cycle };
+        let outcome = self.met_by(Side::I, point, id, processed, Some(&confirmed));
+        drop(confirmed);
+        outcome
     }
 
     fn delivered(&self, body: &Body) -> Outcome {
         match decode(self.alloc, body.as_slice()) {
             Ok(Message::Delord(order)) => self.order_met(order),
             Ok(Message::Delres(response)) => self.response_met(response),
-            Ok(_) => Outcome::Refuses(Refusal::WrongKind),
+            Ok(other) => wrong_kind(other),
             Err(fault) => Outcome::Refuses(Refusal::Message(fault)),
         }
     }

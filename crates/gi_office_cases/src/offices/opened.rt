@@ -258,6 +258,24 @@ fn wait<R: Role, L: Ledger, W: Wait>(
     true
 }
 
+/// What the first word of a line asks of an office that is open.
+#[derive(Clone, Copy)]
+enum OfOffice {
+    Repeat,
+    Wait,
+    Save,
+    Call,
+}
+
+fn of_office(word: &str) -> OfOffice {
+    match word {
+        "times" => OfOffice::Repeat,
+        "wait_saved" => OfOffice::Wait,
+        "save_turn" => OfOffice::Save,
+        _ => OfOffice::Call,
+    }
+}
+
 /// Makes a call on an office that is open.
 fn on_office<R: Role, L: Ledger, W: Wait>(
     handle: &W,
@@ -270,17 +288,42 @@ fn on_office<R: Role, L: Ledger, W: Wait>(
     text: &mut Answer,
 ) -> Result<bool, Fault> {
     let mut words = Words::of(line);
-    match words.next() {
-        "times" => repeat(handle, alloc, office, seats, receipts, words, text),
-        "wait_saved" => match words.byte() {
+    match of_office(words.next()) {
+        OfOffice::Repeat => repeat(handle, alloc, office, seats, receipts, words, text),
+        OfOffice::Wait => match words.byte() {
             Some(place) => Ok(wait(handle, office, receipts, u64::from(place), text)),
             None => Ok(false),
         },
-        "save_turn" => match (book, words.byte()) {
+        OfOffice::Save => match (book, words.byte()) {
             (Some(book), Some(number)) => save(handle, office, seats, book, number, text),
             _ => Ok(false),
         },
-        _ => call(handle, alloc, office, seats, receipts, line, text),
+        OfOffice::Call => call(handle, alloc, office, seats, receipts, line, text),
+    }
+}
+
+/// What the first word of a line asks. (A name of its own: texts compared among the calls are dear to
+/// prove.)
+#[derive(Clone, Copy)]
+enum Asked {
+    Fact,
+    Open,
+    Settle,
+    Entries,
+    Book,
+    Told,
+    OfOffice,
+}
+
+fn asked_by(word: &str) -> Asked {
+    match word {
+        "fact" => Asked::Fact,
+        "open" => Asked::Open,
+        "settle" => Asked::Settle,
+        "entries" => Asked::Entries,
+        "book" | "load" | "save_batch" => Asked::Book,
+        "receipts" | "notes" | "lose" | "entry" | "acknowledged" => Asked::Told,
+        _ => Asked::OfOffice,
     }
 }
 
@@ -310,9 +353,9 @@ impl<R: Role, L: Ledger> Opened<R, L> {
         text: &mut Answer,
     ) -> Result<bool, Fault> {
         let mut words = Words::of(line);
-        match words.next() {
-            "fact" => add_fact(alloc, &mut self.facts, words.rest(), text),
-            "open" => Ok(open(
+        match asked_by(words.next()) {
+            Asked::Fact => add_fact(alloc, &mut self.facts, words.rest(), text),
+            Asked::Open => Ok(open(
                 alloc,
                 &mut self.unopened,
                 &mut self.facts,
@@ -321,19 +364,17 @@ impl<R: Role, L: Ledger> Opened<R, L> {
                 words,
                 text,
             )),
-            "settle" => Ok(settle(
+            Asked::Settle => Ok(settle(
                 alloc,
                 &mut self.office,
                 &mut self.seats,
                 &mut self.settled,
                 text,
             )),
-            "entries" => Ok(count_entries(&self.settled, text)),
-            "book" | "load" | "save_batch" => Ok(call_book(alloc, &mut self.book, line, text)),
-            "receipts" | "notes" | "lose" | "entry" | "acknowledged" => {
-                Ok(told(&self.receipts, &mut self.seats, &self.settled, line, text))
-            }
-            _ => match &self.office {
+            Asked::Entries => Ok(count_entries(&self.settled, text)),
+            Asked::Book => Ok(call_book(alloc, &mut self.book, line, text)),
+            Asked::Told => { Ok(told(&self.receipts, &mut self.seats, &self.settled, line, text)) }
+            Asked::OfOffice => match &self.office {
                 Some(office) => on_office(
                     handle,
                     alloc,

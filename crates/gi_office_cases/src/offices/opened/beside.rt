@@ -281,6 +281,24 @@ fn wait_beside<L: Ledger + Send + Sync, T: Threads + Wait + Clock + Sync>(
     )
 }
 
+/// What the first word of a line asks of several threads.
+#[derive(Clone, Copy)]
+enum ByThreads {
+    BothSubmit,
+    WaitBeside,
+    Serve,
+    None,
+}
+
+fn by_threads(word: &str) -> ByThreads {
+    match word {
+        "both_submit" => ByThreads::BothSubmit,
+        "wait_beside" => ByThreads::WaitBeside,
+        "serve" => ByThreads::Serve,
+        _ => ByThreads::None,
+    }
+}
+
 impl<L: Ledger + Send + Sync> Opened<Initiating, L> {
     /// Makes a call, of several threads too, and adds its answer. `false` where the line is none.
     pub fn answer_by_threads<T: Threads + Wait + Clock + Sync>(
@@ -291,13 +309,20 @@ impl<L: Ledger + Send + Sync> Opened<Initiating, L> {
         text: &mut Answer,
     ) -> Result<bool, Fault> {
         let mut words = Words::of(line);
-        let word = words.next();
+        let word = by_threads(words.next());
         let Some(office) = &self.office else {
             return self.answer(handle, alloc, line, text);
         };
         match word {
-            "both_submit" => both_submit(handle, alloc, office, &mut self.seats, words, text),
-            "wait_beside" => match &mut self.book {
+            ByThreads::BothSubmit => both_submit(
+                handle,
+                alloc,
+                office,
+                &mut self.seats,
+                words,
+                text,
+            ),
+            ByThreads::WaitBeside => match &mut self.book {
                 Some(book) => wait_beside(
                     handle,
                     alloc,
@@ -310,7 +335,7 @@ impl<L: Ledger + Send + Sync> Opened<Initiating, L> {
                 ),
                 None => Ok(false),
             },
-            "serve" => serve(
+            ByThreads::Serve => serve(
                 handle,
                 alloc,
                 office,
@@ -319,7 +344,7 @@ impl<L: Ledger + Send + Sync> Opened<Initiating, L> {
                 words,
                 text,
             ),
-            _ => self.answer(handle, alloc, line, text),
+            ByThreads::None => self.answer(handle, alloc, line, text),
         }
     }
 }
