@@ -5,7 +5,7 @@ use Rattle.std.specs.List.{flat_map}
 use Rattle.gi_day.specs.Day.{day_text}
 use Rattle.gi_pairs.specs.declared.cycle_id.CycleId.{CycleId}
 use Rattle.gi_desk.specs.Machine.{DeskState}
-use Rattle.gi_reports.specs.Columns.{right_in}
+use Rattle.gi_text.specs.Columns.{right_in}
 use Rattle.gi_audit.specs.Cycles.{AreClosedAtEither}
 use Rattle.gi_audit.specs.Finding.{differs, finding}
 use Rattle.gi_audit.specs.FindingText.{finding_text}

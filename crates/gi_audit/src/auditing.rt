@@ -15,7 +15,7 @@ use gi_desk::Desk;
 use gi_initiator::Initiating;
 use gi_matcher::Matching;
 use gi_pairs::CycleId;
-use gi_reports::RightInTwo;
+use gi_text::RightInTwo;
 use std::alloc::{AllocError, Global};
 
 /// What two desks have of their cycles.

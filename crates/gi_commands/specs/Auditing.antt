@@ -9,8 +9,8 @@ use Rattle.gi_desk.specs.Machine.{bad_fact}
 use Rattle.gi_audit.specs.Agreeing.{ConfirmOneQuantity}
 use Rattle.gi_audit.specs.Audit.{IsAudit}
 use Rattle.gi_commands.specs.Reporting.{IsBookFault, desk_of}
-use Rattle.gi_table_commands.specs.declared.fault.Fault.{Fault}
-use Rattle.gi_table_commands.specs.declared.fault.Fault.TheVariants as fault
+use Rattle.gi_commands.specs.declared.fault.Fault.{Fault}
+use Rattle.gi_commands.specs.declared.fault.Fault.TheVariants as fault
 
 -- The audit of the facts of two books, the initiating operator's and the matching one's, and its first difference. Each
 -- makes a desk. Where there is no difference, the two confirm one quantity: what either has confirmed is the lower of what

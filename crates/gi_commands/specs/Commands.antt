@@ -7,16 +7,17 @@ use Rattle.gi_pairs.specs.declared.side.Side.{Side}
 use Rattle.gi_command_line.specs.Asked.{Asked, audit, explain, hours, match_tables, mistaken, report, simulate}
 use Rattle.gi_commands.specs.Auditing.{Audits, IsFirstAuditFault, LeavesAudit}
 use Rattle.gi_commands.specs.Explaining.{Asks, IsQuestionFault, NamesNoCodes}
+use Rattle.gi_commands.specs.Fault.{OfTables}
+use Rattle.gi_commands.specs.Leaving.{LeavesNothing}
 use Rattle.gi_commands.specs.Reporting.{IsFirstFileFault, ReportsBook}
 use Rattle.gi_commands.specs.Simulating.{CutsShort, HasReport, HasScript, IsFirstScriptFault, Reports, Simulates}
 use Rattle.gi_explanations.specs.declared.question.Question.{Question}
 use Rattle.gi_commands.specs.declared.desk_report.DeskReport.{DeskReport}
 use Rattle.gi_commands.specs.declared.desk_report.DeskReport.TheVariants.{Explanation, Listed}
 use Rattle.gi_table_commands.specs.Hours.{IsFirstHoursFault, TellsHours}
-use Rattle.gi_table_commands.specs.Leaving.{LeavesNothing}
 use Rattle.gi_table_commands.specs.Match.{Answers, IsFirstFault}
-use Rattle.gi_table_commands.specs.declared.fault.Fault.{Fault}
-use Rattle.gi_table_commands.specs.declared.fault.Fault.TheVariants as fault
+use Rattle.gi_commands.specs.declared.fault.Fault.{Fault}
+use Rattle.gi_commands.specs.declared.fault.Fault.TheVariants as fault
 
 -- ---- what is told of a side's desk: after a script, or in the book of that file and point
 
@@ -53,8 +54,8 @@ Does mistaken remaining old new = ⊥
 
 -- the first fault
 abbrev pub IsFaultOf : Asked → Option (List ℕ) → Fault → Type 0
-IsFaultOf match_tables remaining why = IfSome remaining (λ input. IsFirstFault input why)
-IsFaultOf (hours day) remaining why = IsFirstHoursFault day why
+IsFaultOf match_tables remaining why = IfSome remaining (λ input. OfTables (IsFirstFault input) why)
+IsFaultOf (hours day) remaining why = OfTables (IsFirstHoursFault day) why
 IsFaultOf (simulate trace) remaining why = IfSome remaining (λ input. IsFirstScriptFault HasScript input why)
 IsFaultOf (report kind format side book) remaining why = IsDeskFault (Listed kind format) side book remaining why
 IsFaultOf (explain side words book) remaining why =

@@ -6,8 +6,8 @@ use Rattle.gi_day.specs.Read.{IsDayRead}
 use Rattle.gi_pairs.specs.Code.{IsCode}
 use Rattle.gi_command_line.specs.Asked.{QuantityWords}
 use Rattle.gi_explanations.specs.declared.question.Question.{Question}
-use Rattle.gi_table_commands.specs.declared.fault.Fault.{Fault}
-use Rattle.gi_table_commands.specs.declared.fault.Fault.TheVariants as fault
+use Rattle.gi_commands.specs.declared.fault.Fault.{Fault}
+use Rattle.gi_commands.specs.declared.fault.Fault.TheVariants as fault
 
 -- one of the two portfolios is no code
 abbrev pub NamesNoCodes : QuantityWords → Type 0

@@ -1,3 +1,5 @@
+pub mod Fault
+pub mod Leaving
 pub mod Reporting
 pub mod Simulating
 pub mod Explaining

@@ -14,8 +14,8 @@ use Rattle.gi_reports.specs.Refused.{refused_counts, refused_lines}
 use Rattle.gi_store.specs.Book.{IsLoadFault, IsRead}
 use Rattle.gi_store.specs.declared.store_fault.StoreFault.TheVariants as store
 use Rattle.sqlite.specs.State.{State}
-use Rattle.gi_table_commands.specs.declared.fault.Fault.{Fault}
-use Rattle.gi_table_commands.specs.declared.fault.Fault.TheVariants as fault
+use Rattle.gi_commands.specs.declared.fault.Fault.{Fault}
+use Rattle.gi_commands.specs.declared.fault.Fault.TheVariants as fault
 use Rattle.gi_commands.specs.declared.desk_report.DeskReport.{DeskReport}
 use Rattle.gi_commands.specs.declared.desk_report.DeskReport.TheVariants.{Listed, Explanation}
 use Rattle.gi_command_line.specs.declared.request.Format.TheVariants.{Text, Csv, Json}

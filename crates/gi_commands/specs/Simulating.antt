@@ -12,8 +12,8 @@ use Rattle.gi_reports.specs.Counts.{counts_line}
 use Rattle.gi_world.specs.World.{station_of}
 use Rattle.gi_table_commands.specs.Input.{most_input}
 use Rattle.gi_commands.specs.Reporting.{IsReport}
-use Rattle.gi_table_commands.specs.declared.fault.Fault.{Fault}
-use Rattle.gi_table_commands.specs.declared.fault.Fault.TheVariants as fault
+use Rattle.gi_commands.specs.declared.fault.Fault.{Fault}
+use Rattle.gi_commands.specs.declared.fault.Fault.TheVariants as fault
 use Rattle.gi_commands.specs.declared.desk_report.DeskReport.{DeskReport}
 
 -- both offices after a script

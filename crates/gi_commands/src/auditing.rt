@@ -3,8 +3,9 @@
 ghost use Rattle.std.specs.Prelude.{◌≡◌, Err, IfErr, IfOk, string_bytes};
 ghost use Rattle.gi_pairs.specs.Code.{IsCode};
 ghost use Rattle.gi_commands.specs.Auditing.{HasAudit, IsFactsAudit, IsNoAudit, IsNoFactsAudit};
-ghost use Rattle.gi_table_commands.specs.Fault.{no_code};
+ghost use Rattle.gi_commands.specs.Fault.{no_code};
 
+use crate::fault::Fault;
 use crate::replaying::replayed;
 use gi_audit::{Audited, audit};
 use gi_command_line::BookFiles;
@@ -13,7 +14,6 @@ use gi_initiator::Initiating;
 use gi_matcher::Matching;
 use gi_pairs::{Code, CodeText};
 use gi_store::facts_of_file;
-use gi_table_commands::Fault;
 use std::alloc::Global;
 
 /// The audit of the facts of two books. `BadFact` for the first fact that no desk of the initiating

@@ -2,17 +2,17 @@
 
 ghost use Rattle.std.specs.Prelude.{◌≡◌, Err, IfErr, IfOk};
 ghost use Rattle.gi_pairs.specs.Code.{IsCode};
-ghost use Rattle.gi_table_commands.specs.Fault.{no_code};
+ghost use Rattle.gi_commands.specs.Fault.{no_code};
 ghost use Rattle.gi_commands.specs.Reporting.{HasBookReport, IsFileFault};
 
 use crate::desk_report::DeskReport;
+use crate::fault::Fault;
 use crate::reporting::facts_report;
 use gi_command_line::BookFile;
 use gi_initiator::Initiating;
 use gi_matcher::Matching;
 use gi_pairs::{Code, CodeText, Side};
 use gi_store::facts_of_file;
-use gi_table_commands::Fault;
 
 /// The report of a side's book in a file. `CodeText` where the point is no code, whatever the file
 /// is; a file that is not there is `Store`, and is not made.

@@ -3,14 +3,14 @@
 ghost use Rattle.std.specs.Prelude.{◌≡◌, Err, IfErr, IfOk, IsOk};
 ghost use Rattle.gi_command_line.specs.Asked.{quantity_words};
 ghost use Rattle.gi_commands.specs.Explaining.{Asks, IsQuestionFault, NamesNoCodes};
-ghost use Rattle.gi_table_commands.specs.Fault.{no_code};
+ghost use Rattle.gi_commands.specs.Fault.{no_code};
 ghost use Rattle.gi_explanations.specs.declared.question.Question.{Question as QuestionContents};
 
+use crate::fault::Fault;
 use gi_command_line::NamedQuantity;
 use gi_day::GasDay;
 use gi_explanations::Question;
 use gi_pairs::{Code, CycleId, Pair};
-use gi_table_commands::Fault;
 
 /// The question that words ask. `Code` where a portfolio is none, then `Day` where the day is no
 /// gas day.

@@ -1,5 +1,5 @@
-//! What can be asked of the program, and what each command does: what it reads, calls and writes,
-//! and its faults in their order.
+//! What each command but `serve` does: what it reads, calls and writes, and its faults in their
+//! order; the faults of all commands.
 #![tactic(auto)]
 
 mod auditing;
@@ -7,12 +7,16 @@ mod books;
 mod commands;
 mod desk_report;
 mod explaining;
+mod fault;
 mod replaying;
 mod reporting;
 mod simulating;
+mod tables;
 
 pub use auditing::facts_audit;
 pub use commands::perform;
 pub use desk_report::DeskReport;
+pub use fault::Fault;
 pub use reporting::{book_report, script_report};
 pub use simulating::{Written, simulated};
+pub use tables::read_input;

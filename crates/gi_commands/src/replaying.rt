@@ -4,10 +4,10 @@ ghost use Rattle.std.specs.Prelude.{◌≡◌, IfErr, IfOk, None};
 ghost use Rattle.gi_desk.specs.Machine.{bad_fact};
 ghost use Rattle.gi_commands.specs.Reporting.{IsFactsFault, desk_of};
 
+use crate::fault::Fault;
 use gi_day::Calendar;
 use gi_desk::{Desk, Fact, Role};
 use gi_pairs::Code;
-use gi_table_commands::Fault;
 use std::alloc::Global;
 
 /// The desk of these facts. `BadFact` for the first that no desk of this side and point records

@@ -10,6 +10,7 @@ ghost use Rattle.gi_commands.specs.Simulating.{IsNoScript, IsScriptReport};
 ghost use Rattle.gi_world.specs.World.{station_of};
 
 use crate::desk_report::DeskReport;
+use crate::fault::Fault;
 use crate::replaying::replayed;
 use gi_command_line::{Format, ReportKind};
 use gi_desk::{Desk, Fact, Role};
@@ -22,7 +23,6 @@ use gi_reports::{confirmed_report, open_report, refused_report};
 use gi_script::read_script;
 use gi_simulation::refused_submissions;
 use gi_store::BookStore;
-use gi_table_commands::Fault;
 use gi_world::World;
 use sqlite::Alter;
 use std::alloc::{AllocError, Global};

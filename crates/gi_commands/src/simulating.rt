@@ -3,10 +3,10 @@
 ghost use Rattle.std.specs.Prelude.{◌≡◌, ◌++◌, IfErr, IfOk, OnErr, OnOk, false, string_bytes, true};
 ghost use Rattle.gi_commands.specs.Simulating.{HasScript, IsCutShort, IsNoScript, IsSimulation, counts_of};
 
+use crate::fault::Fault;
 use gi_reports::counts_line;
 use gi_script::read_script;
 use gi_simulation::{Simulation, simulate};
-use gi_table_commands::Fault;
 use std::alloc::{AllocError, Global};
 
 /// What is written of a script.

@@ -1,24 +1,18 @@
 -- What the columns of a report print.
 use Rattle.std.proofs.Common.{◌≡◌, ◌<◌, ℕ, suc, ◌+◌, ◌^◌, ◌-◌, List, [], ◌∷◌, ◌++◌, length, cond, ◌||◌, nat_le, refl, ap, ◌∙◌, arith}
-use Rattle.std.proofs.Padding.{padded_integral_right, padded_integral_zeros, take_chars_all, repeat_ascii, char_count-nil, char_count-cons}
+use Rattle.std.proofs.Padding.{padded_integral_right, take_chars_all, repeat_ascii, char_count-nil, char_count-cons}
 use Rattle.std.proofs.lemmas.Bool.{lt-ltb}
 use Rattle.std.specs.Fmt.{char_count, decimal, format_spec, padded, styled_decimal, styled_text}
 use Rattle.std.specs.Str.{IsAscii}
-use Rattle.gi_reports.specs.Columns.{left_in, right_in, two_digits}
+use Rattle.gi_reports.specs.Columns.{left_in}
+use Rattle.gi_text.specs.Columns.{right_in}
 
--- what `{:>2}`, `{:>6}` and `{:>12}` write of a number
-pub two_is : (number : ℕ) → styled_decimal (format_spec 32 3 0 2 (2 ^ 64 - 1)) number ≡ right_in 2 number
-two_is number = padded_integral_right (format_spec 32 3 0 2 (2 ^ 64 - 1)) (decimal number) refl refl (omega arith) (omega arith) (omega arith)
-
+-- what `{:>6}` and `{:>12}` write of a number
 pub six_is : (number : ℕ) → styled_decimal (format_spec 32 3 0 6 (2 ^ 64 - 1)) number ≡ right_in 6 number
 six_is number = padded_integral_right (format_spec 32 3 0 6 (2 ^ 64 - 1)) (decimal number) refl refl (omega arith) (omega arith) (omega arith)
 
 pub twelve_is : (number : ℕ) → styled_decimal (format_spec 32 3 0 12 (2 ^ 64 - 1)) number ≡ right_in 12 number
 twelve_is number = padded_integral_right (format_spec 32 3 0 12 (2 ^ 64 - 1)) (decimal number) refl refl (omega arith) (omega arith) (omega arith)
-
--- what `{:02}` writes of a number
-pub digits_are : (number : ℕ) → styled_decimal (format_spec 32 0 4 2 (2 ^ 64 - 1)) number ≡ two_digits number
-digits_are number = padded_integral_zeros (format_spec 32 0 4 2 (2 ^ 64 - 1)) (decimal number) refl refl
 
 -- each byte of an ASCII text is a character
 one_each : (text : List ℕ) → IsAscii text → char_count text ≡ length text

@@ -6,7 +6,7 @@ use Rattle.jiff_core.specs.declared.civil.date.Date.{Date}
 use Rattle.gi_day.specs.Day.{day_text}
 use Rattle.gi_pairs.specs.declared.cycle_id.CycleId.{CycleId}
 use Rattle.gi_pairs.specs.declared.row.Row.{Row}
-use Rattle.gi_reports.specs.Columns.{right_in}
+use Rattle.gi_text.specs.Columns.{right_in}
 use Rattle.gi_reports.specs.Confirmed.{confirmed_line, row_text}
 
 -- a line of these parts

@@ -9,7 +9,8 @@ use Rattle.gi_pairs.specs.declared.row.Row.{Row}
 use Rattle.gi_pairs.specs.declared.side.Side.{Side}
 use Rattle.gi_desk.specs.Machine.{DeskState}
 use Rattle.gi_desk.specs.Queries.{confirmed}
-use Rattle.gi_reports.specs.Columns.{left_in, right_in}
+use Rattle.gi_reports.specs.Columns.{left_in}
+use Rattle.gi_text.specs.Columns.{right_in}
 use Rattle.gi_reports.specs.Cycles.{AreClosedCycles}
 
 -- what a row is for: `IM A                B               `

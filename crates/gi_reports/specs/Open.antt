@@ -9,7 +9,7 @@ use Rattle.gi_desk.specs.Machine.{DeskState}
 use Rattle.gi_desk.specs.Queries.{confirmed, stage_of}
 use Rattle.gi_desk.specs.declared.stage_name.StageName.{StageName}
 use Rattle.gi_desk.specs.declared.stage_name.StageName.TheVariants.{Collecting, Frozen, Matched}
-use Rattle.gi_reports.specs.Columns.{right_in}
+use Rattle.gi_text.specs.Columns.{right_in}
 use Rattle.gi_reports.specs.Cycles.{AreClosedCycles}
 
 -- `unsaved` where a closed cycle has met the peer's table, else `frozen`

@@ -3,7 +3,8 @@ use Rattle.std.specs.Prelude.{ℕ, List, [], ◌∷◌, ◌++◌, length, map, f
 use Rattle.std.specs.Cmp.Lexicographic.{pointwise}
 use Rattle.std.specs.List.{flat_map}
 use Rattle.std.specs.Option.{option_eq}
-use Rattle.gi_reports.specs.Columns.{left_in, name_of, right_in}
+use Rattle.gi_reports.specs.Columns.{left_in, name_of}
+use Rattle.gi_text.specs.Columns.{right_in}
 
 -- whether two submissions are of one portfolio, or both cannot be read
 abbrev pub same : Option (List ℕ) → Option (List ℕ) → Bool

@@ -3,10 +3,11 @@
 ghost use Rattle.std.specs.Prelude.{◌≡◌, IfOk, string_bytes};
 ghost use Rattle.gi_reports.specs.Confirmed.{IsConfirmedReport, confirmed_line as line_of, confirmed_lines as lines_of, row_lines as lines_of_row, row_text as text_of, table_lines as lines_of_table};
 
-use crate::columns::{LeftInSixteen, RightInTwelve, RightInTwo};
+use crate::columns::{LeftInSixteen, RightInTwelve};
 use crate::cycles::closed_cycles;
 use gi_desk::{Desk, Role};
 use gi_pairs::{CycleId, Quantity, Row, Table};
+use gi_text::RightInTwo;
 use std::alloc::{AllocError, Global};
 
 fn row_text(alloc: Global, row: &Row) -> Result<String, AllocError>

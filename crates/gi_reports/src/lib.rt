@@ -10,7 +10,6 @@ mod open;
 mod refused;
 mod submitter;
 
-pub use columns::{RightInTwo, TwoDigits};
 pub use confirmed::confirmed_report;
 pub use counts::counts_line;
 pub use cycles::closed_cycles;

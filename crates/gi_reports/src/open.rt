@@ -3,10 +3,10 @@
 ghost use Rattle.std.specs.Prelude.{◌≡◌, IfOk, string_bytes};
 ghost use Rattle.gi_reports.specs.Open.{IsOpenReport, open_line as line_of, open_lines as lines_of, open_word as word_of};
 
-use crate::columns::RightInTwo;
 use crate::cycles::closed_cycles;
 use gi_desk::{Desk, Role, StageName};
 use gi_pairs::CycleId;
+use gi_text::RightInTwo;
 use std::alloc::{AllocError, Global};
 
 fn open_word(stage: StageName) -> &'static str

@@ -1,5 +1,3 @@
-mod FirstByte
-mod LineLemmas
 mod WordLemmas
 mod NameLemmas
 mod OneInstruction

@@ -1,7 +1,7 @@
 -- The lines of a script, and the words of a line.
 use Rattle.std.specs.Prelude.{◌==◌, ◌+◌, ℕ, List, [], ◌∷◌}
 use Rattle.std.specs.List.{slice_split}
-use Rattle.gi_script.specs.Lines.{lines}
+use Rattle.gi_text.specs.Lines.{lines}
 
 -- the byte that parts words
 abbrev pub space : ℕ

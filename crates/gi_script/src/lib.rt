@@ -19,6 +19,5 @@ pub use fault::ScriptFault;
 pub use instruction::Instruction;
 pub use laws::{one_instruction, one_office_script, one_script};
 pub use line::Line;
-pub use lines::{LINE_FEED, split_line};
 pub use reading::{read_office_script, read_script};
 pub use script::Script;

@@ -1,7 +1,7 @@
 -- The first fault of a script that is not run.
 use Rattle.std.proofs.Common.{inl, inr, ℕ, List, Option, Some, None, IfSome}
-use Rattle.gi_table_commands.specs.declared.fault.Fault.{Fault}
-use Rattle.gi_table_commands.specs.declared.fault.Fault.TheVariants as fault
+use Rattle.gi_commands.specs.declared.fault.Fault.{Fault}
+use Rattle.gi_commands.specs.declared.fault.Fault.TheVariants as fault
 use Rattle.gi_service.specs.Serving.{IsBooksFault, IsFirstServeFault, IsTextFault}
 use Rattle.gi_service.specs.declared.program_fault.ProgramFault.TheVariants.{Command}
 

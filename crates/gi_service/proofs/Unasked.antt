@@ -9,9 +9,10 @@ use Rattle.gi_command_line.specs.Asked.{Wanted, at_once, audit, explain, hours, 
 use Rattle.gi_command_line.specs.CommandLine.{IsMistaken, objections}
 use Rattle.gi_table_commands.specs.Match.{IsFirstFault}
 use Rattle.gi_table_commands.proofs.Unasked.{if_some, keeps_same}
+use Rattle.gi_commands.specs.Fault.{OfTables}
 use Rattle.gi_commands.specs.Simulating.{CutsShort, HasReport, HasScript, IsFirstScriptFault}
 use Rattle.gi_commands.specs.declared.desk_report.DeskReport.TheVariants.{Listed}
-use Rattle.gi_table_commands.specs.declared.fault.Fault.TheVariants as fault
+use Rattle.gi_commands.specs.declared.fault.Fault.TheVariants as fault
 use Rattle.gi_service.specs.Serving.{IsFirstServeFault}
 use Rattle.gi_service.specs.Tasks.{IsTaskFault, LeavesTask, MayReadTask}
 use Rattle.gi_service.specs.declared.program_fault.ProgramFault.{ProgramFault}
@@ -19,7 +20,7 @@ use Rattle.gi_service.specs.declared.program_fault.ProgramFault.TheVariants.{Com
 
 -- memory may run out of each command
 pub may_want : (wanted : Wanted) (remaining : Option (List ℕ)) → IsTaskFault wanted remaining (Command fault.OutOfMemory)
-may_want (at_once match_tables) remaining = if_some remaining (λ input. IsFirstFault input fault.OutOfMemory) (λ input. tt)
+may_want (at_once match_tables) remaining = if_some remaining (λ input. OfTables (IsFirstFault input) fault.OutOfMemory) (λ input. tt)
 may_want (at_once (hours day)) remaining = tt
 may_want (at_once (simulate trace)) remaining = if_some remaining (λ input. IsFirstScriptFault HasScript input fault.OutOfMemory) (λ input. tt)
 may_want (at_once (report kind format side None)) remaining =

@@ -9,8 +9,8 @@ use Rattle.gi_script.specs.Script.{IsOfficeFault, IsOfficeScript, ScriptContents
 use Rattle.gi_store.specs.declared.store_fault.StoreFault.TheVariants as store
 use Rattle.gi_day.specs.declared.calendar.CalendarFault.TheVariants as calendar
 use Rattle.gi_table_commands.specs.Input.{most_input}
-use Rattle.gi_table_commands.specs.declared.fault.Fault.{Fault}
-use Rattle.gi_table_commands.specs.declared.fault.Fault.TheVariants as fault
+use Rattle.gi_commands.specs.declared.fault.Fault.{Fault}
+use Rattle.gi_commands.specs.declared.fault.Fault.TheVariants as fault
 use Rattle.gi_serving.specs.Ending.{IsOver}
 use Rattle.gi_serving.specs.declared.serve_fault.ServeFault.{ServeFault}
 use Rattle.gi_service.specs.declared.program_fault.ProgramFault.{ProgramFault}

@@ -1,6 +1,6 @@
 -- What a fault of the program means to who started it.
 use Rattle.std.specs.Prelude.{ℕ}
-use Rattle.gi_table_commands.specs.Fault.{status_of}
+use Rattle.gi_commands.specs.Fault.{status_of}
 use Rattle.gi_desk.specs.declared.refusal.Refusal.TheVariants as refusals
 use Rattle.gi_office.specs.declared.office_fault.OfficeFault.TheVariants as offices
 use Rattle.gi_office.specs.declared.save_fault.SaveFault.{SaveFault}

@@ -2,8 +2,8 @@
 use Rattle.std.specs.Prelude.{ℕ, List, Option, IfSome}
 use Rattle.gi_command_line.specs.Asked.{Wanted, at_once, serve}
 use Rattle.gi_commands.specs.Commands.{Does, HasNoCode, IsFaultOf, Leaves, MayRead}
-use Rattle.gi_table_commands.specs.Fault.{no_code}
-use Rattle.gi_table_commands.specs.Leaving.{LeavesNothing}
+use Rattle.gi_commands.specs.Fault.{no_code}
+use Rattle.gi_commands.specs.Leaving.{LeavesNothing}
 use Rattle.gi_service.specs.Serving.{IsFirstServeFault, LeavesServed, Serves}
 use Rattle.gi_service.specs.declared.program_fault.ProgramFault.{ProgramFault}
 use Rattle.gi_service.specs.declared.program_fault.ProgramFault.TheVariants.{Command, Served}

@@ -11,8 +11,9 @@ use crate::tasks::perform_task;
 use clap::Error;
 use clap::error::ErrorKind;
 use gi_command_line::{Mistake, Request, Task, requested};
+use gi_commands::Fault;
 use gi_serving::Watch;
-use gi_table_commands::{Fault, reported};
+use gi_table_commands::reported;
 use std::convert::AsStr;
 use std::io::{Read, Write};
 use std::sync::Wait;
@@ -37,7 +38,7 @@ fn explain<W: Write, E: Write>(
 {
     match gi_table_commands::explain(said, output, errors) {
         Ok(()) => Ok(()),
-        Err(fault) => Err(ProgramFault::Command(fault)),
+        Err(fault) => Err(ProgramFault::from(fault)),
     }
 }
 
@@ -46,7 +47,7 @@ fn point_out<E: Write>(mistake: Mistake<'_>, errors: &mut E) -> Result<(), Progr
 {
     match gi_table_commands::point_out(mistake, errors) {
         Ok(()) => Ok(()),
-        Err(fault) => Err(ProgramFault::Command(fault)),
+        Err(fault) => Err(ProgramFault::from(fault)),
     }
 }
 

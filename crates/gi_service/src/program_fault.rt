@@ -1,22 +1,34 @@
 ghost use Rattle.std.specs.Prelude.{◌≡◌};
 ghost use Rattle.gi_service.specs.Status.{program_status, serve_status};
 
+use gi_commands::Fault;
 use gi_desk::Refusal;
 use gi_office::{OfficeFault, SaveFault, Unreconciled};
 use gi_serving::ServeFault;
 use gi_store::StoreFault;
-use gi_table_commands::Fault;
+use gi_table_commands::Fault as TableFault;
 use thiserror::Error;
 
 /// Why the program gave up.
 #[derive(Debug, Drop, PartialEq, Eq, Error)]
 pub enum ProgramFault {
     /// A command gave up before, or as, its text was written.
-    #[error("{0}")]
+    #[error(transparent)]
     Command(Fault),
     /// Two running offices did not serve their script to its end, or not well.
-    #[error("{0}")]
+    #[error(transparent)]
     Served(ServeFault),
+}
+
+impl From<TableFault> for ProgramFault {
+    ghost use Rattle.gi_commands.specs.Fault.{table_fault};
+    ghost use Rattle.gi_service.specs.declared.program_fault.ProgramFault.TheVariants.{Command};
+
+    ghost from_gives = { λ fault e. e ≡ Command (table_fault fault) };
+
+    fn from(fault: TableFault) -> ProgramFault {
+        ProgramFault::Command(Fault::from(fault))
+    }
 }
 
 fn status_of_served(fault: &ServeFault) -> u8

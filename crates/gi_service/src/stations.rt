@@ -5,6 +5,7 @@ ghost use Rattle.gi_service.specs.Serving.{IsBooksFault, IsFactsFault, IsServedF
 
 use crate::places::Place;
 use gi_command_line::Sessions;
+use gi_commands::Fault;
 use gi_day::Calendar;
 use gi_desk::{Desk, Fact, Role};
 use gi_initiator::Initiating;
@@ -13,7 +14,6 @@ use gi_pairs::Code;
 use gi_script::Script;
 use gi_serving::{Served, Watch, serve};
 use gi_store::BookStore;
-use gi_table_commands::Fault;
 use sqlite::Alter;
 use std::alloc::Global;
 use std::sync::Wait;

@@ -33,14 +33,9 @@ own_refused input first second order fault.Read lines spelled refused = absurd r
 own_refused input first second order fault.TooLarge lines spelled refused = absurd refused
 own_refused input first second order fault.Lines lines spelled refused = absurd refused
 own_refused input first second order fault.ShapeDiffers lines spelled refused = absurd refused
-own_refused input first second order fault.Differs lines spelled refused = absurd refused
 own_refused input first second order fault.Write lines spelled refused = absurd refused
 own_refused input first second order (fault.Day why) lines spelled refused = absurd refused
 own_refused input first second order (fault.Calendar why) lines spelled refused = absurd refused
-own_refused input first second order (fault.Script why) lines spelled refused = absurd refused
-own_refused input first second order (fault.Code why) lines spelled refused = absurd refused
-own_refused input first second order (fault.Store why) lines spelled refused = absurd refused
-own_refused input first second order (fault.BadFact why) lines spelled refused = absurd refused
 
 -- the first line is refused
 pub order_refused : (input first second : List ℕ) (why : Fault) → HasLines input first second
@@ -57,14 +52,9 @@ order_refused input first second fault.Read lines refused = absurd refused
 order_refused input first second fault.TooLarge lines refused = absurd refused
 order_refused input first second fault.Lines lines refused = absurd refused
 order_refused input first second fault.ShapeDiffers lines refused = absurd refused
-order_refused input first second fault.Differs lines refused = absurd refused
 order_refused input first second fault.Write lines refused = absurd refused
 order_refused input first second (fault.Day why) lines refused = absurd refused
 order_refused input first second (fault.Calendar why) lines refused = absurd refused
-order_refused input first second (fault.Script why) lines refused = absurd refused
-order_refused input first second (fault.Code why) lines refused = absurd refused
-order_refused input first second (fault.Store why) lines refused = absurd refused
-order_refused input first second (fault.BadFact why) lines refused = absurd refused
 
 -- the fault of two lines refuses the input
 pub lines_refused : (input first second : List ℕ) (why : Fault) → HasLines input first second → IsFirstLineFault first second why → IsRefused input why
@@ -87,11 +77,6 @@ unanswered_refused input first second order own fault.CommandLine lines is_order
 unanswered_refused input first second order own fault.Read lines is_order is_own unanswered = absurd unanswered
 unanswered_refused input first second order own fault.TooLarge lines is_order is_own unanswered = absurd unanswered
 unanswered_refused input first second order own fault.Lines lines is_order is_own unanswered = absurd unanswered
-unanswered_refused input first second order own fault.Differs lines is_order is_own unanswered = absurd unanswered
 unanswered_refused input first second order own fault.Write lines is_order is_own unanswered = absurd unanswered
 unanswered_refused input first second order own (fault.Day why) lines is_order is_own unanswered = absurd unanswered
 unanswered_refused input first second order own (fault.Calendar why) lines is_order is_own unanswered = absurd unanswered
-unanswered_refused input first second order own (fault.Script why) lines is_order is_own unanswered = absurd unanswered
-unanswered_refused input first second order own (fault.Code why) lines is_order is_own unanswered = absurd unanswered
-unanswered_refused input first second order own (fault.Store why) lines is_order is_own unanswered = absurd unanswered
-unanswered_refused input first second order own (fault.BadFact why) lines is_order is_own unanswered = absurd unanswered

@@ -10,7 +10,7 @@ use Rattle.gi_messages.specs.declared.message.Message.{Message}
 use Rattle.gi_messages.specs.declared.message.Message.TheVariants as message
 use Rattle.gi_messages.specs.declared.message_fault.MessageFault.{MessageFault}
 use Rattle.gi_table_commands.specs.Laws.{HasNoAnswer, HasOneAnswer, HasOneFault}
-use Rattle.gi_script.specs.Lines.{lines, line_feed}
+use Rattle.gi_text.specs.Lines.{lines, line_feed}
 use Rattle.gi_table_commands.specs.Match.{IsRefused, HasTwoShapes, SpellsTables, response}
 use Rattle.gi_table_commands.specs.declared.fault.Fault.{Fault}
 use Rattle.gi_table_commands.specs.declared.fault.Fault.TheVariants as fault
@@ -78,14 +78,9 @@ module _ (reads : ReadsSpelling) where
   fault_is input fault.CommandLine memory refused = absurd refused
   fault_is input fault.Read memory refused = absurd refused
   fault_is input fault.TooLarge memory refused = absurd refused
-  fault_is input fault.Differs memory refused = absurd refused
   fault_is input fault.Write memory refused = absurd refused
   fault_is input (fault.Day why) memory refused = absurd refused
   fault_is input (fault.Calendar why) memory refused = absurd refused
-  fault_is input (fault.Script why) memory refused = absurd refused
-  fault_is input (fault.Code why) memory refused = absurd refused
-  fault_is input (fault.Store why) memory refused = absurd refused
-  fault_is input (fault.BadFact why) memory refused = absurd refused
 
   -- two readings of one input are one
   same_tables : (input : List ℕ) (order own order' own' : Delord) → SpellsTables input order own

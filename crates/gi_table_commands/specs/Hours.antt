@@ -10,8 +10,8 @@ use Rattle.jiff_fmt.specs.Text.{date_text}
 use Rattle.gi_day.specs.Cycles.{cycle_count, cycle_start, first_hour, hour_count}
 use Rattle.gi_day.specs.Day.{IsDayText, IsGasYear, day_text}
 use Rattle.gi_day.specs.Read.{IsDayRead}
-use Rattle.gi_reports.specs.Columns.{right_in, two_digits}
-use Rattle.gi_script.specs.Lines.{line_feed}
+use Rattle.gi_text.specs.Columns.{right_in, two_digits}
+use Rattle.gi_text.specs.Lines.{line_feed}
 use Rattle.gi_table_commands.specs.declared.fault.Fault.{Fault}
 use Rattle.gi_table_commands.specs.declared.fault.Fault.TheVariants as fault
 

@@ -1,6 +1,6 @@
 -- The two lines of an input.
 use Rattle.std.specs.Prelude.{◌≡◌, ℕ, List, [], ◌∷◌}
-use Rattle.gi_script.specs.Lines.{lines}
+use Rattle.gi_text.specs.Lines.{lines}
 
 -- exactly these two lines
 abbrev pub HasLines : List ℕ → List ℕ → List ℕ → Type 0

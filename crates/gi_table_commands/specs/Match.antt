@@ -14,7 +14,7 @@ use Rattle.gi_pairs.specs.Limits.{most_processed_rows}
 use Rattle.gi_pairs.specs.Table.{TableContents}
 use Rattle.gi_lesser.specs.Lesser.{HasShapeOf, IsLesser, lesser_of}
 use Rattle.gi_table_commands.specs.Lines.{HasLines, HasNoLines}
-use Rattle.gi_script.specs.Lines.{line_feed}
+use Rattle.gi_text.specs.Lines.{line_feed}
 use Rattle.gi_table_commands.specs.Input.{most_input}
 use Rattle.gi_table_commands.specs.declared.fault.Line.{Line}
 use Rattle.gi_table_commands.specs.declared.fault.Line.TheVariants.{Order, Own}

@@ -6,7 +6,7 @@ ghost use Rattle.gi_table_commands.specs.Hours.{AreCycleLines, IsCycleLine, IsFr
 
 use crate::fault::Fault;
 use gi_day::{Calendar, DayFault, DayFrame, GasDay};
-use gi_reports::{RightInTwo, TwoDigits};
+use gi_text::{RightInTwo, TwoDigits};
 use jiff::Timestamp;
 use jiff::civil::Date;
 use jiff::tz::TimeZone;

@@ -1,5 +1,5 @@
-//! The commands on tables and days, `match` and `hours`, with the faults of all commands: what each
-//! reads, calls and writes, and what the program says in place of a command.
+//! The commands on tables and days, `match` and `hours`: what each reads, calls and writes, their
+//! faults, and what the program says in place of a command.
 #![tactic(auto)]
 
 mod commands;

@@ -2,8 +2,8 @@ ghost use Rattle.std.specs.Prelude.{◌≡◌, [], ◌∷◌, MatchResult};
 ghost use Rattle.gi_table_commands.specs.Lines.{HasLines, HasNoLines};
 
 use crate::fault::Fault;
-pub use gi_script::LINE_FEED;
-use gi_script::split_line;
+pub use gi_text::LINE_FEED;
+use gi_text::split_line;
 
 /// The two lines of an input that has exactly two: `Lines` for any other.
 pub fn two_lines(input: &[u8]) -> Result<(&[u8], &[u8]), Fault>

@@ -4,7 +4,7 @@ ghost use Rattle.gi_messages.specs.declared.message.Message.TheVariants as messa
 ghost use Rattle.gi_messages.specs.Limits.{most_bytes};
 ghost use Rattle.gi_messages.specs.Writing.{text_of};
 ghost use Rattle.gi_pairs.specs.Limits.{most_processed_rows};
-ghost use Rattle.gi_script.specs.Lines.{line_feed};
+ghost use Rattle.gi_text.specs.Lines.{line_feed};
 ghost use Rattle.gi_table_commands.specs.Lines.{HasLines, HasNoLines};
 ghost use Rattle.gi_table_commands.specs.Match.{IsAnswer, IsFirstLineFault, IsLineFault, IsRefused, IsResponse, IsTableOn, IsUnanswered, SameShape};
 

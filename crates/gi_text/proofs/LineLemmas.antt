@@ -4,7 +4,7 @@ use Rattle.std.specs.List.{onto_first, position, position_or_len}
 use Rattle.std.proofs.lemmas.Option.{cond_some}
 use Rattle.std.proofs.lemmas.Bool.Decides.{nat_tests}
 use Rattle.std.specs.Prelude.{nat_lt}
-use Rattle.gi_script.specs.Lines.{lines, line_feed}
+use Rattle.gi_text.specs.Lines.{lines, line_feed}
 
 abbrev ends_line : ℕ → Bool
 ends_line byte = byte == 10

@@ -1,8 +1,8 @@
 use Rattle.std.proofs.Common.{◌≡◌, inl, arith, sym, length-drop, length, drop, ◌-◌, ◌+◌, ◌≤◌, ◌<◌}
 use Rattle.std.proofs.lemmas.List.{take_all}
 use Rattle.std.proofs.lemmas.Bool.Decides.{nat_tests}
-use Rattle.gi_script.proofs.LineLemmas.{lines-empty, lines-ended, lines-none, lines-unended}
-use Rattle.gi_script.proofs.lines.split_line.Goals as goal
+use Rattle.gi_text.proofs.LineLemmas.{lines-empty, lines-ended, lines-none, lines-unended}
+use Rattle.gi_text.proofs.lines.split_line.Goals as goal
 
 pub returns-then-is_empty-clause-lines : goal.returns-then-is_empty-clause-lines
 returns-then-is_empty-clause-lines c =

@@ -1,0 +1,83 @@
+-- What a fault means to who started the program, and what other faults come to.
+use Rattle.std.specs.Prelude.{ℕ}
+use Rattle.gi_day.specs.declared.calendar.CalendarFault.{CalendarFault}
+use Rattle.gi_day.specs.declared.calendar.CalendarFault.TheVariants as calendar
+use Rattle.gi_desk.specs.declared.replay_fault.ReplayFault.{ReplayFault}
+use Rattle.gi_desk.specs.declared.replay_fault.ReplayFault.TheVariants as replay
+use Rattle.gi_script.specs.declared.fault.ScriptFault.{ScriptFault}
+use Rattle.gi_script.specs.declared.fault.ScriptFault.TheVariants as script
+use Rattle.gi_store.specs.declared.store_fault.StoreFault.{StoreFault}
+use Rattle.gi_store.specs.declared.store_fault.StoreFault.TheVariants as store
+use Rattle.gi_world.specs.declared.start_fault.StartFault.{StartFault}
+use Rattle.gi_world.specs.declared.start_fault.StartFault.TheVariants as start
+use Rattle.gi_table_commands.specs.declared.fault.Fault.{Fault as TableFault}
+use Rattle.gi_table_commands.specs.declared.fault.Fault.TheVariants as table
+use Rattle.gi_commands.specs.declared.fault.Fault.{Fault}
+use Rattle.gi_commands.specs.declared.fault.Fault.TheVariants.{BadFact, Calendar, Code, CommandLine, Day, Differs, Lines, Message, OutOfMemory, Read, Script, ShapeDiffers, Store, TooLarge, Write, WrongKind}
+
+-- 2 is a wrong command line, 3 a book that failed or is none, 4 want of memory, and 1 refused input, a reader or a writer that
+-- failed, or books that differ
+abbrev pub status_of : Fault → ℕ
+status_of CommandLine = 2
+status_of (Store why) = 3
+status_of (BadFact n) = 3
+status_of OutOfMemory = 4
+status_of _ = 1
+
+-- a fault of `match`, of `hours` or of words, as one of all commands
+abbrev pub table_fault : TableFault → Fault
+table_fault table.CommandLine = CommandLine
+table_fault table.Read = Read
+table_fault table.TooLarge = TooLarge
+table_fault table.Lines = Lines
+table_fault (table.Message line why) = Message line why
+table_fault (table.WrongKind line) = WrongKind line
+table_fault table.ShapeDiffers = ShapeDiffers
+table_fault (table.Day why) = Day why
+table_fault (table.Calendar why) = Calendar why
+table_fault table.Write = Write
+table_fault table.OutOfMemory = OutOfMemory
+
+-- the fault of a command is one of these, of which this holds
+abbrev pub OfTables : (TableFault → Type 0) → Fault → Type 0
+OfTables holds CommandLine = holds table.CommandLine
+OfTables holds Read = holds table.Read
+OfTables holds TooLarge = holds table.TooLarge
+OfTables holds Lines = holds table.Lines
+OfTables holds (Message line why) = holds (table.Message line why)
+OfTables holds (WrongKind line) = holds (table.WrongKind line)
+OfTables holds ShapeDiffers = holds table.ShapeDiffers
+OfTables holds (Day why) = holds (table.Day why)
+OfTables holds (Calendar why) = holds (table.Calendar why)
+OfTables holds (Script why) = ⊥
+OfTables holds (Code why) = ⊥
+OfTables holds (Store why) = ⊥
+OfTables holds (BadFact n) = ⊥
+OfTables holds Differs = ⊥
+OfTables holds Write = holds table.Write
+OfTables holds OutOfMemory = holds table.OutOfMemory
+
+-- want of memory is the program's own
+abbrev pub calendar_fault : CalendarFault → Fault
+calendar_fault calendar.OutOfMemory = OutOfMemory
+calendar_fault why = Calendar why
+
+abbrev pub start_fault : StartFault → Fault
+start_fault (start.Calendar why) = calendar_fault why
+start_fault start.OutOfMemory = OutOfMemory
+
+abbrev pub script_fault : ScriptFault → Fault
+script_fault script.OutOfMemory = OutOfMemory
+script_fault why = Script why
+
+abbrev pub store_fault : StoreFault → Fault
+store_fault store.OutOfMemory = OutOfMemory
+store_fault why = Store why
+
+abbrev pub replay_fault : ReplayFault → Fault
+replay_fault (replay.BadFact n) = BadFact n
+replay_fault replay.OutOfMemory = OutOfMemory
+
+-- what a text that is no code comes to
+abbrev pub no_code : Fault
+no_code = Code (record {})

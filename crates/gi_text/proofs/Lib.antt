@@ -1,0 +1,3 @@
+mod FirstByte
+mod LineLemmas
+mod ColumnLemmas
