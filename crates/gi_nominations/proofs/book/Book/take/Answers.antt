@@ -1,6 +1,9 @@
-use Rattle.std.proofs.Common.{◌≡◌, subst, None, Result, Ok, Err, OnErr}
+use Rattle.std.proofs.Common.{◌≡◌, ◌∙◌, ap, subst, ℕ, List, None, Result, Ok, Err, OnErr}
 use Rattle.std.specs.BTreeMap.{values}
+use Rattle.std.specs.Map.{values_of}
+use Rattle.gi_messages.specs.declared.message.Nomint.{Nomint}
 use Rattle.gi_nominations.specs.Book.{Documents, DocumentStands, in_force}
+use Rattle.gi_nominations.specs.declared.portfolio_day.PortfolioDay.{PortfolioDay}
 use Rattle.gi_nominations.proofs.BookLaws.{stands-held, stands-others}
 use Rattle.gi_nominations.proofs.FiledLaws.{filed_inserted, none_before, stands}
 use Rattle.gi_nominations.proofs.book.Book.take.Goals as goal
@@ -30,3 +33,15 @@ returns-in_err-insert-clause-absent c =
     on_err _
     (subst (λ (book : Documents). in_force n.portfolio n.day book.documents ≡ None) c.self.view_is
     (none_before c.self.inside.documents.entries c.of.result n c.of.ensures c.self.invariant c.in_err-insert.ensures.absent))
+
+abbrev documents_of : List ℕ → List (PortfolioDay × Nomint) → Documents
+documents_of point entries = record { point = point; documents = values_of entries }
+
+pub returns-in_err-insert-clause-kept : goal.returns-in_err-insert-clause-kept
+returns-in_err-insert-clause-kept c = on_err _ (ap (documents_of c.self.inside.point) c.in_err-insert.ensures.err ∙ c.self.view_is)
+
+pub returns-in_err-insert-clause-point : goal.returns-in_err-insert-clause-point
+returns-in_err-insert-clause-point c = ap (λ (book : Documents). book.point) c.self.view_is
+
+pub returns-clause-point : goal.returns-clause-point
+returns-clause-point c = ap (λ (book : Documents). book.point) c.self.view_is
