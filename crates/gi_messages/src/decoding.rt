@@ -6,8 +6,9 @@ ghost use Rattle.gi_messages.specs.Reading as reading;
 ghost use Rattle.gi_messages.specs.declared.message.Message.{Message};
 ghost use Rattle.gi_messages.specs.Grammar.{Spells};
 ghost use Rattle.gi_messages.specs.declared.key.Key.TheVariants.{Version};
+ghost use Rattle.gi_messages.specs.Json.{json_of};
 ghost use Rattle.gi_messages.specs.Limits.{most_bytes, last_version};
-ghost use Rattle.gi_messages.specs.Decoding.{Gives, nomint, acknow, nomres, processed, delord, delres, kind_of, of_kind, decoded};
+ghost use Rattle.gi_messages.specs.Decoding.{Gives, nomint, acknow, nomres, processed, delord, delres, kind_of, of_kind, if_kind, if_json, decoded};
 
 use crate::fault::FieldFault;
 use crate::fields::{code, day, number};
@@ -141,11 +142,11 @@ fn of_kind(alloc: Global, kind: Kind, object: &JsonValue<'_, '_>) -> Result<Mess
     ensures { reading.Gives (λ found. found) result (of_kind kind (value_at object.now)) }
 {
     match kind {
-        Kind::Nomint => Ok(Message::Nomint(nomint(alloc, object)?)),
-        Kind::Acknow => Ok(Message::Acknow(acknow(object)?)),
-        Kind::Nomres => Ok(Message::Nomres(nomres(alloc, object)?)),
-        Kind::Delord => Ok(Message::Delord(delord(alloc, object)?)),
-        Kind::Delres => Ok(Message::Delres(delres(alloc, object)?)),
+        Kind::Nomint => nomint(alloc, object).map(Message::Nomint),
+        Kind::Acknow => acknow(object).map(Message::Acknow),
+        Kind::Nomres => nomres(alloc, object).map(Message::Nomres),
+        Kind::Delord => delord(alloc, object).map(Message::Delord),
+        Kind::Delres => delres(alloc, object).map(Message::Delres),
     }
 }
 
@@ -157,6 +158,25 @@ pub fn kind_of(object: &JsonValue<'_, '_>) -> Option<Kind>
     kind_named(object.get(Key::Kind.text())?.as_str()?)
 }
 
+fn of_object(alloc: Global, object: &JsonValue<'_, '_>) -> Result<Message, MessageFault>
+    ensures { Gives result (if_kind (value_at object.now) (kind_of (value_at object.now))) }
+{
+    match kind_of(object) {
+        Some(kind) => Ok(of_kind(alloc, kind, object)?),
+        None => Err(MessageFault::UnknownKind),
+    }
+}
+
+fn read_json(alloc: Global, bytes: &[u8]) -> Result<Message, MessageFault>
+    ensures { Gives result (if_json (json_of bytes.now)) }
+{
+    let mut scratch = Scratch::new(alloc);
+    match json(alloc, bytes, &mut scratch)? {
+        Some(text) => of_object(alloc, &text.root()),
+        None => Err(MessageFault::NotJson),
+    }
+}
+
 #[tactic(auto, unfolding(crate::specs::Decoding::decoded))]
 fn read(alloc: Global, bytes: &[u8]) -> Result<Message, MessageFault>
     ensures exact { Gives result (decoded bytes.now) }
@@ -165,18 +185,10 @@ fn read(alloc: Global, bytes: &[u8]) -> Result<Message, MessageFault>
     if bytes.len() > MOST_BYTES {
         return Err(MessageFault::TooLarge);
     }
-    if let Some(message) = written(alloc, bytes) {
-        return Ok(message);
+    match written(alloc, bytes) {
+        Some(message) => Ok(message),
+        None => read_json(alloc, bytes),
     }
-    let mut scratch = Scratch::new(alloc);
-    let Some(text) = json(alloc, bytes, &mut scratch)? else {
-        return Err(MessageFault::NotJson);
-    };
-    let object = text.root();
-    let Some(kind) = kind_of(&object) else {
-        return Err(MessageFault::UnknownKind);
-    };
-    Ok(of_kind(alloc, kind, &object)?)
 }
 
 /// The message that the bytes are, or the first fault: `TooLarge` (over 16,777,216 bytes),

@@ -1,12 +1,13 @@
 //! Writing messages.
 
 ghost use Rattle.std.specs.Prelude.{◌≡◌, ◌≤◌, length, IfOk, Ok};
-ghost use Rattle.gi_messages.specs.Adding.{Adds};
+ghost use Rattle.gi_messages.specs.Adding.{Adds, AddsHead};
 ghost use Rattle.gi_messages.specs.Decoding.{decoded};
 ghost use Rattle.gi_messages.specs.Grammar.{IsWritable};
 ghost use Rattle.gi_messages.specs.Limits.{most_bytes};
 ghost use Rattle.gi_messages.specs.Writing.{nomint_data, acknow_data, nomres_data, delord_data, delres_data, data_of, text_of};
 
+use crate::head::Span;
 use crate::key::Key;
 use crate::kind::Kind;
 use crate::line_writing::put_lines;
@@ -14,6 +15,7 @@ use crate::members::{put_code, put_day, put_number, put_text};
 use crate::message::{Acknow, Delord, Delres, Message, Nomint, Nomres};
 use crate::room::room_for;
 use crate::row_writing::put_rows;
+use gi_day::GasDay;
 use json::Writer;
 use std::alloc::{AllocError, Global};
 
@@ -43,15 +45,33 @@ fn put_acknow(alloc: Global, out: &mut Writer, message: &Acknow) -> Result<(), A
     out.end_object()
 }
 
+/// Adds what the messages of a cycle have from it on to the last hour.
+fn put_head(
+    alloc: Global,
+    out: &mut Writer,
+    kind: Kind,
+    cycle: u8,
+    day: &GasDay,
+    span: Span,
+) -> Result<(), AllocError>
+    ensures { AddsHead result out.old out.new kind cycle day.now span }
+{
+    put_number(out, Key::Cycle, u64::from(cycle))?;
+    put_day(alloc, out, day)?;
+    put_number(out, Key::First, u64::from(span.first))?;
+    put_text(out, Key::Kind, kind.text())?;
+    put_number(out, Key::Last, u64::from(span.last))
+}
+
 fn put_nomres(alloc: Global, out: &mut Writer, message: &Nomres) -> Result<(), AllocError>
     ensures { Adds result out.old out.new (nomres_data message.now) }
 {
+    let span = Span {
+        first: message.first,
+        last: message.last,
+    };
     out.begin_object()?;
-    put_number(out, Key::Cycle, u64::from(message.cycle))?;
-    put_day(alloc, out, &message.day)?;
-    put_number(out, Key::First, u64::from(message.first))?;
-    put_text(out, Key::Kind, Kind::Nomres.text())?;
-    put_number(out, Key::Last, u64::from(message.last))?;
+    put_head(alloc, out, Kind::Nomres, message.cycle, &message.day, span)?;
     put_lines(out, message.lines.as_slice())?;
     put_code(out, Key::Point, &message.point)?;
     put_code(out, Key::Portfolio, &message.portfolio)?;
@@ -61,12 +81,12 @@ fn put_nomres(alloc: Global, out: &mut Writer, message: &Nomres) -> Result<(), A
 fn put_delord(alloc: Global, out: &mut Writer, message: &Delord) -> Result<(), AllocError>
     ensures { Adds result out.old out.new (delord_data message.now) }
 {
+    let span = Span {
+        first: message.processed.first(),
+        last: message.processed.last(),
+    };
     out.begin_object()?;
-    put_number(out, Key::Cycle, u64::from(message.cycle))?;
-    put_day(alloc, out, &message.day)?;
-    put_number(out, Key::First, u64::from(message.processed.first()))?;
-    put_text(out, Key::Kind, Kind::Delord.text())?;
-    put_number(out, Key::Last, u64::from(message.processed.last()))?;
+    put_head(alloc, out, Kind::Delord, message.cycle, &message.day, span)?;
     put_code(out, Key::Point, &message.point)?;
     put_rows(out, Key::Processed, message.processed.rows())?;
     out.end_object()
@@ -75,13 +95,13 @@ fn put_delord(alloc: Global, out: &mut Writer, message: &Delord) -> Result<(), A
 fn put_delres(alloc: Global, out: &mut Writer, message: &Delres) -> Result<(), AllocError>
     ensures { Adds result out.old out.new (delres_data message.now) }
 {
+    let span = Span {
+        first: message.processed.first(),
+        last: message.processed.last(),
+    };
     out.begin_object()?;
     put_rows(out, Key::Confirmed, message.confirmed.rows())?;
-    put_number(out, Key::Cycle, u64::from(message.cycle))?;
-    put_day(alloc, out, &message.day)?;
-    put_number(out, Key::First, u64::from(message.processed.first()))?;
-    put_text(out, Key::Kind, Kind::Delres.text())?;
-    put_number(out, Key::Last, u64::from(message.processed.last()))?;
+    put_head(alloc, out, Kind::Delres, message.cycle, &message.day, span)?;
     put_code(out, Key::Point, &message.point)?;
     put_rows(out, Key::Processed, message.processed.rows())?;
     out.end_object()

@@ -12,53 +12,63 @@ ghost use Rattle.gi_messages.specs.Writing.{text_of};
 
 use crate::encoding::encode;
 use crate::front::Front;
+use crate::head::{Head, Span};
 use crate::message::{Delord, Delres, LAST_CYCLE, Message};
 use gi_pairs::{MOST_PROCESSED_ROWS, MOST_ROWS, Table};
 use std::alloc::Global;
 
-fn delord(alloc: Global, front: &mut Front<'_>) -> Option<Delord> {
-    front.skip(b"{\"cycle\":")?;
-    let cycle = front.small()?;
-    front.skip(b",\"day\":\"")?;
-    let day = front.day()?;
-    front.skip(b",\"first\":")?;
-    let first = front.small()?;
-    front.skip(b",\"kind\":\"DELORD\",\"last\":")?;
-    let last = front.small()?;
-    front.skip(b",\"point\":\"")?;
-    let point = front.code()?;
-    front.skip(b",\"processed\":")?;
-    let rows = front.rows(alloc, MOST_PROCESSED_ROWS)?;
-    let processed = Table::build(first, last, rows).ok()?;
-    Some(Delord {
+/// What stands before the processed rows: `start` goes before the number of the cycle, and `kind`
+/// between the first hour and the last.
+fn head(front: &mut Front<'_>, start: &[u8], kind: &[u8]) -> Option<Head> {
+    let cycle = front.small(start)?;
+    let day = front.day(b",\"day\":\"")?;
+    let first = front.small(b",\"first\":")?;
+    let last = front.small(kind)?;
+    let point = front.code(b",\"point\":\"")?;
+    Some(Head {
         point,
         day,
         cycle,
-        processed,
+        span: Span { first, last },
     })
 }
 
+/// An order, or what a response has as an order has it.
+fn order(alloc: Global, front: &mut Front<'_>, start: &[u8], kind: &[u8]) -> Option<Delord> {
+    let head = head(front, start, kind)?;
+    let rows = front.rows(alloc, b",\"processed\":[", MOST_PROCESSED_ROWS)?;
+    Some(Delord {
+        point: head.point,
+        day: head.day,
+        cycle: head.cycle,
+        processed: Table::build(head.span.first, head.span.last, rows).ok()?,
+    })
+}
+
+fn delord(alloc: Global, front: &mut Front<'_>) -> Option<Delord> {
+    order(
+        alloc,
+        front,
+        b"{\"cycle\":",
+        b",\"kind\":\"DELORD\",\"last\":",
+    )
+}
+
 fn delres(alloc: Global, front: &mut Front<'_>) -> Option<Delres> {
-    front.skip(b"{\"confirmed\":")?;
-    let confirmed = front.rows(alloc, MOST_ROWS)?;
-    front.skip(b",\"cycle\":")?;
-    let cycle = front.small()?;
-    front.skip(b",\"day\":\"")?;
-    let day = front.day()?;
-    front.skip(b",\"first\":")?;
-    let first = front.small()?;
-    front.skip(b",\"kind\":\"DELRES\",\"last\":")?;
-    let last = front.small()?;
-    front.skip(b",\"point\":\"")?;
-    let point = front.code()?;
-    front.skip(b",\"processed\":")?;
-    let processed = front.rows(alloc, MOST_PROCESSED_ROWS)?;
+    let rows = front.rows(alloc, b"{\"confirmed\":[", MOST_ROWS)?;
+    let order = order(
+        alloc,
+        front,
+        b",\"cycle\":",
+        b",\"kind\":\"DELRES\",\"last\":",
+    )?;
+    let confirmed = Table::build(order.processed.first(), order.processed.last(), rows).ok()?;
     Some(Delres {
-        point,
-        day,
-        cycle,
-        processed: Table::build(first, last, processed).ok()?,
-        confirmed: Table::build(first, last, confirmed).ok()?,
+        point: order.point,
+        day: order.day,
+        cycle: order.cycle,
+        processed: order.processed,
+        confirmed,
     })
 }
 

@@ -9,11 +9,7 @@ returns c =
     let out = c.end_object.new.self in
     followed r out _ (wrote c.in_ok-begin_object.ensures)
     (followed r out _ (rw c.rows.ensures.rows at c.in_ok-put_rows.ensures)
-    (followed r out _ (rw c.from.ensures at c.in_ok-put_number.ensures)
-    (followed r out _ c.in_ok-put_day.ensures
-    (followed r out _ (rw (c.from-2.ensures, c.first.ensures) at c.in_ok-put_number-2.ensures)
-    (followed r out _ (rw c.text.ensures at c.in_ok-put_text.ensures)
-    (followed r out _ (rw (c.from-3.ensures, c.last.ensures.value) at c.in_ok-put_number-3.ensures)
+    (followed r out _ (rw (c.first.ensures, c.last.ensures.value) at c.in_ok-put_head.ensures)
     (followed r out _ c.in_ok-put_code.ensures
     (followed r out _ (rw c.rows-2.ensures.rows at c.in_ok-put_rows-2.ensures)
-    (ended c.end_object.ensures)))))))))
+    (ended c.end_object.ensures)))))
