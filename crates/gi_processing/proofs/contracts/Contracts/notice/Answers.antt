@@ -1,4 +1,4 @@
-use Rattle.std.proofs.Common.{◌∙◌, ap, sym, subst, rules}
+use Rattle.std.proofs.Common.{◌∙◌, ap, refl, sym, subst, rules}
 use Rattle.gi_processing.specs.Capacity.{Capacity, has_notice}
 use Rattle.gi_processing.specs.Kept.{contracts_in, notices_in}
 use Rattle.gi_processing.specs.Recording.{IsNotice, NoticeStands}
@@ -30,3 +30,6 @@ returns-in_default-cut_hours-clause-covered c taken has =
     let notice = c.args.notice in
     let absent = notice-absent notice.day notice.direction notice.first c.self.inside.notices c.in_default-cut_hours.ensures.absent in
     sym absent ∙ ap (λ (v : Capacity). has_notice notice.day notice.direction notice.first v.notices) c.self.view_is ∙ has
+
+pub returns-in-Some-clause-kept : goal.returns-in-Some-clause-kept
+returns-in-Some-clause-kept c = refl

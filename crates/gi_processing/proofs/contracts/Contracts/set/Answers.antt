@@ -7,6 +7,8 @@ use Rattle.gi_processing.specs.Kept.{contract_cmp, contracts_in, notices_in}
 use Rattle.gi_processing.specs.Recording.{ContractStands, is_refused, portfolios_of, with_portfolio}
 use Rattle.gi_processing.specs.declared.contract_key.ContractKey.{ContractKey}
 use Rattle.gi_processing.specs.declared.contracted.Contracted.{Contracted}
+use Rattle.gi_processing.specs.declared.hours_left.HoursLeft.{HoursLeft}
+use Rattle.gi_processing.specs.declared.notice_key.NoticeKey.{NoticeKey}
 use Rattle.gi_processing.proofs.KeptLaws.{contract-absent, contract-set}
 use Rattle.gi_processing.proofs.LastRecorded.{contract_stands}
 use Rattle.gi_processing.proofs.PortfolioLaws.{portfolios_of-more, refused-tested, with_portfolio-moved}
@@ -80,3 +82,21 @@ returns-in_default-clause-replaces c has =
     let own = ap (λ (k : ContractKey). get contract_cmp c.self.inside.contracts k) (sym c.key.ensures) ∙ none in
     let absent = contract-absent contract.portfolio contract.day contract.direction c.self.inside.contracts own in
     sym absent ∙ ap (λ (v : Capacity). has_contract contract.portfolio contract.day contract.direction v.contracts) c.self.view_is ∙ has
+
+pub invariant_of-self : goal.invariant_of-self
+invariant_of-self c =
+    record {
+      portfolios = subst (λ (entries : List (ContractKey × Contracted)). IsPermutation (portfolios_of (contracts_in entries)) c.self.inside.portfolios) (sym c.in_default.ensures.err) c.self.invariant.portfolios;
+      ordered = c.self.invariant.ordered;
+      left = c.self.invariant.left;
+    }
+
+abbrev with_contracts : List (ContractKey × Contracted) → List (NoticeKey × HoursLeft) → Capacity
+with_contracts contracts notices = record { contracts = contracts_in contracts; notices = notices_in notices }
+
+pub returns-in_default-clause-kept : goal.returns-in_default-clause-kept
+returns-in_default-clause-kept c =
+    ap (λ (entries : List (ContractKey × Contracted)). with_contracts entries c.self.inside.notices.entries) c.in_default.ensures.err ∙ c.self.view_is
+
+pub returns-clause-notices : goal.returns-clause-notices
+returns-clause-notices c = ap (λ (v : Capacity). v.notices) c.self.view_is
