@@ -2,7 +2,6 @@ ghost use Rattle.std.specs.Prelude.{◌≡◌, [], ◌∷◌, MatchResult};
 ghost use Rattle.gi_table_commands.specs.Lines.{HasLines, HasNoLines};
 
 use crate::fault::Fault;
-pub use gi_text::LINE_FEED;
 use gi_text::split_line;
 
 /// The two lines of an input that has exactly two: `Lines` for any other.

@@ -9,10 +9,11 @@ ghost use Rattle.gi_table_commands.specs.Lines.{HasLines, HasNoLines};
 ghost use Rattle.gi_table_commands.specs.Match.{IsAnswer, IsFirstLineFault, IsLineFault, IsRefused, IsResponse, IsTableOn, IsUnanswered, SameShape};
 
 use crate::fault::{Fault, Line};
-use crate::lines::{LINE_FEED, two_lines};
+use crate::lines::two_lines;
 use gi_lesser::lesser_parallel;
 use gi_messages::{Delord, Delres, Message, MessageFault, decode, encode};
 use gi_pairs::Table;
+use gi_text::LINE_FEED;
 use std::alloc::Global;
 use std::thread;
 use std::thread::Threads;

@@ -1,6 +1,6 @@
 //! Numbers in columns.
 
-ghost use Rattle.std.specs.Prelude.{◌≡◌, Some};
+ghost use Rattle.std.specs.Prelude.{Some};
 ghost use Rattle.gi_text.specs.Columns.{right_in, two_digits};
 
 use std::fmt;
