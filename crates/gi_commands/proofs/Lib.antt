@@ -1,2 +1,3 @@
+mod TableFaults
 mod ExplainingLemmas
 pub mod SimulatingLemmas

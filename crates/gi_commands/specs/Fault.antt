@@ -1,5 +1,5 @@
 -- What a fault means to who started the program, and what other faults come to.
-use Rattle.std.specs.Prelude.{ℕ}
+use Rattle.std.specs.Prelude.{◌≡◌, ℕ}
 use Rattle.gi_day.specs.declared.calendar.CalendarFault.{CalendarFault}
 use Rattle.gi_day.specs.declared.calendar.CalendarFault.TheVariants as calendar
 use Rattle.gi_desk.specs.declared.replay_fault.ReplayFault.{ReplayFault}
@@ -38,24 +38,9 @@ table_fault (table.Calendar why) = Calendar why
 table_fault table.Write = Write
 table_fault table.OutOfMemory = OutOfMemory
 
--- the fault of a command is one of these, of which this holds
+-- a fault of all commands that is one of these, of which that holds
 abbrev pub OfTables : (TableFault → Type 0) → Fault → Type 0
-OfTables holds CommandLine = holds table.CommandLine
-OfTables holds Read = holds table.Read
-OfTables holds TooLarge = holds table.TooLarge
-OfTables holds Lines = holds table.Lines
-OfTables holds (Message line why) = holds (table.Message line why)
-OfTables holds (WrongKind line) = holds (table.WrongKind line)
-OfTables holds ShapeDiffers = holds table.ShapeDiffers
-OfTables holds (Day why) = holds (table.Day why)
-OfTables holds (Calendar why) = holds (table.Calendar why)
-OfTables holds (Script why) = ⊥
-OfTables holds (Code why) = ⊥
-OfTables holds (Store why) = ⊥
-OfTables holds (BadFact n) = ⊥
-OfTables holds Differs = ⊥
-OfTables holds Write = holds table.Write
-OfTables holds OutOfMemory = holds table.OutOfMemory
+OfTables holds why = (fault : TableFault) × (why ≡ table_fault fault) × holds fault
 
 -- want of memory is the program's own
 abbrev pub calendar_fault : CalendarFault → Fault

@@ -5,3 +5,4 @@ pub mod Simulating
 pub mod Explaining
 pub mod Auditing
 pub mod Commands
+pub mod Laws

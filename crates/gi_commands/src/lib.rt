@@ -1,5 +1,5 @@
 //! What each command but `serve` does: what it reads, calls and writes, and its faults in their
-//! order; the faults of all commands.
+//! order; the faults of all commands, but those of a run of `serve`.
 #![tactic(auto)]
 
 mod auditing;
@@ -8,6 +8,7 @@ mod commands;
 mod desk_report;
 mod explaining;
 mod fault;
+mod laws;
 mod replaying;
 mod reporting;
 mod simulating;
@@ -17,6 +18,7 @@ pub use auditing::facts_audit;
 pub use commands::perform;
 pub use desk_report::DeskReport;
 pub use fault::Fault;
+pub use laws::one_status;
 pub use reporting::{book_report, script_report};
 pub use simulating::{Written, simulated};
 pub use tables::read_input;

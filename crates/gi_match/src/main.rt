@@ -1,5 +1,5 @@
 //! The commands `match` and `hours` of the dispatch offices, as a program of their own, which is
-//! proved and built without offices, sessions and audits.
+//! proved and built without desks, books, scripts and offices.
 #![tactic(auto)]
 
 use gi_table_commands::{dispatch_tables, given_words, reported};

@@ -8,6 +8,7 @@ use Rattle.clap.specs.declared.error.kind.ErrorKind.TheVariants as kind
 use Rattle.gi_command_line.specs.Asked.{Wanted, at_once, audit, explain, hours, match_tables, mistaken, report, serve, simulate}
 use Rattle.gi_command_line.specs.CommandLine.{IsMistaken, objections}
 use Rattle.gi_table_commands.specs.Match.{IsFirstFault}
+use Rattle.gi_table_commands.specs.declared.fault.Fault.TheVariants as table
 use Rattle.gi_table_commands.proofs.Unasked.{if_some, keeps_same}
 use Rattle.gi_commands.specs.Fault.{OfTables}
 use Rattle.gi_commands.specs.Simulating.{CutsShort, HasReport, HasScript, IsFirstScriptFault}
@@ -20,8 +21,8 @@ use Rattle.gi_service.specs.declared.program_fault.ProgramFault.TheVariants.{Com
 
 -- memory may run out of each command
 pub may_want : (wanted : Wanted) (remaining : Option (List ℕ)) → IsTaskFault wanted remaining (Command fault.OutOfMemory)
-may_want (at_once match_tables) remaining = if_some remaining (λ input. OfTables (IsFirstFault input) fault.OutOfMemory) (λ input. tt)
-may_want (at_once (hours day)) remaining = tt
+may_want (at_once match_tables) remaining = if_some remaining (λ input. OfTables (IsFirstFault input) fault.OutOfMemory) (λ input. (table.OutOfMemory, refl, tt))
+may_want (at_once (hours day)) remaining = (table.OutOfMemory, refl, tt)
 may_want (at_once (simulate trace)) remaining = if_some remaining (λ input. IsFirstScriptFault HasScript input fault.OutOfMemory) (λ input. tt)
 may_want (at_once (report kind format side None)) remaining =
     if_some remaining (λ input. IsFirstScriptFault (HasReport (Listed kind format) side) input fault.OutOfMemory) (λ input. tt)
