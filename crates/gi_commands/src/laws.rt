@@ -4,5 +4,4 @@ ghost use Rattle.gi_commands.specs.Laws.{HasOneStatus};
 /// A fault of `match`, of `hours` or of words has one exit status, whichever program tells it.
 pub fn one_status()
     ensures { HasOneStatus }
-{
-}
+{}
