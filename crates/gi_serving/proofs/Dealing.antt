@@ -3,7 +3,7 @@ use Rattle.std.proofs.Common.{◌≡◌, ◌≢◌, ◌⊎◌, inl, inr, eqb, ap
 use Rattle.std.specs.List.{flat_map}
 use Rattle.std.specs.Prelude.{IfOk, IsOk, OnOk}
 use Rattle.std.proofs.lemmas.Bool.Decides.{eqb_tells}
-use Rattle.std.proofs.lemmas.List.{flat_map_more, get_or-map, get_or-set_other, get_or-set_same, length-append, length-map, length-take-le, map-append, map-set, take_more}
+use Rattle.std.proofs.lemmas.List.{flat_map_more, get_or-map, get_or-set_other, get_or-set_same, length-append, length-map, length-take-le, map-set, take_more}
 use Rattle.std.proofs.lemmas.List.FromFn.{length-map-range_with_len, map-range_with_len_more}
 use Rattle.gi_office.specs.Keeping.{SeatState}
 use Rattle.gi_office.specs.declared.receipt.Receipt.{Receipt}
@@ -84,13 +84,6 @@ passed number numbers bodies i old new below within other is kept = by (eqb_tell
         ∙ sym (append-nil so_far)
         ∙ ap (λ (c : Bool). so_far ++ cond c (get_or bodies i [] ∷ []) []) (sym apart.0)
         ∙ sym (body_more number numbers bodies i [] below within)
-
-pub one_dealt : {Z : Type 0} (lists new : List (Vec (List ℕ) Z)) (list : Vec (List ℕ) Z) (given : List (List ℕ)) → list.items ≡ given → new ≡ lists ++ list ∷ []
-    → map bodies_in new ≡ map bodies_in lists ++ given ∷ []
-one_dealt {Z} lists new list given is pushed =
-    ap (map (bodies_in {Z = Z})) pushed
-    ∙ map-append (bodies_in {Z = Z}) lists (list ∷ [])
-    ∙ ap (λ (it : List (List ℕ)). map (bodies_in {Z = Z}) lists ++ it ∷ []) is
 
 pub dealt_more : (count : ℕ) (numbers : List ℕ) (bodies : List (List ℕ)) (lists new : List (List (List ℕ)))
     → lists ≡ dealt_to_all count numbers bodies → new ≡ lists ++ dealt (count + 1) numbers bodies ∷ [] → new ≡ dealt_to_all (count + 1) numbers bodies
@@ -211,12 +204,6 @@ told_next {Z} numbers i all left list after words next word below count many som
 
     after_so : map in_order (set left place after) ≡ set (map in_order left) place (drop 1 (get_or (map in_order left) place []))
     after_so = map-set in_order left place after ∙ ap (λ (rs : List Receipt). set (map in_order left) place rs) (rest ∙ ap (drop 1) (sym there))
-
-pub none_told : (all : List (List Receipt)) → AllTold [] all all []
-none_told all before below = record { are = tt; left_is = refl }
-
-pub all_told : (numbers : List ℕ) (all left : List (List Receipt)) (words : List Word) → length words ≡ length numbers → AllTold numbers all left words → AreWords numbers all words
-all_told numbers all left words same told = record { count = same; each = λ before below. (told before below).are }
 
 -- ---- the batch
 

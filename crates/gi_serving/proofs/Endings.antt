@@ -13,7 +13,7 @@ use Rattle.gi_office.specs.declared.unsettled.Unsettled.{Unsettled}
 use Rattle.gi_pairs.specs.declared.side.Side.TheVariants.{I, M}
 use Rattle.gi_script.specs.declared.line.Line.{Line}
 use Rattle.gi_serving.specs.Closing.{AreLastLines, IsClosed, IsReconciled, end_of, reconciled_line}
-use Rattle.gi_serving.specs.Ending.{AreSamePlaces, Closes, IsCut, IsOver, IsTold, place_of}
+use Rattle.gi_serving.specs.Ending.{AreSamePlaces, Closes, IsCut, IsOver, place_of}
 use Rattle.gi_serving.specs.Making.{OfficesState, Runs, RunsSome, new_offices}
 use Rattle.gi_serving.specs.Runs.{pieces}
 use Rattle.gi_serving.specs.declared.serve_fault.ServeFault.{ServeFault}
@@ -24,16 +24,6 @@ cut sessions count lines text end some h = inl (record {
   reached = some.0;
   runs = record { made = some.1.made; left = pieces (drop count lines); all = some.1.all; runs = some.1.runs };
   cut = h;
-})
-
-pub closes : (parts peer_parts sessions : ℕ) (reached : OfficesState) (old last new : List ℕ) (end result : Result (Unit {0}) ServeFault)
-    → IsClosed parts (sessions + 1) reached.initiating.seats peer_parts (sessions + 1) reached.matching.seats last end → IsTold old last end new result
-    → Closes parts peer_parts sessions reached old new result
-closes parts peer_parts sessions reached old last new end result closed (inl h) = inl h
-closes parts peer_parts sessions reached old last new end result closed (inr h) = inr (record {
-  last = last;
-  closed = subst (λ (e : Result (Unit {0}) ServeFault). IsClosed parts (sessions + 1) reached.initiating.seats peer_parts (sessions + 1) reached.matching.seats last e) (sym h.1) closed;
-  added = h.0;
 })
 
 pub reconciled_so : (front line text : List ℕ) (initiating matching : SettledState) (answer : Result (Unit {0}) Unreconciled) (end : Result (Unit {0}) ServeFault)

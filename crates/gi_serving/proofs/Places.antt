@@ -1,5 +1,5 @@
 -- No call takes a seat's number or its parts.
-use Rattle.std.proofs.Common.{◌≡◌, ◌⊎◌, ◌<◌, ℕ, suc, ◌+◌, List, [], ◌∷◌, ◌++◌, append-nil, length, map, take, Vec, Result, Ok, Err, inl, inr, false, refl, ap, append_assoc, subst, ◌∙◌, sym, arith}
+use Rattle.std.proofs.Common.{◌≡◌, ◌⊎◌, ◌<◌, ℕ, suc, ◌+◌, List, [], ◌∷◌, ◌++◌, length, map, take, Vec, Result, Ok, Err, inl, inr, refl, ap, ◌∙◌, sym, arith}
 use Rattle.std.specs.Prelude.{IfOk}
 use Rattle.std.proofs.lemmas.List.{length-map, map-append}
 use Rattle.sqlite_trees.specs.declared.store.Store.{Ghosts}
@@ -22,7 +22,7 @@ use Rattle.gi_office.specs.declared.save_fault.SaveFault.TheVariants as savings
 use Rattle.gi_office.specs.declared.turn.Turn.{Turn}
 use Rattle.gi_office.specs.declared.turn.Turn.TheVariants as turns
 use Rattle.gi_serving.specs.Ending.{AreSamePlaces, place_of}
-use Rattle.gi_serving.specs.Submitting.{HasMain, SessionsSubmit, begun_by, bodies_in, goes_on, receipts_in, seat_in, seat_of, short_of}
+use Rattle.gi_serving.specs.Submitting.{HasMain, begun_by, goes_on, seat_in, seat_of}
 use Rattle.gi_serving.specs.declared.word.Word.{Word}
 
 -- ---- one seat
@@ -76,14 +76,6 @@ turned side store before after old result new (inr h) = followed side store befo
 
 -- ---- the seats of an office
 
-pub put_back : (front old new : List SeatState) (seat back : SeatState) → old ≡ front ++ seat ∷ [] → new ≡ front ++ back ∷ [] → place_of back ≡ place_of seat → AreSamePlaces old new
-put_back front old new seat back taken given same =
-    ap (map place_of) given
-    ∙ map-append place_of front (back ∷ [])
-    ∙ ap (λ (place : ℕ × ℕ). map place_of front ++ place ∷ []) same
-    ∙ sym (map-append place_of front (seat ∷ []))
-    ∙ sym (ap (map place_of) taken)
-
 pub same_again : (old between new : List SeatState) → AreSamePlaces old between → AreSamePlaces between new → AreSamePlaces old new
 same_again old between new first second = second ∙ first
 
@@ -116,21 +108,6 @@ served_length side may_end number (session ∷ sessions) (one ∷ others) h = ap
 
 -- ---- sessions that begin
 
-pub one_begun : {Z : Type 0} (sessions pushed : List SessionState) (session : SessionState) (seat : SeatState) (left rest : List SeatState) (list : Vec (List ℕ) Z) (lists later : List (Vec (List ℕ) Z)) (all : List SessionState)
-    → pushed ≡ sessions ++ session ∷ [] → session.seat ≡ seat → session.bodies ≡ list.items → left ≡ seat ∷ rest → lists ≡ list ∷ later
-    → sessions ++ begun_by left (map bodies_in lists) ≡ all → pushed ++ begun_by rest (map bodies_in later) ≡ all
-one_begun sessions pushed session seat left rest list lists later all push same bodies next next_list h =
-    ap (λ (ss : List SessionState). ss ++ begun_by rest (map bodies_in later)) push
-    ∙ append_assoc sessions (session ∷ []) (begun_by rest (map bodies_in later))
-    ∙ ap (λ (s : SeatState). sessions ++ record { seat = s; bodies = session.bodies } ∷ begun_by rest (map bodies_in later)) same
-    ∙ ap (λ (bs : List (List ℕ)). sessions ++ record { seat = seat; bodies = bs } ∷ begun_by rest (map bodies_in later)) bodies
-    ∙ ap (λ (ls : List (Vec (List ℕ) _)). sessions ++ begun_by (seat ∷ rest) (map bodies_in ls)) (sym next_list)
-    ∙ ap (λ (ss : List SeatState). sessions ++ begun_by ss (map bodies_in lists)) (sym next)
-    ∙ h
-
-pub all_begun : (sessions all : List SessionState) (left : List SeatState) (given : List (List (List ℕ))) → left ≡ [] → sessions ++ begun_by left given ≡ all → sessions ≡ all
-all_begun sessions all left given none h = sym (append-nil sessions) ∙ ap (λ (ss : List SeatState). sessions ++ begun_by ss given) (sym none) ∙ h
-
 seats_begun : (seats : List SeatState) (given : List (List (List ℕ))) → length seats ≡ length given → map seat_of (begun_by seats given) ≡ seats
 seats_begun [] given same = refl
 seats_begun (seat ∷ seats) [] same = absurd (omega (arith, same))
@@ -149,17 +126,6 @@ served_places side old new given sessions all many begun h back = ap (map place_
     seats : map seat_of sessions ≡ old
     seats = ap (map seat_of) begun ∙ seats_begun old given many
 
-pub submit_so : (side : Side) (old new : List SeatState) (given : List (List (List ℕ))) (sessions : List SessionState) (all : List ServedState) (receipts : List (List Receipt))
-    → sessions ≡ begun_by old given → AreServed side goes_on 1 sessions all → new ≡ map seat_in all → receipts ≡ map receipts_in all → short_of false all ≡ false
-    → SessionsSubmit side given old receipts new
-submit_so side old new given sessions all receipts begun h back are well = record {
-  served = all;
-  new_is = back;
-  submitted = subst (λ (ss : List SessionState). AreServed side goes_on 1 ss all) begun h;
-  receipts_are = are;
-  memory = well;
-}
-
 pub with_last : (old others back new : List SeatState) (main after : SeatState) → old ≡ others ++ main ∷ [] → new ≡ back ++ after ∷ [] → AreSamePlaces others back → place_of after ≡ place_of main → AreSamePlaces old new
 with_last old others back new main after taken given same last =
     ap (map place_of) given
@@ -173,11 +139,3 @@ pub with_main : {Y Z E : Type 0} (submitted : Result (Vec SeatState Y × Vec Wor
     → old ≡ others ++ main ∷ [] → IfOk submitted (λ it. AreSamePlaces others it.0.items) → place_of after ≡ place_of main → HasMain submitted after new words → AreSamePlaces old new
 with_main (Ok it) old others new words main after taken same last has = with_last old others it.0.items new main after taken has.0 same last
 with_main (Err fault) old others new words main after taken same last has = absurd has
-
-pub has_main : {Y Z E F : Type 0} (submitted : Result (Vec SeatState Y × Vec Word Z) E) (given : Result (Vec SeatState Y × Vec Word Z) F) (made all : Vec SeatState Y × Vec Word Z) (main : SeatState)
-    → submitted ≡ Ok made → given ≡ Ok all → IfOk given (λ it. it.0.items ≡ made.0.items ++ main ∷ []) → IfOk given (λ it. it.1 ≡ made.1) → HasMain submitted main all.0.items all.1.items
-has_main {Y} {Z} {E} {F} submitted given made all main was is seats words =
-    subst (λ (s : Result (Vec SeatState Y × Vec Word Z) E). HasMain s main all.0.items all.1.items) (sym was) (
-      subst (λ (r : Result (Vec SeatState Y × Vec Word Z) F). IfOk r (λ it. it.0.items ≡ made.0.items ++ main ∷ [])) is seats,
-      ap (λ (ws : Vec Word Z). ws.items) (subst (λ (r : Result (Vec SeatState Y × Vec Word Z) F). IfOk r (λ it. it.1 ≡ made.1)) is words),
-    )

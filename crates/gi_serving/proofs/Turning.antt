@@ -20,7 +20,7 @@ use Rattle.gi_pairs.specs.declared.side.Side.{Side}
 use Rattle.gi_pairs.specs.declared.side.Side.TheVariants.{I, M}
 use Rattle.gi_store.specs.Book.{BookState}
 use Rattle.gi_store.specs.declared.store_fault.StoreFault.{StoreFault}
-use Rattle.gi_serving.specs.Asking.{IsMark, MarksLast, NotesMarks, OtherIs, saved_of}
+use Rattle.gi_serving.specs.Asking.{IsMark, NotesMarks, OtherIs, saved_of}
 
 noted_so : (old new : SeatState) (marks : List Note) → All IsMark marks → new ≡ record old { notes = old.notes ++ marks; amount = old.amount + length marks } → NotesMarks old new
 noted_so old new marks are is = record { marks = marks; are_marks = are; new_is = is }
@@ -94,10 +94,6 @@ pub turn_marks : {S : Type 0} (side : Side) (store : Ghosts S) (before after : B
     → OnOk (saved_of result) (NotesMarks old new)
 turn_marks side store before after old result new (inl h) = whatever (NotesMarks old new) (saved_of result) (kept old new h.2)
 turn_marks side store before after old result new (inr h) = followed side store before after h.0 old result new h.2
-
-pub last_marks : {A E : Type 0} (r : Result A E) (old new others : List SeatState) (main after : SeatState) → old ≡ others ++ main ∷ [] → new ≡ others ++ after ∷ [] → OnOk r (NotesMarks main after) → OnOk r (MarksLast old new)
-last_marks (Ok x) old new others main after taken given notes = record { others = others; main = main; after = after; old_is = taken; new_is = given; notes = notes }
-last_marks (Err e) old new others main after taken given notes = tt
 
 -- ---- the other side
 

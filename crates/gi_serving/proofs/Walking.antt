@@ -1,6 +1,6 @@
 -- The first piece of the lines, and a run of one piece more.
-use Rattle.std.proofs.Common.{get_or, is_none, option_map, false, true, ◌≡◌, ◌≤◌, ◌<◌, ℕ, suc, ◌+◌, max, length, drop-drop, List, [], ◌∷◌, ◌++◌, take, drop, Option, None, Some, refl, ap, append_assoc, append-nil, ◌∙◌, sym, subst, arith}
-use Rattle.std.proofs.lemmas.List.{at_drop_all, at_drop_more, drop_all}
+use Rattle.std.proofs.Common.{get_or, ◌≡◌, ◌≤◌, ◌<◌, ℕ, ◌+◌, max, length, drop-drop, List, [], ◌∷◌, ◌++◌, take, drop, Option, None, Some, refl, ap, append_assoc, append-nil, ◌∙◌, sym, subst, arith}
+use Rattle.std.proofs.lemmas.List.{drop_all}
 use Rattle.gi_pairs.specs.declared.side.Side.{Side}
 use Rattle.gi_script.specs.declared.line.Line.{Line}
 use Rattle.gi_serving.specs.Batches.{submission}
@@ -105,44 +105,3 @@ first_saved sessions lines count old between new said makes saves = record {
   makes = record { between = between; makes = makes.makes; saves = saves };
   added = refl;
 }
-
-pub added_behind : (sessions : ℕ) (lines : List Line) (count : ℕ) (old new : OfficesState) (said before after : List ℕ) → AddsFirst sessions lines count old [] said new → after ≡ before ++ said
-    → AddsFirst sessions lines count old before after new
-added_behind sessions lines count old new said before after adds added = record {
-  piece = adds.piece;
-  first = adds.first;
-  said = adds.said;
-  makes = adds.makes;
-  added = added ∙ ap (λ (t : List ℕ). before ++ t) adds.added;
-}
-
--- ---- how many submissions come first
-
-pub none_mapped : {A B : Type 0} (f : A → B) (found : Option A) (mapped : Option B) → option_map f found ≡ mapped → is_none found ≡ is_none mapped
-none_mapped f None mapped e = ap is_none e
-none_mapped f (Some it) mapped e = ap is_none e
-
-lead_cons : (line : Line) (later : List Line) → is_none (submission line.instruction) ≡ false → lead (line ∷ later) ≡ suc (lead later)
-lead_cons line later some = by (submission line.instruction) some
-  where
-    by : (s : Option (Side × List ℕ)) → is_none s ≡ false → lead_by s (lead later) ≡ suc (lead later)
-    by None e = absurd cc
-    by (Some it) e = refl
-
-lead_none : (line : Line) (later : List Line) → is_none (submission line.instruction) ≡ true → lead (line ∷ later) ≡ 0
-lead_none line later none = by (submission line.instruction) none
-  where
-    by : (s : Option (Side × List ℕ)) → is_none s ≡ true → lead_by s (lead later) ≡ 0
-    by None e = refl
-    by (Some it) e = absurd cc
-
-pub lead_more : (lines : List Line) (i : ℕ) (line : Line) → i < length lines → line ≡ get_or lines i line → is_none (submission line.instruction) ≡ false → lead (drop i lines) ≡ suc (lead (drop (i + 1) lines))
-lead_more lines i line below at some =
-    at_drop_more lead lines i line below ∙ ap (λ (l : Line). lead (l ∷ drop (i + 1) lines)) (sym at) ∙ lead_cons line (drop (i + 1) lines) some
-
-pub lead_here : (lines : List Line) (i : ℕ) (line : Line) → i < length lines → line ≡ get_or lines i line → is_none (submission line.instruction) ≡ true → lead (drop i lines) ≡ 0
-lead_here lines i line below at none =
-    at_drop_more lead lines i line below ∙ ap (λ (l : Line). lead (l ∷ drop (i + 1) lines)) (sym at) ∙ lead_none line (drop (i + 1) lines) none
-
-pub lead_past : (lines : List Line) (i : ℕ) → length lines ≤ i → lead (drop i lines) ≡ 0
-lead_past lines i past = at_drop_all lead lines i past

@@ -77,7 +77,6 @@ fn turned_at<L: Ledger, K: Ledger, S: Alter, W: Wait>(
 
 /// Ends when nobody is left to send a notice, or at a fault: after that nobody takes notices, so that no
 /// session waits for it.
-#[tactic(auto, using(crate::proofs::Turning::none_marked, crate::proofs::Turning::marks_more))]
 fn saved_meanwhile<L: Ledger, K: Ledger, S: Alter, W: Wait>(
     rt: &W,
     notices: Receiver<Side>,
@@ -196,7 +195,6 @@ fn with_main<L: Ledger>(made: Made<L>, main: Seat<L>) -> Submitted<L>
     Ok((seats, words))
 }
 
-#[tactic(auto, using(crate::proofs::Places::has_main))]
 fn whole<L: Ledger, K: Ledger>(
     saved: (Seat<L>, Seat<K>, Result<(), SaveFault>),
     submitted: (Submitted<L>, Submitted<K>),

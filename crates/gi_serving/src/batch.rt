@@ -30,7 +30,6 @@ fn add_body(bodies: &mut Vec<Body>, side: Side, line: &Line) -> Result<(), Alloc
     Ok(())
 }
 
-#[tactic(auto, using(crate::proofs::Dealing::line_more))]
 fn bodies_at(alloc: Global, side: Side, lines: &[Line]) -> Result<Vec<Body>, AllocError>
     ensures { IfOk result (λ bodies. bodies.items ≡ bodies_of side lines.now) }
 {
@@ -72,7 +71,6 @@ fn given(
 }
 
 /// What goes to the session of this number, behind what goes to those before it.
-#[tactic(auto, using(crate::proofs::Dealing::one_dealt))]
 fn deal(
     alloc: Global,
     number: u8,
@@ -87,7 +85,6 @@ fn deal(
     Ok(())
 }
 
-#[tactic(auto, using(crate::proofs::Dealing::dealt_more, crate::proofs::Dealing::as_many))]
 fn dealt_to(
     alloc: Global,
     sessions: u8,
@@ -109,7 +106,6 @@ fn dealt_to(
     Ok(dealt)
 }
 
-#[tactic(auto, using(crate::proofs::Places::one_begun, crate::proofs::Places::all_begun))]
 fn begun<L: Ledger>(
     seats: Vec<Seat<L>>,
     dealt: Vec<Vec<Body>>,
@@ -221,7 +217,6 @@ fn next_word(receipts: &mut Vec<Receipt>) -> Word
     }
 }
 
-#[tactic(auto, using(crate::proofs::Dealing::none_told, crate::proofs::Dealing::all_told))]
 fn words_of(
     alloc: Global,
     numbers: &[u8],
@@ -239,7 +234,6 @@ fn words_of(
     Ok(words)
 }
 
-#[tactic(auto, using(crate::proofs::Places::served_all, crate::proofs::Places::served_places, crate::proofs::Places::submit_so))]
 fn serve_all<R: Role + Send, L: Ledger + Send, T: Threads + Wait + Sync>(
     rt: &T,
     office: &Office<R, L>,
@@ -325,7 +319,6 @@ fn numbered<R: Role + Send, L: Ledger + Send, T: Threads + Wait + Sync>(
 }
 
 /// The waker is dropped when the sessions are done, which ends the loop that waits for notices.
-#[tactic(auto, using(crate::proofs::Dealing::sessions_make))]
 pub(crate) fn submitted<R: Role + Send, L: Ledger + Send, T: Threads + Wait + Sync>(
     rt: &T,
     alloc: Global,

@@ -178,7 +178,6 @@ impl<L: Ledger, K: Ledger, S: Alter + Drop> Both<L, K, S> {
         self.matching.send(&mut self.initiating.way)
     }
 
-    #[tactic(auto, using(crate::proofs::Places::still_some))]
     pub(crate) fn turns<W: Wait>(&mut self, rt: &W) -> Result<(), ServeFault>
         requires ours { 0 < length self.old.initiating.seats.items }
         requires theirs { 0 < length self.old.matching.seats.items }

@@ -40,7 +40,6 @@ pub(crate) struct Running<R: Role, L: Ledger, S: Alter + Drop> {
 }
 
 /// A mark is not made: turns alone make those.
-#[tactic(auto, using(crate::proofs::Places::answered))]
 fn called<R: Role, L: Ledger, W: Wait>(
     rt: &W,
     office: &Office<R, L>,
@@ -96,7 +95,6 @@ fn saved(turn: Result<Turn, SaveFault>) -> Result<bool, SaveFault>
     }
 }
 
-#[tactic(auto, using(crate::proofs::Places::turned))]
 pub(crate) fn turned<R: Role, L: Ledger, S: Alter, W: Wait>(
     rt: &W,
     office: &Office<R, L>,
@@ -112,7 +110,6 @@ pub(crate) fn turned<R: Role, L: Ledger, S: Alter, W: Wait>(
 }
 
 /// `Ok` only where there is nothing to save or the desk is halted; the contract does not say so.
-#[tactic(auto, using(crate::proofs::Turning::none_marked, crate::proofs::Turning::marks_more))]
 fn saved_all<R: Role, L: Ledger, S: Alter, W: Wait>(
     rt: &W,
     office: &Office<R, L>,
@@ -231,7 +228,6 @@ impl<R: Role, L: Ledger, S: Alter + Drop> Running<R, L, S> {
         }
     }
 
-    #[tactic(auto, using(crate::proofs::Places::put_back))]
     fn ask<W: Wait>(&mut self, rt: &W, call: Call) -> Result<Option<Word>, AllocError>
         requires { 0 < length self.old.seats.items }
         ensures office { self.new.office ≡ self.old.office }
@@ -337,7 +333,6 @@ impl<R: Role, L: Ledger, S: Alter + Drop> Running<R, L, S> {
         told_text(self.alloc, line.number, R::SIDE, word)
     }
 
-    #[tactic(auto, using(crate::proofs::Places::put_back, crate::proofs::Turning::last_marks))]
     pub(crate) fn save_all<W: Wait>(&mut self, rt: &W) -> Result<(), SaveFault>
         requires { 0 < length self.old.seats.items }
         ensures office { self.new.office ≡ self.old.office }

@@ -31,14 +31,12 @@ pub struct Served {
     pub end: Result<(), ServeFault>,
 }
 
-#[tactic(auto, using(crate::proofs::Walking::none_mapped))]
 fn is_single(line: &Line) -> bool
     ensures { result ≡ is_none (submission_in line.now.instruction) }
 {
     submission(line).is_none()
 }
 
-#[tactic(auto, using(crate::proofs::Walking::lead_more, crate::proofs::Walking::lead_here, crate::proofs::Walking::lead_past))]
 fn batch_length(lines: &[Line]) -> usize
     ensures counted { result ≡ lead lines.now }
     ensures within { result ≤ length lines.now }
@@ -106,7 +104,6 @@ fn made_and_saved<
     }
 }
 
-#[tactic(auto, using(crate::proofs::Walking::added_behind))]
 fn step<
     L: Ledger + Send + Sync,
     K: Ledger + Send + Sync,
@@ -190,7 +187,6 @@ fn told(text: &mut String, closed: Closed) -> Result<(), ServeFault>
     }
 }
 
-#[tactic(auto, using(crate::proofs::Endings::closes))]
 fn closed<L: Ledger, K: Ledger, S: Alter + Drop>(
     both: Both<L, K, S>,
     text: &mut String,
@@ -203,7 +199,6 @@ fn closed<L: Ledger, K: Ledger, S: Alter + Drop>(
     }
 }
 
-#[tactic(auto, using(crate::proofs::Endings::cut, crate::proofs::Endings::over))]
 fn end_of<
     L: Ledger + Send + Sync,
     K: Ledger + Send + Sync,

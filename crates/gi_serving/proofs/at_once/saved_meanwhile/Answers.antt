@@ -1,6 +1,14 @@
-use Rattle.std.proofs.Common.{◌∙◌}
-use Rattle.gi_serving.proofs.Turning.{marks_more}
+use Rattle.std.proofs.Common.{◌∙◌, refl}
+use Rattle.gi_serving.proofs.Turning.{marks_more, none_marked}
 use Rattle.gi_serving.proofs.at_once.saved_meanwhile.Goals as goal
+
+pub loop-side-init : goal.loop-side-init
+loop-side-init g c = record {
+  place = refl;
+  peer_place = refl;
+  marks = none_marked c.args.main;
+  peer_marks = none_marked c.args.peer_main;
+}
 
 pub loop-side-preserved : goal.loop-side-preserved
 loop-side-preserved g c = record {

@@ -7,3 +7,7 @@ loop-preserved g c = record {
   place = c.turned-back.ensures.place ∙ c.loop.invariant.place;
   marks = marks_more c.args.seat c.loop.main c.turned-back.result.0 c.loop.invariant.marks (rw c.in-Ok-true.is at c.turned-back.ensures.marks);
 }
+
+pub returns-in-Ok-false-clause-marks : goal.returns-in-Ok-false-clause-marks
+returns-in-Ok-false-clause-marks g c =
+    marks_more c.args.seat c.loop.main c.turned-back.result.0 c.loop.invariant.marks (rw c.in-Ok-false.is at c.turned-back.ensures.marks)
