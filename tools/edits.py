@@ -146,7 +146,7 @@ class Edit:
         if not function.body or first < function.body[0] - 1 or start + len(old) > function.body[1]:
             raise ValueError(f"it changes what stands outside of the body of {function.own_name}, and no code")
         self.functions[function.name] = function
-        self.is_alone |= re.search(r"\bfn\b", old[first - start :] + new[first - start :]) is not None
+        self.is_alone |= re.findall(r"\bfn (\w+)", old) != re.findall(r"\bfn (\w+)", new)
 
     @staticmethod
     def is_of_file(text, before):
