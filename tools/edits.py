@@ -127,13 +127,13 @@ class Edit:
             raise ValueError(f"its old text is in {path} {len(found)} times, and not once")
         (start,) = lines or found
         line = text[text.rfind("\n", 0, start) + 1 :]
-        if re.match(rf" *{CLAUSE}", line) or any(self.is_of_file(text, new[: it.start()]) for it in re.finditer(CLAUSE, new)):
+        if self.is_of_clause(text, start) or any(self.is_of_file(text, new[: it.start()]) for it in re.finditer(CLAUSE, new)):
             raise ValueError("it changes a clause, and no code")
         if re.match(r" *#!?\[tactic\b", line) or "#[tactic" in new:
             raise ValueError("it changes what proves a function, and no code")
         self.changes.append((path, start, start + len(old), new))
-        if self.by or ("fn " in old and new.endswith(old.lstrip())):
-            # (that one refuses it; or it puts another function before the one of the old text, which it leaves)
+        if "fn " in old and new.endswith(old.lstrip()):
+            # (it puts another function before the one of the old text, which it leaves)
             self.is_alone = True
             return
         try:
@@ -142,11 +142,29 @@ class Edit:
             self.is_alone = True
             return
         # (what old and new text begin with alike is not changed)
-        first = start + len(os.path.commonprefix([old, new]))
-        if not function.body or first < function.body[0] - 1 or start + len(old) > function.body[1]:
+        first, (begin, end) = start + len(os.path.commonprefix([old, new])), function.body or (function.end, 0)
+        # (what follows it is refused by the function that is named)
+        is_behind = self.by and start >= function.end
+        if not is_behind and (first < begin - 1 or start + len(old) > end):
             raise ValueError(f"it changes what stands outside of the body of {function.own_name}, and no code")
+        if self.by:
+            self.is_alone = True
+            return
         self.functions[function.name] = function
         self.is_alone |= re.findall(r"\bfn (\w+)", old) != re.findall(r"\bfn (\w+)", new)
+
+    @staticmethod
+    def is_of_clause(text, start):
+        """Whether the line there is a clause's, or stands deeper under such a line."""
+        *above, line = text[: (text + "\n").index("\n", start)].split("\n")
+        while not re.match(rf" *{CLAUSE}", line):
+            depth = len(line) - len(line.lstrip(" "))
+            while above and (not above[-1].strip() or len(above[-1]) - len(above[-1].lstrip(" ")) >= depth):
+                above.pop()
+            if not above:
+                return False
+            line = above.pop()
+        return True
 
     @staticmethod
     def is_of_file(text, before):

@@ -1,5 +1,6 @@
 """What the tools here take of the Rattle kit's own scripts, its command rt and the module rtlib below it: the repository's crates,
 their libraries and the words of a check. And the sum of all that a verdict on a crate stands on."""
+import contextlib
 import functools
 import hashlib
 import importlib.machinery
@@ -32,13 +33,18 @@ rt = load()
 rtlib = rt.rtlib
 
 
+@functools.cache
+def sum_of_kit():
+    """A sum of the kit: rt's own, of all files that a check reads, where this kit has one, else of its name."""
+    return rt.kit_sum() if hasattr(rt, "kit_sum") else rtlib.sum_of(f"{rtlib.KIT}/KIT-ID")
+
+
 def stamp_of(crate):
     """A sum of all that a verdict on the crate stands on: the kit, and the files and libraries of the crate and of those below."""
     whole = [*crate.below(), crate]
     libraries = [(it.name, it.of_kit, [dep.name for dep in it.deps]) for it in whole]
     files = [(it.name, os.path.relpath(file, it.folder), rtlib.sum_of(file)) for it in whole for file in rtlib.files_of(it.folder)]
-    with open(f"{rtlib.KIT}/KIT-ID", encoding="utf-8") as kit_id:
-        return hashlib.sha256(repr((kit_id.read(), libraries, files)).encode()).hexdigest()
+    return hashlib.sha256(repr((sum_of_kit(), libraries, files)).encode()).hexdigest()
 
 
 def crates():
@@ -54,6 +60,11 @@ def processors():
     return max(1, min(most, round(int(quota[1]) / int(quota[2])))) if quota else most
 
 
+def free():
+    """The free memory in bytes, under a container's limit too where this kit tells that."""
+    return rt.free() if hasattr(rt, "free") else 1024 * rtlib.number_in("/proc/meminfo", r"MemAvailable:\s+(\d+)")
+
+
 # So much memory, in bytes, no check of one job here has taken.
 MOST_OF_ONE = 5_000_000_000
 
@@ -61,7 +72,7 @@ MOST_OF_ONE = 5_000_000_000
 def lanes():
     """How many crates an rt ci can prove side by side with one job each, where there is the memory for that many of the largest; else 0."""
     count = processors()
-    return count if count * MOST_OF_ONE < rt.free() else 0
+    return count if count * MOST_OF_ONE < free() else 0
 
 
 def need(crate, jobs):
@@ -95,7 +106,7 @@ def side_by_side(tasks, work, waits=lambda task, other: False, crate_of=lambda t
     for task in sorted(tasks, key=lambda it: -sum(waits(it, other) for other in tasks)):
         ways[task] = weight(task) + max((ways[it] for it in ways if waits(it, task)), default=0)
     left = sorted(tasks, key=lambda it: -ways[it])
-    memory = 0.85 * 1024 * rtlib.number_in("/proc/meminfo", r"MemAvailable:\s+(\d+)")
+    memory = 0.85 * free()
     running, given = {}, {}
     with ThreadPoolExecutor(processors()) as first, ThreadPoolExecutor(processors(), initializer=os.nice, initargs=(10,)) as lower:
         while left or running:
@@ -164,13 +175,20 @@ UNFINISHED = 86_400
 def shrink_store(crates):
     """Removes what stopped runs left in the store, and what it has too much, and none of the libraries of these crates."""
     kept = {os.path.dirname(it.rlib) for it in crates}
-    folders = sorted((it for it in os.scandir(STORE) if it.is_dir()), key=lambda it: -it.stat().st_mtime) if os.path.isdir(STORE) else []
-    size = 0
-    for it in folders:
-        size += sum(os.path.getsize(f"{at}/{name}") for at, _, names in os.walk(it.path) for name in names)
-        is_left = it.name.startswith("new-") and it.stat().st_mtime < time.time() - UNFINISHED
-        if is_left or (size > STORE_MOST and it.path not in kept):
-            shutil.rmtree(it.path, ignore_errors=True)
+    ages, size = {}, 0
+    # (another run may change and remove folders meanwhile)
+    for it in os.scandir(STORE) if os.path.isdir(STORE) else ():
+        with contextlib.suppress(OSError):
+            ages[it.path] = time.time() - it.stat().st_mtime
+    for path, age in sorted(ages.items(), key=lambda it: it[1]):
+        with contextlib.suppress(OSError):
+            size += sum(os.path.getsize(f"{at}/{name}") for at, _, names in os.walk(path) for name in names)
+            is_unfinished = os.path.basename(path).startswith("new-")
+            if age > UNFINISHED if is_unfinished else size > STORE_MOST and path not in kept:
+                # (under another name first: what is left of a library where this is stopped must not stand under its own)
+                gone = tempfile.mkdtemp(dir=STORE, prefix="new-")
+                os.rename(path, gone)
+                shutil.rmtree(gone, ignore_errors=True)
 
 
 def build_libraries(libraries, started=lambda crate: None, ended=lambda crate, status, said: None, look=lambda: None):

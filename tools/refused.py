@@ -1,6 +1,7 @@
 """The wrong bodies that earlier runs on this machine refused. An entry is named by a sum of all that its verdict stands on: the kit, the
-files of the crate and of those below, the edit, and these tools. So it never goes stale; and nothing else is kept than that an edit was
-refused."""
+files of the crate and of those below, the edit, and these tools. So it does not go stale where the libraries below are made of these
+files, which tools/trial.py looks at; and nothing else is kept than that an edit was refused."""
+import contextlib
 import hashlib
 import os
 import time
@@ -36,16 +37,16 @@ class Refused:
 
     def keep(self, edit):
         """Keeps that the edit is refused, where no file that this stands on has changed since it was looked at."""
-        try:
+        with contextlib.suppress(OSError):
             if name_of(edit, kit.stamp_of(edit.crate)) == self.names[edit]:
                 os.makedirs(STORE, 0o700, exist_ok=True)
                 open(f"{STORE}/{self.names[edit]}", "w", encoding="utf-8").close()
-        except OSError:
-            pass
 
     def shrink(self):
         """Removes what was not used for long."""
         oldest = time.time() - DAYS * 86400
         for it in os.scandir(STORE) if os.path.isdir(STORE) else ():
-            if it.stat().st_mtime < oldest:
-                os.remove(it.path)
+            # (another run may remove it meanwhile)
+            with contextlib.suppress(OSError):
+                if it.stat().st_mtime < oldest:
+                    os.remove(it.path)

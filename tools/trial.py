@@ -105,8 +105,14 @@ class Trial:
 
 
 def is_of_ci(crate):
-    """Whether an rt ci left this library, which fits only others that it left."""
-    return os.path.isdir(crate.rlib) and not os.path.isfile(f"{os.path.dirname(crate.rlib)}/stamp")
+    """Whether an rt ci left this library, which fits only others that it left, and the crate's files are no newer than it: check gives
+    it the time at which that rt ci began."""
+    if not os.path.isdir(crate.rlib) or os.path.isfile(f"{os.path.dirname(crate.rlib)}/stamp"):
+        return False
+    parts = [f"{crate.folder}/{it}" for it in kit.rtlib.PARTS]
+    files = [f"{at}/{name}" for part in parts for at, _, names in os.walk(part) for name in (".", *names)]
+    made = os.stat(crate.rlib).st_mtime
+    return all(os.stat(it).st_mtime <= made for it in [f"{crate.folder}/../../crates.txt", *files])
 
 
 def are_ready(crates, tried, is_after_ci):
