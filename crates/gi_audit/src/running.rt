@@ -74,13 +74,15 @@ fn start_both_again(world: &mut World) -> Result<(), AllocError>
 }
 
 /// Makes the steps in a world that has just been opened; then both sides start again from what is
-/// saved, and these two desks are set against each other. They agree, whatever the steps are: an
-/// audit of two offices' books gives no false alarm. There is none where memory runs out.
+/// saved, and are left so, and these two desks are set against each other. They agree, whatever the
+/// steps are: an audit of two offices' books gives no false alarm. There is none where memory runs out.
 pub fn audit_run(alloc: Global, world: &mut World, steps: &[Step]) -> Result<Audited, AllocError>
     requires { world.now ≡ new_world world.now.initiating.desk.point }
     ensures books { IfOk result (λ audited. let w = run world.old steps.now in
         IsAudit (started_again w.initiating.desk w.initiating.desk.saved) (started_again w.matching.desk w.matching.desk.saved) (string_bytes audited.text) audited.first) }
     ensures agreed { IfOk result (λ audited. audited.first ≡ None) }
+    ensures initiating { OnOk result (let w = run world.old steps.now in world.new.initiating.desk ≡ started_again w.initiating.desk w.initiating.desk.saved) }
+    ensures matching { OnOk result (let w = run world.old steps.now in world.new.matching.desk ≡ started_again w.matching.desk w.matching.desk.saved) }
 {
     make_all(world, steps)?;
     start_both_again(world)?;

@@ -19,6 +19,7 @@ pub use commands::perform;
 pub use desk_report::DeskReport;
 pub use fault::Fault;
 pub use laws::one_status;
+pub use replaying::replayed;
 pub use reporting::{book_report, script_report};
 pub use simulating::{Written, simulated};
 pub use tables::read_input;

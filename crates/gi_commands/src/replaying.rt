@@ -12,11 +12,7 @@ use std::alloc::Global;
 
 /// The desk of these facts. `BadFact` for the first that no desk of this side and point records
 /// after those before it, and `OutOfMemory`.
-pub(crate) fn replayed<R: Role>(
-    alloc: Global,
-    point: Code,
-    facts: Vec<Fact>,
-) -> Result<Desk<R>, Fault>
+pub fn replayed<R: Role>(alloc: Global, point: Code, facts: Vec<Fact>) -> Result<Desk<R>, Fault>
     ensures legal { IfOk result (λ desk. bad_fact R.SIDE point facts.items ≡ None) }
     ensures desk { IfOk result (λ desk. desk ≡ desk_of point facts.items) }
     ensures fault { IfErr result (IsFactsFault R.SIDE point facts.items) }

@@ -16,7 +16,7 @@ use Rattle.gi_store.specs.Facts.{AreFactsFrom, Covers}
 use Rattle.gi_store.specs.Rows.{fact_rows, facts_in, row_of}
 use Rattle.gi_store.specs.declared.store_fault.StoreFault.{StoreFault}
 use Rattle.gi_store.specs.declared.store_fault.StoreFault.TheVariants.{NotNext}
-use Rattle.gi_office.specs.Saving.{GoesOnBy, HasFrom, Stand}
+use Rattle.gi_office.specs.Saving.{GoesOnBy, HasFrom, Stand, TellsNext, next_after}
 use Rattle.gi_office.proofs.NextFacts.{slice_get-append, slice_get-drop}
 
 -- one of the rows covers this number with the fact
@@ -119,3 +119,8 @@ answered_batch n facts loaded result some few answers =
 
 pub goes_on_count : (n : ℕ) (facts all : List Fact) (count : ℕ) → GoesOnBy n facts all count → count ≡ length all - (n - 1)
 goes_on_count n facts all count goes = sym (length-take-le count facts goes.within) ∙ (sym (ap (length {A = Fact}) goes.are) ∙ length-drop (n - 1) all)
+
+-- what is told where the facts that come next are others tells which number comes after all that were read
+pub tells_next : (loaded read : Option ℕ) (fault : StoreFault) → loaded ≡ read → fault ≡ next_after read → TellsNext loaded fault
+tells_next None read fault is told = tt
+tells_next (Some k) read fault is told = told ∙ ap next_after (sym is)

@@ -122,10 +122,17 @@ pub record HasOthers (n : ℕ) (facts : List Fact) (s : State) (fault : StoreFau
   pub others : (count : ℕ) → ¬ GoesOnBy n facts all count
   pub told : fault ≡ next_after (counted (length all))
 
+-- where a book was read again, it is told which number comes after its facts
+abbrev pub TellsNext : Option ℕ → StoreFault → Type 0
+TellsNext None fault = Unit {0}
+TellsNext (Some k) fault = fault ≡ NotNext (k + 1)
+
 -- Why none of the facts stands in a book. A book that was ahead was loaded again: that was refused, or its facts from this
--- number on are others. In any other the longest front was not saved as the row that comes next.
+-- number on are others. In any other the longest front was not saved as the row that comes next. Of a failure of the database and of
+-- want of memory a refused load says no cause.
 pub record IsWriteFault {S : Type 0} (store : Ghosts S) (old new : BookState S) (n : ℕ) (facts : List Fact) (front : ℕ) (fault : StoreFault) : Type 0 where
   pub ahead : is_ahead n old.loaded ≡ true → IsClean store new.connection → IsLoadFault (state store old.connection) fault ⊎ HasOthers n facts (state store new.connection) fault
+  pub read : is_ahead n old.loaded ≡ true → TellsNext new.loaded fault
   pub behind : is_ahead n old.loaded ≡ false → AnswersBatch n (take front facts) old.loaded (Err fault)
 
 -- ---- the seat
@@ -218,7 +225,7 @@ pub record Saves {S : Type 0} (side : Side) (store : Ghosts S) (before after : B
   pub unwritten : is_ahead n before.loaded ≡ true → IsClean store after.connection → WritesNothing (state store before.connection) (state store after.connection)
   pub told : StandMarked side store before after n facts front old result new ⊎ StandNot side store before after n facts front old result new
 
--- there was no memory for a copy of the facts, or to see how many one row takes, and nothing was done
+-- it is told that there was no memory for a copy of the facts, or to see how many one row takes, and nothing was done
 abbrev pub TakesNone : {S : Type 0} → BookState S → BookState S → SeatState → Result Turn SaveFault → SeatState → Type 0
 TakesNone before after old result new = (result ≡ Err (faults.Office OutOfMemory)) × (after ≡ before) × (new ≡ old)
 

@@ -35,7 +35,7 @@ abbrev pub MayReadTask : Wanted → Option (List ℕ) → Option (List ℕ) → 
 MayReadTask (at_once asked) old new = MayRead asked old new
 MayReadTask (serve sessions books) old new = Unit {0}
 
--- a report of a book whose point is no code
+-- a point is no code, of a report of a book or of an audit, or a portfolio that `explain` names
 abbrev pub NamesNoCode : Wanted → Type 0
 NamesNoCode (at_once asked) = HasNoCode asked
 NamesNoCode (serve sessions books) = ⊥

@@ -1,13 +1,13 @@
 //! What each side of two running offices begins with: its desk, replayed from its book.
 
 ghost use Rattle.std.specs.Prelude.{◌≡◌, IfErr, IfOk, false, length, string_bytes};
-ghost use Rattle.gi_service.specs.Serving.{IsBooksFault, IsFactsFault, IsServedFrom};
+ghost use Rattle.gi_commands.specs.Reporting.{IsBookFault};
+ghost use Rattle.gi_service.specs.Serving.{IsBooksFault, IsServedFrom};
 
 use crate::places::Place;
 use gi_command_line::Sessions;
-use gi_commands::Fault;
-use gi_day::Calendar;
-use gi_desk::{Desk, Fact, Role};
+use gi_commands::{Fault, replayed};
+use gi_desk::{Desk, Role};
 use gi_initiator::Initiating;
 use gi_matcher::Matching;
 use gi_pairs::Code;
@@ -19,27 +19,19 @@ use std::alloc::Global;
 use std::sync::Wait;
 use std::thread::Threads;
 
-fn desk_of<R: Role>(alloc: Global, point: Code, facts: Vec<Fact>) -> Result<Desk<R>, Fault>
-    ensures saved { IfOk result (λ desk. desk.saved ≡ length desk.facts) }
-    ensures runs { IfOk result (λ desk. desk.halted ≡ false) }
-    ensures fault { IfErr result (IsFactsFault R.SIDE point) }
-{
-    let calendar = Calendar::new()?;
-    Ok(Desk::replay(alloc, calendar, point, facts)?)
-}
-
 fn station<R: Role, P: Place>(
     alloc: Global,
     point: Code,
     place: &P,
 ) -> Result<(Desk<R>, BookStore<P::Store>), Fault>
+    ensures point { IfOk result (λ it. it.0.point ≡ point) }
     ensures saved { IfOk result (λ it. it.0.saved ≡ length it.0.facts) }
     ensures runs { IfOk result (λ it. it.0.halted ≡ false) }
-    ensures fault { IfErr result (IsFactsFault R.SIDE point) }
+    ensures fault { IfErr result (IsBookFault R.SIDE point) }
 {
     let mut book = place.book(R::SIDE)?;
     let facts = book.load()?;
-    match desk_of(alloc, point, facts) {
+    match replayed(alloc, point, facts) {
         Ok(desk) => Ok((desk, book)),
         Err(fault) => Err(fault),
     }

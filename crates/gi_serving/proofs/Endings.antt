@@ -1,5 +1,5 @@
 -- How it ended, from what was made and what closing both offices came to.
-use Rattle.std.proofs.Common.{arith, ◌≡◌, ℕ, ◌+◌, ◌-◌, List, [], ◌∷◌, ◌++◌, drop, length, map, Result, Ok, Err, inl, inr, ap, ◌∙◌, sym, subst}
+use Rattle.std.proofs.Common.{arith, ◌≡◌, ◌<◌, ℕ, ◌+◌, ◌-◌, List, [], ◌∷◌, ◌++◌, drop, length, map, Result, Ok, Err, inl, inr, ap, ◌∙◌, sym, subst}
 use Rattle.std.specs.List.{range_with_len}
 use Rattle.std.specs.Prelude.{IfOk}
 use Rattle.std.proofs.lemmas.List.{length-append}
@@ -13,18 +13,25 @@ use Rattle.gi_office.specs.declared.unsettled.Unsettled.{Unsettled}
 use Rattle.gi_pairs.specs.declared.side.Side.TheVariants.{I, M}
 use Rattle.gi_script.specs.declared.line.Line.{Line}
 use Rattle.gi_serving.specs.Closing.{AreLastLines, IsClosed, IsReconciled, end_of, reconciled_line}
-use Rattle.gi_serving.specs.Ending.{AreSamePlaces, Closes, IsCut, IsOver, place_of}
+use Rattle.gi_serving.specs.Ending.{AreSamePlaces, Closes, IsCut, IsOfTurn, IsOver, place_of}
 use Rattle.gi_serving.specs.Making.{OfficesState, Runs, RunsSome, new_offices}
 use Rattle.gi_serving.specs.Runs.{pieces}
 use Rattle.gi_serving.specs.declared.serve_fault.ServeFault.{ServeFault}
 use Rattle.gi_serving.specs.declared.serve_fault.ServeFault.TheVariants as faults
+use Rattle.gi_serving.proofs.Walking.{pieces_left}
 
-pub cut : (sessions count : ℕ) (lines : List Line) (text : List ℕ) (end : Result (Unit {0}) ServeFault) → RunsSome sessions lines count (new_offices sessions) text → IsCut end → IsOver sessions lines text end
-cut sessions count lines text end some h = inl (record {
+pub cut : (sessions count : ℕ) (lines : List Line) (text : List ℕ) (end : Result (Unit {0}) ServeFault) → RunsSome sessions lines count (new_offices sessions) text → IsCut end → (IsOfTurn end → count < length lines)
+    → IsOver sessions lines text end
+cut sessions count lines text end some h left = inl (record {
   reached = some.0;
   runs = record { made = some.1.made; left = pieces (drop count lines); all = some.1.all; runs = some.1.runs };
   cut = h;
+  early = λ of_turn. pieces_left lines count (left of_turn);
 })
+
+-- what memory ran out for is no turn's fault
+pub out_of_memory : (sessions count : ℕ) (lines : List Line) (text : List ℕ) → RunsSome sessions lines count (new_offices sessions) text → IsOver sessions lines text (Err faults.OutOfMemory)
+out_of_memory sessions count lines text some = cut sessions count lines text (Err faults.OutOfMemory) some tt (λ of_turn. absurd of_turn)
 
 pub reconciled_so : (front line text : List ℕ) (initiating matching : SettledState) (answer : Result (Unit {0}) Unreconciled) (end : Result (Unit {0}) ServeFault)
     → Reconciles initiating matching answer → IfOk answer (λ done. AgreeOnOneQuantity initiating matching)
@@ -79,8 +86,9 @@ pub over :
     → Closes parts peer_parts sessions reached text new result
     → IsOver sessions lines new result
 over sessions parts peer_parts count lines start reached text new result first whole peer_whole ours theirs runs some (inl h) =
-    cut sessions count lines new result
-    (subst (λ (t : List ℕ). RunsSome sessions lines count (new_offices sessions) t) (sym h.0) (subst (λ (s : OfficesState). RunsSome sessions lines count s text) first some)) h.1
+    subst (λ (end : Result (Unit {0}) ServeFault). IsOver sessions lines new end) (sym h.1)
+    (out_of_memory sessions count lines new
+    (subst (λ (t : List ℕ). RunsSome sessions lines count (new_offices sessions) t) (sym h.0) (subst (λ (s : OfficesState). RunsSome sessions lines count s text) first some)))
 over sessions parts peer_parts count lines start reached text new result first whole peer_whole ours theirs runs some (inr h) =
     inr (record {
       front = text;

@@ -1,6 +1,6 @@
 -- The first piece of the lines, and a run of one piece more.
-use Rattle.std.proofs.Common.{get_or, ◌≡◌, ◌≤◌, ◌<◌, ℕ, ◌+◌, max, length, drop-drop, List, [], ◌∷◌, ◌++◌, take, drop, Option, None, Some, refl, ap, append_assoc, append-nil, ◌∙◌, sym, subst, arith}
-use Rattle.std.proofs.lemmas.List.{drop_all}
+use Rattle.std.proofs.Common.{get_or, ◌≡◌, ◌≢◌, ◌≤◌, ◌<◌, ℕ, ◌+◌, max, length, drop-drop, List, [], ◌∷◌, ◌++◌, take, drop, Option, None, Some, refl, ap, append_assoc, append-nil, ◌∙◌, sym, subst, arith}
+use Rattle.std.proofs.lemmas.List.{drop_all, length-drop}
 use Rattle.gi_pairs.specs.declared.side.Side.{Side}
 use Rattle.gi_script.specs.declared.line.Line.{Line}
 use Rattle.gi_serving.specs.Batches.{submission}
@@ -32,6 +32,20 @@ single_first line later none = by (submission line.instruction) none
     by : (s : Option (Side × List ℕ)) → lead_by s (lead later) ≡ 0 → put line s (pieces later) ≡ Single line ∷ pieces later
     by None none = refl
     by (Some it) none = absurd (omega (arith, none))
+
+any_piece : (lines : List Line) → 0 < length lines → pieces lines ≢ []
+any_piece [] some none = omega (arith, some)
+any_piece (line ∷ later) some none = by (submission line.instruction) none
+  where
+    by : (s : Option (Side × List ℕ)) → put line s (pieces later) ≡ [] → ⊥
+    by None none = let empty : length (Single line ∷ pieces later) ≡ 0 = ap length none in omega (arith, empty)
+    by (Some it) none =
+        let empty : length (Batch (line ∷ take (lead later) later) ∷ pieces (drop (lead later) later)) ≡ 0 = ap length (sym (join line later) ∙ none) in
+        omega (arith, empty)
+
+-- where lines are left there is a piece
+pub pieces_left : (lines : List Line) (count : ℕ) → count < length lines → pieces (drop count lines) ≢ []
+pieces_left lines count some = any_piece (drop count lines) (omega (arith, some, length-drop count lines))
 
 -- ---- the walk over the pieces
 

@@ -1,5 +1,5 @@
 -- How a script at both running offices ends.
-use Rattle.std.specs.Prelude.{◌≡◌, ◌⊎◌, ℕ, ◌+◌, List, ◌++◌, map, Result, Ok, Err}
+use Rattle.std.specs.Prelude.{◌≡◌, ◌≢◌, ◌⊎◌, ℕ, ◌+◌, List, [], ◌++◌, map, Result, Ok, Err}
 use Rattle.gi_office.specs.Keeping.{SeatState}
 use Rattle.gi_office.specs.Opening.{new_seats}
 use Rattle.gi_office.specs.declared.save_fault.SaveFault.{SaveFault}
@@ -30,7 +30,7 @@ IsTurnFault (savings.Store fault) = Unit {0}
 IsTurnFault (savings.Office fault) = Unit {0}
 IsTurnFault (savings.Marked refusal) = Unit {0}
 
--- it is cut off before both offices are closed: memory ran out, or a turn that saves answered a fault
+-- it is cut off before both offices are closed: it is told that memory ran out, or a fault of a turn that saves
 abbrev pub IsCut : Result (Unit {0}) ServeFault → Type 0
 IsCut (Ok done) = ⊥
 IsCut (Err faults.OutOfMemory) = Unit {0}
@@ -46,13 +46,21 @@ pub record ClosesWell (parts peer_parts sessions : ℕ) (reached : OfficesState)
 
 abbrev pub Closes : ℕ → ℕ → ℕ → OfficesState → List ℕ → List ℕ → Result (Unit {0}) ServeFault → Type 0
 Closes parts peer_parts sessions reached old new end =
-    ((new ≡ old) × IsCut end) ⊎ ClosesWell parts peer_parts sessions reached old new end
+    ((new ≡ old) × (end ≡ Err faults.OutOfMemory)) ⊎ ClosesWell parts peer_parts sessions reached old new end
 
--- Some of the pieces were made and told of before it was cut off, the first ones in order, and nothing else is told.
+-- a turn that saves answered a fault
+abbrev pub IsOfTurn : Result (Unit {0}) ServeFault → Type 0
+IsOfTurn (Ok done) = ⊥
+IsOfTurn (Err (faults.Turn fault)) = Unit {0}
+IsOfTurn (Err _) = ⊥
+
+-- Some of the pieces were made and told of before it was cut off, the first ones in order, and nothing else is told. Of a turn's fault
+-- that is before the last piece; memory can run out behind it too. Neither says which turn or call it was.
 pub record IsCutOff (sessions : ℕ) (lines : List Line) (text : List ℕ) (end : Result (Unit {0}) ServeFault) : Type 0 where
   pub reached : OfficesState
   pub runs : RunsFirst sessions lines (new_offices sessions) text reached
   pub cut : IsCut end
+  pub early : IsOfTurn end → runs.left ≢ []
 
 -- All pieces were made and told of in order, and behind that are the last lines of both offices, each handed all its seats as they
 -- are then: those of its sessions, and the main one.
@@ -71,4 +79,4 @@ IsOver sessions lines text end = IsCutOff sessions lines text end ⊎ IsWhole se
 
 -- the last lines are added to the text, and it ended so; or memory ran out, and nothing is added
 abbrev pub IsTold : List ℕ → List ℕ → Result (Unit {0}) ServeFault → List ℕ → Result (Unit {0}) ServeFault → Type 0
-IsTold old last end new result = ((new ≡ old) × IsCut result) ⊎ ((new ≡ old ++ last) × (result ≡ end))
+IsTold old last end new result = ((new ≡ old) × (result ≡ Err faults.OutOfMemory)) ⊎ ((new ≡ old ++ last) × (result ≡ end))

@@ -54,7 +54,7 @@ pub record SavesAndSends (old new : OfficesState) : Type 0 where
   pub orders : Sends old.initiating.sent new.initiating.seats new.initiating.sent old.matching.way new.matching.way
   pub answers : Sends old.matching.sent new.matching.seats new.matching.sent old.initiating.way new.initiating.way
 
--- a piece is made, and what it recorded is saved
+-- a piece is made; then the main seats note marks, if any, and what they were let out is sent
 pub record MakesAndSaves (sessions : ℕ) (piece : Piece) (old : OfficesState) (text : List ℕ) (new : OfficesState) : Type 0 where
   pub between : OfficesState
   pub makes : MakesPiece sessions piece old text between

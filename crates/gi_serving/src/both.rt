@@ -153,7 +153,7 @@ impl<L: Ledger, K: Ledger, S: Alter + Drop> Both<L, K, S> {
         ensures theirs { AreSamePlaces self.old.matching.seats.items self.new.matching.seats.items }
         ensures made { IfOk result (λ text. MakesLine (side_in line.now.instruction) line.now
             (offices_of self.old.initiating self.old.matching) (string_bytes text) (offices_of self.new.initiating self.new.matching)) }
-        ensures cut { IfErr result (λ fault. IsCut (Err fault)) }
+        ensures cut { IfErr result (λ fault. fault ≡ ServeFault.OutOfMemory) }
     {
         let said = match side_of(&line.instruction) {
             Side::I => self.initiating.line(rt, line),

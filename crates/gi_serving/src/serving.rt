@@ -163,6 +163,7 @@ fn run<
     ensures whole { OnOk result (Runs both.old.sessions (pieces lines.now)
         (offices_of both.old.initiating both.old.matching) (string_bytes text.new) (offices_of both.new.initiating both.new.matching)) }
     ensures cut { IfErr result (λ fault. IsCut (Err fault)) }
+    ensures left { IfErr result (λ fault. V.told watch.new < length lines.now) }
 {
     let mut at = 0;
     while at < lines.len() {

@@ -33,3 +33,4 @@ returns-in-Err-clause-over g c =
     let text = string_bytes c.run.new.text in
     cut sessions told c.args.lines.now text (Err c.in-Err.fault)
     (subst (λ (s : OfficesState). RunsSome sessions c.args.lines.now told s text) c.requires.new c.in-Err.ensures.told) c.in-Err.ensures.cut
+    (λ of_turn. c.in-Err.ensures.left)

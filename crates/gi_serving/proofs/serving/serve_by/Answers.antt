@@ -1,8 +1,7 @@
-use Rattle.std.proofs.Common.{ℕ, Err, refl, string_bytes, subst}
+use Rattle.std.proofs.Common.{ℕ, refl, string_bytes, subst}
 use Rattle.gi_serving.specs.Ending.{IsCut, IsOver}
 use Rattle.gi_serving.specs.Making.{RunsSome, new_offices}
-use Rattle.gi_serving.specs.declared.serve_fault.ServeFault.TheVariants as faults
-use Rattle.gi_serving.proofs.Endings.{cut}
+use Rattle.gi_serving.proofs.Endings.{out_of_memory}
 use Rattle.gi_serving.proofs.Walking.{none_made}
 use Rattle.gi_serving.proofs.serving.serve_by.Goals as goal
 
@@ -10,7 +9,7 @@ pub returns-in-Err-clause-over : goal.returns-in-Err-clause-over
 returns-in-Err-clause-over g c =
     let sessions = c.args.sessions in
     let text = string_bytes c.args.text.now in
-    cut sessions 0 c.args.lines.now text (Err faults.OutOfMemory) (none_made sessions c.args.lines.now 0 (new_offices sessions) text refl c.requires.none) tt
+    out_of_memory sessions 0 c.args.lines.now text (none_made sessions c.args.lines.now 0 (new_offices sessions) text refl c.requires.none)
 
 pub returns-in-Ok-clause-over : goal.returns-in-Ok-clause-over
 returns-in-Ok-clause-over g c =
