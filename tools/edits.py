@@ -143,7 +143,7 @@ class Edit:
             return
         # (what old and new text begin with alike is not changed)
         first, (begin, end) = start + len(os.path.commonprefix([old, new])), function.body or (function.end, 0)
-        # (what follows it is refused by the function that is named)
+        # (a text behind a function is no part of it: the function that the line 'by:' names has to refuse the edit)
         is_behind = self.by and start >= function.end
         if not is_behind and (first < begin - 1 or start + len(old) > end):
             raise ValueError(f"it changes what stands outside of the body of {function.own_name}, and no code")
