@@ -10,8 +10,8 @@ ghost use Rattle.gi_serving.specs.declared.serve_fault.ServeFault.TheVariants.{O
 
 use crate::batch::submitted;
 use crate::paired::both_of;
-use crate::running::turned;
 use crate::serve_fault::ServeFault;
+use crate::turns::Turns;
 use crate::word::Word;
 use crossbeam_channel::{Receiver, unbounded};
 use gi_desk::Body;
@@ -19,8 +19,6 @@ use gi_initiator::Initiating;
 use gi_matcher::Matching;
 use gi_office::{Office, SaveFault, Seat, Waker};
 use gi_pairs::Side;
-use gi_store::BookStore;
-use sqlite::Alter;
 use std::alloc::{AllocError, Global};
 use std::sync::Wait;
 use std::sync::ledger::Ledger;
@@ -45,14 +43,14 @@ fn wakers(alloc: Global) -> Result<(Waker, Waker, Receiver<Side>), AllocError>
     ))
 }
 
-fn turned_at<L: Ledger, K: Ledger, S: Alter, W: Wait>(
+fn turned_at<L: Ledger, K: Ledger, B: Turns, W: Wait>(
     rt: &W,
     side: Side,
     office: &Office<Initiating, L>,
-    book: &mut BookStore<S>,
+    book: &mut B,
     main: Seat<L>,
     peer: &Office<Matching, K>,
-    peer_book: &mut BookStore<S>,
+    peer_book: &mut B,
     peer_main: Seat<K>,
 ) -> (Seat<L>, Seat<K>, Result<bool, SaveFault>)
     ensures place { place_of result.0 ≡ place_of main }
@@ -65,11 +63,11 @@ fn turned_at<L: Ledger, K: Ledger, S: Alter, W: Wait>(
 {
     match side {
         Side::I => {
-            let (main, saved) = turned(rt, office, book, main);
+            let (main, saved) = book.turned(rt, office, main);
             (main, peer_main, saved)
         }
         Side::M => {
-            let (peer_main, saved) = turned(rt, peer, peer_book, peer_main);
+            let (peer_main, saved) = peer_book.turned(rt, peer, peer_main);
             (main, peer_main, saved)
         }
     }
@@ -77,14 +75,14 @@ fn turned_at<L: Ledger, K: Ledger, S: Alter, W: Wait>(
 
 /// Ends when nobody is left to send a notice, or at a fault: after that nobody takes notices, so that no
 /// session waits for it.
-fn saved_meanwhile<L: Ledger, K: Ledger, S: Alter, W: Wait>(
+fn saved_meanwhile<L: Ledger, K: Ledger, B: Turns, W: Wait>(
     rt: &W,
     notices: Receiver<Side>,
     office: &Office<Initiating, L>,
-    book: &mut BookStore<S>,
+    book: &mut B,
     main: Seat<L>,
     peer: &Office<Matching, K>,
-    peer_book: &mut BookStore<S>,
+    peer_book: &mut B,
     peer_main: Seat<K>,
 ) -> (Seat<L>, Seat<K>, Result<(), SaveFault>)
     ensures place { place_of result.0 ≡ place_of main }
@@ -221,18 +219,18 @@ fn whole<L: Ledger, K: Ledger>(
 pub(crate) fn at_once<
     L: Ledger + Send + Sync,
     K: Ledger + Send + Sync,
-    S: Alter + Send,
+    B: Turns + Send,
     T: Threads + Wait + Sync,
 >(
     rt: &T,
     alloc: Global,
     sessions: u8,
     office: &Office<Initiating, L>,
-    book: &mut BookStore<S>,
+    book: &mut B,
     seats: Vec<Seat<L>>,
     bodies: Vec<Body>,
     peer: &Office<Matching, K>,
-    peer_book: &mut BookStore<S>,
+    peer_book: &mut B,
     peer_seats: Vec<Seat<K>>,
     peer_bodies: Vec<Body>,
 ) -> Result<(Made<L>, Made<K>), ServeFault>

@@ -17,6 +17,7 @@ use crate::running::Running;
 use crate::serve_fault::ServeFault;
 use crate::station::Station;
 use crate::telling::batch_text;
+use crate::turns::Turns;
 use crate::word::Word;
 use gi_desk::Body;
 use gi_initiator::Initiating;
@@ -24,8 +25,6 @@ use gi_matcher::Matching;
 use gi_office::{Office, Seat};
 use gi_pairs::Side;
 use gi_script::{Instruction, Line};
-use gi_store::BookStore;
-use sqlite::Alter;
 use std::alloc::{AllocError, Global};
 use std::mem;
 use std::sync::Wait;
@@ -33,11 +32,11 @@ use std::sync::ledger::Ledger;
 use std::thread::Threads;
 
 #[derive(Drop)]
-pub(crate) struct Both<L: Ledger, K: Ledger, S: Alter + Drop> {
+pub(crate) struct Both<L: Ledger, K: Ledger, B: Drop> {
     pub(crate) alloc: Global,
     pub(crate) sessions: u8,
-    pub(crate) initiating: Running<Initiating, L, S>,
-    pub(crate) matching: Running<Matching, K, S>,
+    pub(crate) initiating: Running<Initiating, L, B>,
+    pub(crate) matching: Running<Matching, K, B>,
     ghost some: { 1 ≤ sessions },
     ghost few: { sessions < 16 },
     ghost ours: { initiating.office.seats ≡ sessions + 1 },
@@ -67,18 +66,18 @@ fn put<A: Drop>(place: &mut A, value: A)
 fn submit_from<
     L: Ledger + Send + Sync,
     K: Ledger + Send + Sync,
-    S: Alter + Send,
+    B: Turns + Send,
     T: Threads + Wait + Sync,
 >(
     rt: &T,
     alloc: Global,
     sessions: u8,
     office: &Office<Initiating, L>,
-    book: &mut BookStore<S>,
+    book: &mut B,
     seats: &mut Vec<Seat<L>>,
     bodies: Vec<Body>,
     peer: &Office<Matching, K>,
-    peer_book: &mut BookStore<S>,
+    peer_book: &mut B,
     peer_seats: &mut Vec<Seat<K>>,
     peer_bodies: Vec<Body>,
 ) -> Result<(Vec<Word>, Vec<Word>), ServeFault>
@@ -112,12 +111,12 @@ fn submit_from<
     Ok((words, peer_words))
 }
 
-impl<L: Ledger, K: Ledger, S: Alter + Drop> Both<L, K, S> {
+impl<L: Ledger, K: Ledger, B: Turns + Drop> Both<L, K, B> {
     pub(crate) fn open(
         sessions: u8,
-        initiating: Station<Initiating, S>,
-        matching: Station<Matching, S>,
-    ) -> Result<Both<L, K, S>, AllocError>
+        initiating: Station<Initiating, B>,
+        matching: Station<Matching, B>,
+    ) -> Result<Both<L, K, B>, AllocError>
         requires some { 1 ≤ sessions }
         requires few { sessions < 16 }
         requires name { initiating.blank.name ≡ L.name }
@@ -134,8 +133,8 @@ impl<L: Ledger, K: Ledger, S: Alter + Drop> Both<L, K, S> {
         ensures new { IfOk result (λ both. offices_of both.initiating both.matching ≡ new_offices sessions) }
     {
         let alloc = initiating.alloc;
-        let initiating = Running::<Initiating, L, S>::open(initiating, sessions);
-        let matching = Running::<Matching, K, S>::open(matching, sessions);
+        let initiating = Running::<Initiating, L, B>::open(initiating, sessions);
+        let matching = Running::<Matching, K, B>::open(matching, sessions);
         let (initiating, matching) = both_of(initiating, matching)?;
         Ok(Both {
             alloc,
@@ -214,7 +213,7 @@ impl<L: Ledger, K: Ledger, S: Alter + Drop> Both<L, K, S> {
     }
 }
 
-impl<L: Ledger + Send + Sync, K: Ledger + Send + Sync, S: Alter + Drop + Send> Both<L, K, S> {
+impl<L: Ledger + Send + Sync, K: Ledger + Send + Sync, B: Turns + Drop + Send> Both<L, K, B> {
     fn submit<T: Threads + Wait + Sync>(
         &mut self,
         rt: &T,

@@ -44,6 +44,7 @@ mod serve_fault;
 mod serving;
 mod station;
 mod telling;
+mod turns;
 mod watch;
 mod word;
 

@@ -14,23 +14,22 @@ ghost use Rattle.gi_serving.specs.Words.{word_in};
 
 use crate::station::Station;
 use crate::telling::told_text;
+use crate::turns::Turns;
 use crate::word::Word;
 use gi_carrier::Plan;
 use gi_desk::{Body, Call, Desk, Packet, Role};
-use gi_office::{Note, Office, OfficeFault, Receipt, SaveFault, Seat, Turn};
+use gi_office::{Note, Office, OfficeFault, Receipt, SaveFault, Seat};
 use gi_script::{Instruction, Line};
 use gi_simulation::Link;
-use gi_store::BookStore;
-use sqlite::Alter;
 use std::alloc::{AllocError, Global};
 use std::sync::Wait;
 use std::sync::ledger::{Blank, Ledger};
 
 #[derive(Drop)]
-pub(crate) struct Running<R: Role, L: Ledger, S: Alter + Drop> {
+pub(crate) struct Running<R: Role, L: Ledger, B: Drop> {
     pub(crate) alloc: Global,
     pub(crate) office: Office<R, L>,
-    pub(crate) book: BookStore<S>,
+    pub(crate) book: B,
     /// The seats of the sessions, in order, and then the main one.
     pub(crate) seats: Vec<Seat<L>>,
     /// How many of the main seat's notes were sent.
@@ -80,40 +79,11 @@ fn word_of(answer: Option<Result<Receipt, OfficeFault>>) -> Result<Option<Word>,
     }
 }
 
-fn saved(turn: Result<Turn, SaveFault>) -> Result<bool, SaveFault>
-    ensures value { result ≡ saved_of turn }
-    ensures fault { IfErr result IsTurnFault }
-{
-    match turn {
-        Ok(Turn::Saved(receipt)) => {
-            drop(receipt);
-            Ok(true)
-        }
-        Ok(Turn::Nothing) => Ok(false),
-        Err(SaveFault::Halted) => Ok(false),
-        Err(fault) => Err(fault),
-    }
-}
-
-pub(crate) fn turned<R: Role, L: Ledger, S: Alter, W: Wait>(
-    rt: &W,
-    office: &Office<R, L>,
-    book: &mut BookStore<S>,
-    seat: Seat<L>,
-) -> (Seat<L>, Result<bool, SaveFault>)
-    ensures place { place_of result.0 ≡ place_of seat }
-    ensures marks { OnOk result.1 (NotesMarks seat result.0) }
-    ensures fault { IfErr result.1 IsTurnFault }
-{
-    let (seat, turn) = office.save_turn(rt, seat, book);
-    (seat, saved(turn))
-}
-
 /// `Ok` only where there is nothing to save or the desk is halted; the contract does not say so.
-fn saved_all<R: Role, L: Ledger, S: Alter, W: Wait>(
+fn saved_all<R: Role, L: Ledger, B: Turns, W: Wait>(
     rt: &W,
     office: &Office<R, L>,
-    book: &mut BookStore<S>,
+    book: &mut B,
     seat: Seat<L>,
 ) -> (Seat<L>, Result<(), SaveFault>)
     ensures place { place_of result.0 ≡ place_of seat }
@@ -122,7 +92,7 @@ fn saved_all<R: Role, L: Ledger, S: Alter, W: Wait>(
 {
     let mut main = seat;
     for _ in rt.forever() {
-        let (back, saved) = turned(rt, office, book, main);
+        let (back, saved) = book.turned(rt, office, main);
         main = back;
         match saved {
             Ok(true) => {}
@@ -174,13 +144,13 @@ fn opened<R: Role, L: Ledger>(
     }
 }
 
-fn just_opened<R: Role, L: Ledger, S: Alter + Drop>(
+fn just_opened<R: Role, L: Ledger, B: Drop>(
     alloc: Global,
     office: Office<R, L>,
-    book: BookStore<S>,
+    book: B,
     seats: Vec<Seat<L>>,
     way: Link,
-) -> Running<R, L, S>
+) -> Running<R, L, B>
     ensures office { result.office ≡ office }
     ensures seats { result.seats ≡ seats }
     ensures sent { result.sent ≡ 0 }
@@ -196,8 +166,8 @@ fn just_opened<R: Role, L: Ledger, S: Alter + Drop>(
     }
 }
 
-impl<R: Role, L: Ledger, S: Alter + Drop> Running<R, L, S> {
-    pub(crate) fn open(station: Station<R, S>, sessions: u8) -> Result<Running<R, L, S>, AllocError>
+impl<R: Role, L: Ledger, B: Turns + Drop> Running<R, L, B> {
+    pub(crate) fn open(station: Station<R, B>, sessions: u8) -> Result<Running<R, L, B>, AllocError>
         requires name { station.blank.name ≡ L.name }
         requires whole { station.blank.parts ≡ L.parts }
         requires parts { station.blank.parts ≡ 16 }

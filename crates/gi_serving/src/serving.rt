@@ -11,6 +11,7 @@ use crate::closing::Closed;
 use crate::pieces::submission;
 use crate::serve_fault::ServeFault;
 use crate::station::Station;
+use crate::turns::Turns;
 use crate::watch::Watch;
 use gi_desk::Desk;
 use gi_initiator::Initiating;
@@ -53,9 +54,9 @@ fn batch_length(lines: &[Line]) -> usize
 fn made<
     L: Ledger + Send + Sync,
     K: Ledger + Send + Sync,
-    S: Alter + Drop + Send,
+    B: Turns + Drop + Send,
     T: Threads + Wait + Sync,
->(rt: &T, both: &mut Both<L, K, S>, lines: &[Line], batch: usize) -> Result<String, ServeFault>
+>(rt: &T, both: &mut Both<L, K, B>, lines: &[Line], batch: usize) -> Result<String, ServeFault>
     requires some { 0 < length lines.now }
     requires batch { batch ≡ lead lines.now }
     requires within { batch ≤ length lines.now }
@@ -79,9 +80,9 @@ fn made<
 fn made_and_saved<
     L: Ledger + Send + Sync,
     K: Ledger + Send + Sync,
-    S: Alter + Drop + Send,
+    B: Turns + Drop + Send,
     T: Threads + Wait + Sync,
->(rt: &T, both: &mut Both<L, K, S>, lines: &[Line], batch: usize) -> Result<String, ServeFault>
+>(rt: &T, both: &mut Both<L, K, B>, lines: &[Line], batch: usize) -> Result<String, ServeFault>
     requires some { 0 < length lines.now }
     requires batch { batch ≡ lead lines.now }
     requires within { batch ≤ length lines.now }
@@ -107,11 +108,11 @@ fn made_and_saved<
 fn step<
     L: Ledger + Send + Sync,
     K: Ledger + Send + Sync,
-    S: Alter + Drop + Send,
+    B: Turns + Drop + Send,
     T: Threads + Wait + Sync,
 >(
     rt: &T,
-    both: &mut Both<L, K, S>,
+    both: &mut Both<L, K, B>,
     lines: &[Line],
     batch: usize,
     text: &mut String,
@@ -142,12 +143,12 @@ fn step<
 fn run<
     L: Ledger + Send + Sync,
     K: Ledger + Send + Sync,
-    S: Alter + Drop + Send,
+    B: Turns + Drop + Send,
     T: Threads + Wait + Sync,
     V: Watch,
 >(
     rt: &T,
-    both: &mut Both<L, K, S>,
+    both: &mut Both<L, K, B>,
     lines: &[Line],
     text: &mut String,
     watch: &mut V,
@@ -188,8 +189,8 @@ fn told(text: &mut String, closed: Closed) -> Result<(), ServeFault>
     }
 }
 
-fn closed<L: Ledger, K: Ledger, S: Alter + Drop>(
-    both: Both<L, K, S>,
+fn closed<L: Ledger, K: Ledger, B: Turns + Drop>(
+    both: Both<L, K, B>,
     text: &mut String,
 ) -> Result<(), ServeFault>
     ensures { Closes L.parts K.parts both.sessions (offices_of both.initiating both.matching) (string_bytes text.old) (string_bytes text.new) result }
@@ -203,12 +204,12 @@ fn closed<L: Ledger, K: Ledger, S: Alter + Drop>(
 fn end_of<
     L: Ledger + Send + Sync,
     K: Ledger + Send + Sync,
-    S: Alter + Drop + Send,
+    B: Turns + Drop + Send,
     T: Threads + Wait + Sync,
     V: Watch,
 >(
     rt: &T,
-    both: Both<L, K, S>,
+    both: Both<L, K, B>,
     lines: &[Line],
     text: &mut String,
     watch: &mut V,
@@ -237,14 +238,14 @@ fn end_of<
 fn serve_by<
     L: Ledger + Send + Sync,
     K: Ledger + Send + Sync,
-    S: Alter + Drop + Send,
+    B: Turns + Drop + Send,
     T: Threads + Wait + Sync,
     V: Watch,
 >(
     rt: &T,
     sessions: u8,
-    initiating: Station<Initiating, S>,
-    matching: Station<Matching, S>,
+    initiating: Station<Initiating, B>,
+    matching: Station<Matching, B>,
     lines: &[Line],
     text: &mut String,
     watch: &mut V,
@@ -266,7 +267,7 @@ fn serve_by<
     ensures over { IsOver sessions lines.now (string_bytes text.new) result }
     ensures told { IsCut result → RunsSome sessions lines.now (V.told watch.new) (new_offices sessions) (string_bytes text.new) }
 {
-    match Both::<L, K, S>::open(sessions, initiating, matching) {
+    match Both::<L, K, B>::open(sessions, initiating, matching) {
         Ok(both) => end_of(rt, both, lines, text, watch),
         Err(_) => Err(ServeFault::OutOfMemory),
     }
@@ -312,7 +313,7 @@ pub fn serve<S: Alter + Drop + Send, T: Threads + Wait + Sync, V: Watch>(
         book,
     };
     let mut text = String::new(alloc);
-    let end = serve_by::<Brand, Brand, S, T, V>(
+    let end = serve_by::<Brand, Brand, BookStore<S>, T, V>(
         rt, sessions, initiating, matching, lines, &mut text, watch,
     );
     watch.ended();

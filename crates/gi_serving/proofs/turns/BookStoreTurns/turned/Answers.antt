@@ -3,7 +3,7 @@ use Rattle.gi_office.specs.declared.save_fault.SaveFault.{SaveFault}
 use Rattle.gi_serving.specs.Asking.{NotesMarks}
 use Rattle.gi_serving.proofs.Places.{turned}
 use Rattle.gi_serving.proofs.Turning.{turn_marks}
-use Rattle.gi_serving.proofs.running.turned.Goals as goal
+use Rattle.gi_serving.proofs.turns.BookStoreTurns.turned.Goals as goal
 
 pub returns-clause-place : goal.returns-clause-place
 returns-clause-place g c = turned g.R.Role.SIDE _ _ _ c.args.seat c.save_turn-seat.result.1 c.save_turn-seat.result.0 c.save_turn-seat.ensures
