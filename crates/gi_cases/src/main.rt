@@ -3,16 +3,13 @@
 //! expectation: `gi_cases SUBJECT < cases/SUBJECT/NAME.txt` prints the file again where all holds.
 #![tactic(auto)]
 
-use gi_book_cases::Books;
 use gi_calls::{Fault, answered};
-use gi_capacity_cases::{Nominations, Processing, Repeated};
-use gi_desk_cases::{Desks, Roles};
-use gi_desk_days::DrawnDays;
-use gi_message_cases::{Facts, Messages};
-use gi_office_cases::office_answers;
-use gi_script_cases::{Carriers, Reports, Scripts};
-use gi_table_cases::{Cycles, Days, Tables, walk_answers};
-use gi_world_cases::{Simulations, Worlds};
+use gi_desk_cases::{Desks, DrawnDays, Roles};
+use gi_message_cases::{
+    Cycles, Days, Facts, Messages, Nominations, Processing, Repeated, Tables, walk_answers,
+};
+use gi_office_cases::{Books, office_answers};
+use gi_world_cases::{Carriers, Reports, Scripts, Simulations, Worlds};
 use std::env;
 use std::io::{self, Write};
 use std::process::ExitCode;

@@ -1,5 +1,5 @@
-use Rattle.gi_capacity_cases.proofs.RecordsLaws.{sound_taken}
-use Rattle.gi_capacity_cases.proofs.processing.records.Records.take.Goals as goal
+use Rattle.gi_message_cases.proofs.RecordsLaws.{sound_taken}
+use Rattle.gi_message_cases.proofs.processing.records.Records.take.Goals as goal
 
 pub invariant_of-self : goal.invariant_of-self
 invariant_of-self c =

@@ -1,5 +1,5 @@
-use Rattle.gi_capacity_cases.proofs.RecordsLaws.{sound_set}
-use Rattle.gi_capacity_cases.proofs.processing.records.Records.set.Goals as goal
+use Rattle.gi_message_cases.proofs.RecordsLaws.{sound_set}
+use Rattle.gi_message_cases.proofs.processing.records.Records.set.Goals as goal
 
 pub invariant_of-self : goal.invariant_of-self
 invariant_of-self c =

@@ -1,6 +1,0 @@
-//! Books: what the cases about them call.
-#![tactic(auto)]
-
-mod books;
-
-pub use books::Books;
