@@ -19,7 +19,7 @@ use gi_text::RightInTwo;
 use std::alloc::{AllocError, Global};
 
 /// What two desks have of their cycles.
-#[derive(Debug, Drop)]
+#[derive(Drop)]
 pub struct Audited {
     /// A line for each cycle that either has closed, by gas day and number, and a last one.
     pub text: String,

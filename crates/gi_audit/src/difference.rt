@@ -2,7 +2,7 @@ use gi_pairs::Side;
 use std::fmt;
 
 /// What of the other side is against a table that a side met.
-#[derive(Clone, Copy, Debug)]
+#[derive(Clone, Copy)]
 pub(crate) enum Against {
     /// The other side has not closed the cycle.
     NotClosed,
@@ -28,7 +28,7 @@ impl fmt::Display for Against {
 }
 
 /// A table that a side met of a cycle, and that the other side has not written of it.
-#[derive(Clone, Copy, Debug)]
+#[derive(Clone, Copy)]
 pub(crate) struct Difference {
     /// Who met it.
     pub side: Side,

@@ -2,7 +2,7 @@ use crate::difference::Difference;
 use std::fmt;
 
 /// What is found of a cycle at two desks.
-#[derive(Clone, Copy, Debug)]
+#[derive(Clone, Copy)]
 pub(crate) enum Finding {
     /// Both have confirmed it, so much in each direction: in kWh, over all rows and hours.
     Agreed { im: u64, mi: u64 },

@@ -10,7 +10,7 @@ use std::cmp::Ordering;
 use std::fmt;
 
 /// The first hour of a row in which two tables read another quantity, and what both read.
-#[derive(Clone, Copy, Debug)]
+#[derive(Clone, Copy)]
 pub(crate) struct HourDifference {
     /// From 1.
     pub hour: u8,
@@ -31,7 +31,7 @@ impl fmt::Display for HourDifference {
 
 /// The first row in which two tables differ, and there the first hour: none where both read alike,
 /// as where a row of zeros is missing.
-#[derive(Clone, Copy, Debug)]
+#[derive(Clone, Copy)]
 pub(crate) struct Place {
     pub key: Key,
     pub hour: Option<HourDifference>,

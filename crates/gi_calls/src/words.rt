@@ -1,5 +1,6 @@
 use gi_day::GasDay;
 use gi_pairs::{Code, CycleId, Direction, Key, Pair, Quantity, Side};
+use gi_processing::{Contract, Notice};
 
 /// The words of a call that are still to be read, with one space between them.
 #[derive(Clone, Copy, Drop)]
@@ -101,6 +102,56 @@ impl<'a> Words<'a> {
         Some(Key {
             pair: self.pair()?,
             direction: self.direction()?,
+        })
+    }
+
+    /// The next word as thousandths.
+    pub fn permille(&mut self) -> Option<u16> {
+        self.next().parse::<u16>().ok()
+    }
+
+    /// The next five words as a contract: its portfolio, gas day and direction, and the firm and the
+    /// interruptible quantity, in kWh/h.
+    pub fn contract(&mut self) -> Option<Contract> {
+        let (Some(portfolio), Some(day), Some(direction), Some(firm), Some(interruptible)) = (
+            self.code(),
+            self.day(),
+            self.direction(),
+            self.quantity(),
+            self.quantity(),
+        ) else {
+            return None;
+        };
+        Some(Contract {
+            portfolio,
+            day,
+            direction,
+            firm,
+            interruptible,
+        })
+    }
+
+    /// The next six words as a notice: its gas day and direction, the first and the last hour, and the
+    /// thousandths of the firm and of the interruptible quantities.
+    pub fn notice(&mut self) -> Option<Notice> {
+        let (Some(day), Some(direction), Some(first), Some(last)) = (
+            self.day(),
+            self.direction(),
+            self.byte(),
+            self.byte(),
+        ) else {
+            return None;
+        };
+        let (Some(firm), Some(interruptible)) = (self.permille(), self.permille()) else {
+            return None;
+        };
+        Some(Notice {
+            day,
+            direction,
+            first,
+            last,
+            firm,
+            interruptible,
         })
     }
 }

@@ -19,7 +19,7 @@ pub const MOST_WAITING: usize = 4096;
 
 /// What passes from one office to the other: messages wait in a queue, and a plan says whether the
 /// next one comes out, is lost, is repeated, or is put last.
-#[derive(Debug, Drop)]
+#[derive(Drop)]
 pub struct Carrier {
     waiting: VecDeque<Vec<u8>>,
     position: u64,

@@ -13,7 +13,7 @@ use std::marker::Model;
 pub const MOST_MOVES: usize = 1000;
 
 /// The moves of a carrier, which come round again and again.
-#[derive(Debug, Drop)]
+#[derive(Drop)]
 pub struct Plan {
     moves: Vec<Move>,
 }

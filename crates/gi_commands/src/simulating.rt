@@ -10,7 +10,7 @@ use gi_simulation::{Simulation, simulate};
 use std::alloc::{AllocError, Global};
 
 /// What is written of a script.
-#[derive(Debug, Drop)]
+#[derive(Drop)]
 pub struct Written {
     pub text: String,
     /// Whether that is all; else memory ran out, and these are lines of the first steps.

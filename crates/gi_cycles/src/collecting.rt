@@ -6,7 +6,7 @@ use gi_pairs::{CycleId, Table};
 use std::marker::Model;
 
 /// A cycle that still collects nominations: no table is frozen yet.
-#[derive(Debug, Drop)]
+#[derive(Drop)]
 pub struct Collecting {
     id: CycleId,
 }

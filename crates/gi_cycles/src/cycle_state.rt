@@ -3,7 +3,7 @@ use crate::frozen::Frozen;
 use crate::matched::Matched;
 
 /// How far a cycle is at an operator.
-#[derive(Debug, Drop)]
+#[derive(Drop)]
 pub enum CycleState {
     /// Nominations are collected.
     Collecting(Collecting),

@@ -11,7 +11,7 @@ use std::alloc::Global;
 use std::marker::Model;
 
 /// A closed cycle: the operator's processed table is frozen, and no call changes it.
-#[derive(Debug, Drop)]
+#[derive(Drop)]
 pub struct Frozen {
     id: CycleId,
     own: Table,

@@ -7,7 +7,7 @@ use gi_pairs::{CycleId, Table};
 use std::marker::Model;
 
 /// A cycle whose own frozen table has met the peer's: the lesser of both is confirmed.
-#[derive(Debug, Drop)]
+#[derive(Drop)]
 pub struct Matched {
     id: CycleId,
     own: Table,

@@ -42,7 +42,7 @@ impl Error for CalendarFault {}
 const ZONE_TEXT: &str = "CET-1CEST,M3.5.0,M10.5.0/3";
 
 /// The clock by which gas days start, 06:00 of Central European time.
-#[derive(Debug, Drop)]
+#[derive(Drop)]
 pub struct Calendar {
     zone: jiff_tz::TimeZone<'static>,
 }

@@ -7,7 +7,7 @@ use gi_processing::{Contract, Notice};
 use std::alloc::AllocError;
 
 /// What a desk is asked.
-#[derive(Debug, Drop)]
+#[derive(Drop)]
 pub enum Call {
     /// Record a contract.
     Contract(Contract),

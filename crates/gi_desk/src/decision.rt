@@ -2,7 +2,7 @@ use crate::refusal::Refusal;
 use gi_pairs::Table;
 
 /// What a role makes of the peer's message.
-#[derive(Debug, Drop)]
+#[derive(Drop)]
 pub enum Decision {
     /// The cycle meets this table of the peer.
     Meet(Table),

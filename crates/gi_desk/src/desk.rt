@@ -22,7 +22,7 @@ use std::collections::BTreeMap;
 use std::marker::{Model, PhantomData};
 
 /// One operator's desk: its facts, and what they come to.
-#[derive(Debug, Drop)]
+#[derive(Drop)]
 pub struct Desk<R: Role> {
     alloc: Global,
     calendar: Calendar,

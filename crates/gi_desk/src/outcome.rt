@@ -3,7 +3,7 @@ use gi_facts::Fact;
 use gi_pairs::CycleId;
 
 /// What a call comes to.
-#[derive(Debug, Drop)]
+#[derive(Drop)]
 pub enum Outcome {
     /// A new fact is recorded.
     Records(Fact),

@@ -18,7 +18,7 @@ pub enum Recipient {
 }
 
 /// The bytes of a message.
-#[derive(Debug, Drop)]
+#[derive(Drop)]
 pub struct Body {
     bytes: Vec<u8>,
 }
@@ -64,7 +64,7 @@ impl Body {
 }
 
 /// A message that a desk lets out.
-#[derive(Debug, Drop)]
+#[derive(Drop)]
 pub struct Packet {
     pub to: Recipient,
     pub body: Body,
@@ -92,7 +92,7 @@ impl Packet {
 }
 
 /// Packets in the order in which they are let out.
-#[derive(Debug, Drop)]
+#[derive(Drop)]
 pub struct Packets {
     packets: Vec<Packet>,
 }

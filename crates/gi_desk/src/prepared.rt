@@ -5,7 +5,7 @@ use crate::reply::Reply;
 
 /// A step that is computed and not yet made: `Desk::prepare` gives it, and `Desk::make` makes it.
 /// Between the two its caller makes what memory may be wanted for, so that nothing is left to undo.
-#[derive(Debug, Drop)]
+#[derive(Drop)]
 pub struct Prepared {
     pub(crate) outcome: Outcome,
     pub(crate) reply: Reply,

@@ -56,28 +56,28 @@ impl fmt::Display for Refusal {
     ghost output = { λ refusal. Some (refusal_text refusal) };
 
     fn fmt<W: fmt::Write>(&self, f: &mut fmt::Formatter<W>) -> fmt::Result {
-        match self {
-            Refusal::Halted => f.write_str("Halted"),
-            Refusal::TooManyPortfolios => f.write_str("TooManyPortfolios"),
-            Refusal::Calendar(fault) => write!(f, "Calendar {fault}"),
-            Refusal::NoticeRange => f.write_str("NoticeRange"),
-            Refusal::PermilleRange => f.write_str("PermilleRange"),
-            Refusal::Message(fault) => write!(f, "Message {fault}"),
-            Refusal::WrongKind => f.write_str("WrongKind"),
-            Refusal::Nomination(fault) => write!(f, "{fault}"),
-            Refusal::NoSuchCycle => f.write_str("NoSuchCycle"),
-            Refusal::AlreadyClosed => f.write_str("AlreadyClosed"),
-            Refusal::OutOfOrder { last } => write!(f, "OutOfOrder {last}"),
-            Refusal::WrongPoint => f.write_str("WrongPoint"),
-            Refusal::NotClosed => f.write_str("NotClosed"),
-            Refusal::ShapeDiffers => f.write_str("ShapeDiffers"),
-            Refusal::NotTheLesser { row } => write!(f, "NotTheLesser {row}"),
-            Refusal::Conflict => f.write_str("Conflict"),
-            Refusal::NotNext { expected } => write!(f, "NotNext {expected}"),
-            Refusal::OtherFact => f.write_str("OtherFact"),
-            Refusal::Full => f.write_str("Full"),
-            Refusal::OutOfMemory => f.write_str("OutOfMemory"),
-        }
+        f.write_str(match self {
+            Refusal::Halted => "Halted",
+            Refusal::TooManyPortfolios => "TooManyPortfolios",
+            Refusal::Calendar(fault) => return write!(f, "Calendar {fault}"),
+            Refusal::NoticeRange => "NoticeRange",
+            Refusal::PermilleRange => "PermilleRange",
+            Refusal::Message(fault) => return write!(f, "Message {fault}"),
+            Refusal::WrongKind => "WrongKind",
+            Refusal::Nomination(fault) => return fmt::Display::fmt(fault, f),
+            Refusal::NoSuchCycle => "NoSuchCycle",
+            Refusal::AlreadyClosed => "AlreadyClosed",
+            Refusal::OutOfOrder { last } => return write!(f, "OutOfOrder {last}"),
+            Refusal::WrongPoint => "WrongPoint",
+            Refusal::NotClosed => "NotClosed",
+            Refusal::ShapeDiffers => "ShapeDiffers",
+            Refusal::NotTheLesser { row } => return write!(f, "NotTheLesser {row}"),
+            Refusal::Conflict => "Conflict",
+            Refusal::NotNext { expected } => return write!(f, "NotNext {expected}"),
+            Refusal::OtherFact => "OtherFact",
+            Refusal::Full => "Full",
+            Refusal::OutOfMemory => "OutOfMemory",
+        })
     }
 }
 

@@ -19,7 +19,7 @@ pub enum Answer {
 }
 
 /// What a desk makes of a call: its answer, and the packets that it lets out.
-#[derive(Debug, Drop)]
+#[derive(Drop)]
 pub struct Reply {
     pub answer: Answer,
     pub out: Packets,

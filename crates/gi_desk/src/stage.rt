@@ -1,7 +1,7 @@
 use gi_cycles::CycleState;
 
 /// How far a closed cycle is, and which facts say so.
-#[derive(Debug, Drop)]
+#[derive(Drop)]
 pub(crate) struct Stage {
     pub state: CycleState,
     /// The number of the fact that closed it, from 1.

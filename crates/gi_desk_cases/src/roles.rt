@@ -8,7 +8,7 @@ mod tables;
 
 use comparing::compared;
 use deciding::decided;
-use gi_calls::{Answer, Fault, Subject, Words};
+use gi_calls::{Answer, Fault, Subject, Words, table_of};
 use gi_cycles::{Collecting, CycleState, Frozen};
 use gi_desk::Role;
 use gi_initiator::Initiating;
@@ -17,7 +17,6 @@ use gi_pairs::{MOST_PROCESSED_ROWS, Table};
 use sending::sent;
 use std::alloc::Global;
 use std::mem::ManuallyDrop;
-use tables::table_of;
 
 // What goes out of scope here is handed to `drop`, by one call, since it would be checked field by
 // field on each way out.

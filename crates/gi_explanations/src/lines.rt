@@ -11,7 +11,7 @@ use gi_messages::Line;
 use gi_pairs::{Code, Direction};
 
 /// Which counterparties are summed, beside a code.
-#[derive(Clone, Copy, Debug)]
+#[derive(Clone, Copy)]
 pub(crate) enum Span {
     /// Those before it.
     Before,

@@ -11,7 +11,7 @@ use crate::wanted::Wanted;
 use gi_desk::{Desk, Role};
 
 /// The numbers of facts, from 1; 0 where there is no such fact.
-#[derive(Clone, Copy, Debug)]
+#[derive(Clone, Copy)]
 pub(crate) struct Numbers {
     pub nomination: u32,
     pub contract: u32,

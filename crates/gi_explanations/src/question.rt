@@ -1,7 +1,7 @@
 use gi_pairs::{CycleId, Direction, Pair};
 
 /// Which quantity is asked about.
-#[derive(Clone, Copy, Debug)]
+#[derive(Clone, Copy)]
 pub struct Question {
     pub pair: Pair,
     pub direction: Direction,

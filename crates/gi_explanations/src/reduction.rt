@@ -21,7 +21,7 @@ use gi_processing::{Contract, MOST_PERMILLE, Notice};
 use std::alloc::{AllocError, Global};
 
 /// What is available, and the sums of what is nominated, in kWh/h.
-#[derive(Clone, Copy, Debug)]
+#[derive(Clone, Copy)]
 pub(crate) struct Amounts {
     pub available: u64,
     /// Of the counterparties before the one that is asked about.

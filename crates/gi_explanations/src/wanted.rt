@@ -9,7 +9,7 @@ use gi_pairs::{Code, CycleId, Direction};
 use gi_processing::{Contract, Notice};
 
 /// Which facts are looked for.
-#[derive(Clone, Copy, Debug)]
+#[derive(Clone, Copy)]
 pub(crate) enum Wanted {
     /// The nominations of a portfolio for a gas day.
     Nomination(Code, GasDay),

@@ -5,7 +5,7 @@ use gi_desk::StageName;
 use gi_pairs::CycleId;
 
 /// A closed cycle that is not confirmed, and how far it is.
-#[derive(Clone, Copy, Debug)]
+#[derive(Clone, Copy)]
 pub struct OpenCycle {
     pub id: CycleId,
     pub stage: StageName,

@@ -7,7 +7,7 @@ use gi_processing::{Contract, Notice};
 use std::alloc::AllocError;
 
 /// What an operator has recorded.
-#[derive(Debug, Drop)]
+#[derive(Drop)]
 pub enum Fact {
     /// A portfolio's contract.
     Contracted(Contract),

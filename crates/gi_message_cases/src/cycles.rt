@@ -1,7 +1,6 @@
 //! The lesser of two tables, and the states of a cycle.
 
-use crate::table_text::{add_table, table_of};
-use gi_calls::{Answer, Fault, Subject, Words};
+use gi_calls::{Answer, Fault, Subject, Words, add_table, table_of};
 use gi_cycles::{Collecting, CycleState, Frozen, Matched, MeetFault};
 use gi_lesser::lesser;
 use gi_pairs::{CycleId, Key, MOST_PROCESSED_ROWS, Table};
@@ -11,14 +10,6 @@ use std::alloc::Global;
 #[derive(Drop)]
 pub struct Cycles {
     state: Option<CycleState>,
-}
-
-/// The table of the words, where it is one.
-fn given_table(alloc: Global, text: &str) -> Result<Option<Table>, Fault> {
-    match table_of(alloc, text)? {
-        Some(Ok(table)) => Ok(Some(table)),
-        _ => Ok(None),
-    }
 }
 
 /// Adds the lesser of two tables, which are for the same hours and have as many rows as processed
@@ -36,7 +27,7 @@ fn add_lesser(alloc: Global, own: &Table, peer: &Table, text: &mut Answer) -> Re
 
 /// Adds the lesser of a table and that of the words.
 fn lesser_with(alloc: Global, own: &Table, peer: &str, text: &mut Answer) -> Result<bool, Fault> {
-    match given_table(alloc, peer)? {
+    match table_of(alloc, peer)? {
         Some(peer) => add_lesser(alloc, own, &peer, text),
         None => Ok(false),
     }
@@ -47,7 +38,7 @@ fn lesser_of(alloc: Global, tables: &str, text: &mut Answer) -> Result<bool, Fau
     let Some((own, peer)) = tables.split_once(" with ") else {
         return Ok(false);
     };
-    match given_table(alloc, own)? {
+    match table_of(alloc, own)? {
         Some(own) => lesser_with(alloc, &own, peer, text),
         None => Ok(false),
     }
@@ -171,7 +162,7 @@ impl Cycles {
 
     /// `close TABLE`: freezes the table of a cycle that collects.
     fn close(&mut self, alloc: Global, given: &str, text: &mut Answer) -> Result<bool, Fault> {
-        match given_table(alloc, given)? {
+        match table_of(alloc, given)? {
             Some(processed) => Ok(self.close_with(processed, text)),
             None => Ok(false),
         }
@@ -198,7 +189,7 @@ impl Cycles {
 
     /// `meet TABLE`: where it is refused, the frozen cycle that comes back is kept.
     fn meet(&mut self, alloc: Global, given: &str, text: &mut Answer) -> Result<bool, Fault> {
-        match given_table(alloc, given)? {
+        match table_of(alloc, given)? {
             Some(peer) => Ok(self.meet_with(alloc, peer, text)),
             None => Ok(false),
         }

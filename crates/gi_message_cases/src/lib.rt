@@ -15,7 +15,6 @@ mod order;
 mod processing;
 mod repeated;
 mod sides;
-mod table_text;
 mod tables;
 mod walks;
 

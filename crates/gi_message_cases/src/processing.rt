@@ -1,7 +1,6 @@
 //! What is available to a portfolio, and what of its nomination is processed.
 
 mod one_by_one;
-mod reading;
 mod recorded;
 mod records;
 mod reducing;
@@ -12,7 +11,6 @@ use gi_day::NoSuchCycle;
 use gi_pairs::Table;
 use gi_processing::{ContractFault, MOST_PERMILLE, MOST_PORTFOLIOS, NoticeFault};
 use one_by_one::reduce_triples;
-use reading::notice;
 use recorded::answer_recorded;
 use records::{Records, fault};
 use reducing::reduce;
@@ -34,8 +32,8 @@ pub struct Processing {
 }
 
 /// Adds why a notice is refused, if it is.
-fn add_fault(words: Words<'_>, text: &mut Answer) -> bool {
-    let Some(notice) = notice(words) else {
+fn add_fault(mut words: Words<'_>, text: &mut Answer) -> bool {
+    let Some(notice) = words.notice() else {
         return false;
     };
     match fault(&notice) {

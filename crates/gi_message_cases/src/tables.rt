@@ -2,8 +2,9 @@
 
 use crate::order::order_of;
 use crate::sides::{other, pair_at, pair_of};
-use crate::table_text::{add_hours, add_key, add_row, add_table, hours_of, row_of, table_of};
-use gi_calls::{Answer, Fault, Subject, Words};
+use gi_calls::{
+    Answer, Fault, Subject, Words, add_hours, add_key, add_row, add_table, build, hours_of, row_of,
+};
 use gi_pairs::{
     Code, CodeText, Direction, Hours, Key, LAST_HOUR, MOST_PROCESSED_ROWS, MOST_ROWS, Quantity,
     QuantityRange, Row, Side, Table, TableFault,
@@ -214,7 +215,7 @@ impl Tables {
 
     /// `build FIRST LAST ROWS`; where it is refused the table before it stays.
     fn build(&mut self, alloc: Global, given: &str, text: &mut Answer) -> Result<bool, Fault> {
-        let Some(built) = table_of(alloc, given)? else {
+        let Some(built) = build(alloc, given)? else {
             return Ok(false);
         };
         match built {

@@ -5,7 +5,7 @@ use std::alloc::AllocError;
 
 /// A line of a nomination or of a confirmation: the quantities that one portfolio and its
 /// counterparty at the other operator exchange in a direction.
-#[derive(Debug, Drop, PartialEq, Eq)]
+#[derive(Drop, PartialEq, Eq)]
 pub struct Line {
     /// The portfolio at the other operator.
     pub counterparty: Code,

@@ -16,7 +16,7 @@ pub const LAST_VERSION: u32 = 999_999_999;
 
 /// What a shipper nominates: all lines of one portfolio for one gas day, in both directions. No
 /// lines at all withdraw what was nominated.
-#[derive(Debug, Drop, PartialEq, Eq)]
+#[derive(Drop, PartialEq, Eq)]
 pub struct Nomint {
     pub point: Code,
     pub portfolio: Code,
@@ -52,7 +52,7 @@ pub struct Acknow {
 }
 
 /// What an operator tells a portfolio: its confirmed quantities of a cycle.
-#[derive(Debug, Drop)]
+#[derive(Drop)]
 pub struct Nomres {
     pub point: Code,
     pub portfolio: Code,
@@ -68,7 +68,7 @@ pub struct Nomres {
 }
 
 /// What the initiating operator sends to the matching one: its processed quantities of a cycle.
-#[derive(Debug, Drop)]
+#[derive(Drop)]
 pub struct Delord {
     pub point: Code,
     pub day: GasDay,
@@ -80,7 +80,7 @@ pub struct Delord {
 
 /// What the matching operator answers: its own processed quantities and the confirmed ones, both
 /// for the same hours.
-#[derive(Debug, Drop)]
+#[derive(Drop)]
 pub struct Delres {
     pub point: Code,
     pub day: GasDay,
@@ -93,7 +93,7 @@ pub struct Delres {
 }
 
 /// A message between an operator and a shipper, or between the two operators.
-#[derive(Debug, Drop)]
+#[derive(Drop)]
 pub enum Message {
     Nomint(Nomint),
     Acknow(Acknow),

@@ -20,7 +20,7 @@ use std::marker::Model;
 
 /// The nominations in force at an interconnection point: of those that an operator has taken from
 /// its shippers the last one of each portfolio and gas day. What was in force before is not kept.
-#[derive(Debug, Drop)]
+#[derive(Drop)]
 pub struct Book {
     point: Code,
     documents: BTreeMap<PortfolioDay, Nomint>,

@@ -30,16 +30,16 @@ impl fmt::Display for NominationFault {
     ghost output = { λ fault. Some (fault_text fault) };
 
     fn fmt<W: fmt::Write>(&self, f: &mut fmt::Formatter<W>) -> fmt::Result {
-        match self {
-            NominationFault::WrongPoint => f.write_str("WrongPoint"),
-            NominationFault::UnknownPortfolio => f.write_str("UnknownPortfolio"),
-            NominationFault::HourCount => f.write_str("HourCount"),
-            NominationFault::TooManyLines => f.write_str("TooManyLines"),
-            NominationFault::DuplicateLine => f.write_str("DuplicateLine"),
-            NominationFault::DayOver => f.write_str("DayOver"),
-            NominationFault::Stale { held } => write!(f, "Stale {held}"),
-            NominationFault::Conflict { held } => write!(f, "Conflict {held}"),
-        }
+        f.write_str(match self {
+            NominationFault::WrongPoint => "WrongPoint",
+            NominationFault::UnknownPortfolio => "UnknownPortfolio",
+            NominationFault::HourCount => "HourCount",
+            NominationFault::TooManyLines => "TooManyLines",
+            NominationFault::DuplicateLine => "DuplicateLine",
+            NominationFault::DayOver => "DayOver",
+            NominationFault::Stale { held } => return write!(f, "Stale {held}"),
+            NominationFault::Conflict { held } => return write!(f, "Conflict {held}"),
+        })
     }
 }
 

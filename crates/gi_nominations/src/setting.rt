@@ -1,7 +1,7 @@
 use gi_day::DayFrame;
 
 /// What a nomination is judged by, beside the book.
-#[derive(Clone, Copy, Debug)]
+#[derive(Clone, Copy)]
 pub struct Setting {
     /// The frame of the nomination's gas day.
     pub frame: DayFrame,

@@ -4,7 +4,7 @@ use gi_desk::Fact;
 use std::marker::Model;
 
 /// Facts in the order of their numbers.
-#[derive(Debug, Drop)]
+#[derive(Drop)]
 pub struct Facts {
     facts: Vec<Fact>,
 }

@@ -1,7 +1,7 @@
 use crate::facts::Facts;
 
 /// What is to be saved of a desk.
-#[derive(Debug, Drop)]
+#[derive(Drop)]
 pub enum Look {
     /// The desk is halted.
     Halted,

@@ -1,7 +1,7 @@
 use gi_desk::Reply;
 
 /// What a seat is given for its call.
-#[derive(Debug, Drop)]
+#[derive(Drop)]
 pub struct Receipt {
     /// The seat's number, from 1.
     pub seat: u8,

@@ -1,7 +1,7 @@
 use crate::receipt::Receipt;
 
 /// What a turn that saves came to.
-#[derive(Debug, Drop)]
+#[derive(Drop)]
 pub enum Turn {
     /// All facts are saved.
     Nothing,

@@ -1,6 +1,6 @@
 //! Books of facts: their databases, what they hold, and the desk that is replayed from one.
 
-mod batches;
+pub(crate) mod batches;
 mod desks;
 mod opened;
 mod rows;

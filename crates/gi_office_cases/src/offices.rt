@@ -3,14 +3,14 @@
 
 ghost use Rattle.std.specs.Prelude.{◌≡◌};
 
-mod calls;
+pub(crate) mod calls;
 mod documents;
 mod gates;
 mod opened;
 mod opening;
 mod saving;
 mod seats;
-mod texts;
+pub(crate) mod texts;
 
 use crate::offices::opened::{Opened, keep_settled};
 use gi_calls::{Answer, Fault, Words, add_answer, add_case};

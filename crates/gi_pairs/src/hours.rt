@@ -8,7 +8,7 @@ use std::alloc::AllocError;
 use std::marker::Model;
 
 /// The quantities of consecutive hours, in order, each in kWh/h.
-#[derive(Debug, Drop)]
+#[derive(Drop)]
 pub struct Hours {
     quantities: Vec<Quantity>,
 }

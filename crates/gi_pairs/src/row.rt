@@ -8,7 +8,7 @@ use crate::pair::Pair;
 use std::alloc::AllocError;
 
 /// A row of a table: the quantities of a pair in a direction, one for each covered hour.
-#[derive(Debug, Drop, PartialEq, Eq)]
+#[derive(Drop, PartialEq, Eq)]
 pub struct Row {
     pub pair: Pair,
     pub direction: Direction,

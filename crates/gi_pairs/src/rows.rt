@@ -5,14 +5,14 @@ use std::alloc::{AllocError, Global};
 use std::marker::Model;
 use std::sync::Arc;
 
-#[derive(Debug, Drop)]
+#[derive(Drop)]
 enum Kept {
     Own(Vec<Row>),
     Shared(Arc<Vec<Row>, Global>),
 }
 
 /// The rows of a table: its own, or in memory that its copies share.
-#[derive(Debug, Drop)]
+#[derive(Drop)]
 pub(crate) struct Rows {
     kept: Kept,
 }

@@ -68,7 +68,7 @@ impl Error for TableFault {}
 /// A table of quantities in kWh/h, by pair, direction and hour. It covers the hours from `first`
 /// to `last`, numbered from 1, has at most 8,192 rows in table order (by initiating code, matching
 /// code, `IM` before `MI`), and reads 0 outside its rows and hours.
-#[derive(Debug, Drop)]
+#[derive(Drop)]
 pub struct Table {
     first: u8,
     last: u8,

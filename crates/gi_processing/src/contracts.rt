@@ -29,7 +29,7 @@ use std::collections::BTreeMap;
 use std::marker::Model;
 
 /// The contracts that stand at a side, and what the notices leave of them.
-#[derive(Debug, Drop)]
+#[derive(Drop)]
 pub struct Contracts {
     contracts: BTreeMap<ContractKey, Contracted>,
     /// A row for each gas day and direction that has a notice.

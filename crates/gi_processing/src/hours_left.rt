@@ -5,7 +5,7 @@ ghost use Rattle.gi_processing.specs.Recording.{IsNotice};
 use crate::notice::{MOST_PERMILLE, Notice};
 
 /// How many thousandths of both quantities of a contract are available in an hour.
-#[derive(Clone, Copy, Debug)]
+#[derive(Clone, Copy)]
 pub(crate) struct Thousandths {
     pub firm: u16,
     pub interruptible: u16,
@@ -20,7 +20,7 @@ impl Thousandths {
 }
 
 /// What notices leave of each hour of a gas day and direction: all of it where none covers the hour.
-#[derive(Clone, Copy, Debug)]
+#[derive(Clone, Copy)]
 pub(crate) struct HoursLeft {
     hours: [Thousandths; 25],
 }

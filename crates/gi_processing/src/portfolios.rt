@@ -11,7 +11,7 @@ use std::marker::Model;
 pub const MOST_PORTFOLIOS: usize = 64;
 
 /// The portfolios that have contracts, each once. They take no memory.
-#[derive(Debug, Drop)]
+#[derive(Drop)]
 pub(crate) struct Portfolios {
     codes: [Code; 64],
     count: usize,

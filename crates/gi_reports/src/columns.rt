@@ -9,7 +9,7 @@ use gi_pairs::Code;
 use std::fmt;
 
 /// A number that is printed right in six places.
-#[derive(Clone, Copy, Debug)]
+#[derive(Clone, Copy)]
 pub(crate) struct RightInSix {
     pub number: u64,
 }
@@ -24,7 +24,7 @@ impl fmt::Display for RightInSix {
 }
 
 /// A number that is printed right in twelve places.
-#[derive(Clone, Copy, Debug)]
+#[derive(Clone, Copy)]
 pub(crate) struct RightInTwelve {
     pub number: u64,
 }
@@ -39,7 +39,7 @@ impl fmt::Display for RightInTwelve {
 }
 
 /// A code that is printed left in sixteen places, and `?` where there is none.
-#[derive(Clone, Copy, Debug)]
+#[derive(Clone, Copy)]
 pub(crate) struct LeftInSixteen {
     pub code: Option<Code>,
 }

@@ -7,7 +7,7 @@ use std::hash::{Hash, Hasher};
 use std::marker::Model;
 
 /// Who made a submission: a portfolio, or nobody known where the submission cannot be read.
-#[derive(Clone, Copy, Debug)]
+#[derive(Clone, Copy)]
 pub(crate) struct Submitter {
     pub code: Option<Code>,
 }

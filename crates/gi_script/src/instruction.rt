@@ -3,7 +3,7 @@ use gi_desk::Call;
 use gi_pairs::Side;
 
 /// What a line of a script asks.
-#[derive(Debug, Drop)]
+#[derive(Drop)]
 pub enum Instruction {
     /// A call of that side's desk: contract, notice, submit, close, resend or halt.
     Call { side: Side, call: Call },

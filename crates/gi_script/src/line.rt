@@ -1,7 +1,7 @@
 use crate::instruction::Instruction;
 
 /// A line of a script.
-#[derive(Debug, Drop)]
+#[derive(Drop)]
 pub struct Line {
     /// From 1, empty lines counted.
     pub number: u64,

@@ -5,7 +5,7 @@ use gi_pairs::Code;
 use std::marker::Model;
 
 /// What a script asks, in order, at a point.
-#[derive(Debug, Drop)]
+#[derive(Drop)]
 pub struct Script {
     point: Code,
     lines: Vec<Line>,

@@ -13,7 +13,7 @@ use std::alloc::{AllocError, Global};
 use std::sync::ledger::Ledger;
 
 /// The last lines, and how it ended.
-#[derive(Debug, Drop)]
+#[derive(Drop)]
 pub struct Closed {
     pub text: String,
     pub end: Result<(), ServeFault>,

@@ -35,9 +35,9 @@ impl fmt::Display for ServeFault {
 
     fn fmt<W: fmt::Write>(&self, f: &mut fmt::Formatter<W>) -> fmt::Result {
         match self {
-            ServeFault::Turn(fault) => write!(f, "{fault}"),
-            ServeFault::Unsettled(fault) => write!(f, "{fault}"),
-            ServeFault::Unreconciled(fault) => write!(f, "{fault}"),
+            ServeFault::Turn(fault) => fmt::Display::fmt(fault, f),
+            ServeFault::Unsettled(fault) => fmt::Display::fmt(fault, f),
+            ServeFault::Unreconciled(fault) => fmt::Display::fmt(fault, f),
             ServeFault::OutOfMemory => f.write_str("OutOfMemory"),
         }
     }

@@ -26,7 +26,7 @@ use std::sync::ledger::{Blank, Ledger};
 use std::thread::Threads;
 
 /// What a script came to: a line for each step and the last lines, and how it ended.
-#[derive(Debug, Drop)]
+#[derive(Drop)]
 pub struct Served {
     pub text: String,
     pub end: Result<(), ServeFault>,

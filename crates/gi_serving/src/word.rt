@@ -35,16 +35,16 @@ impl fmt::Display for Word {
     ghost output = { λ word. Some (word_text word) };
 
     fn fmt<W: fmt::Write>(&self, f: &mut fmt::Formatter<W>) -> fmt::Result {
-        match self {
-            Word::Recorded => f.write_str("recorded"),
-            Word::Repeat => f.write_str("repeat"),
-            Word::Saved => f.write_str("saved"),
-            Word::Resent => f.write_str("resent"),
-            Word::Stopped => f.write_str("stopped"),
-            Word::Nothing => f.write_str("nothing"),
-            Word::Refused(refusal) => write!(f, "refused {refusal}"),
-            Word::SeatFull => f.write_str("refused SeatFull"),
-        }
+        f.write_str(match self {
+            Word::Recorded => "recorded",
+            Word::Repeat => "repeat",
+            Word::Saved => "saved",
+            Word::Resent => "resent",
+            Word::Stopped => "stopped",
+            Word::Nothing => "nothing",
+            Word::Refused(refusal) => return write!(f, "refused {refusal}"),
+            Word::SeatFull => "refused SeatFull",
+        })
     }
 }
 

@@ -32,16 +32,17 @@ impl fmt::Display for Outcome {
     ghost output = { λ outcome. Some (outcome_text outcome) };
 
     fn fmt<W: fmt::Write>(&self, f: &mut fmt::Formatter<W>) -> fmt::Result {
-        match self {
-            Outcome::Recorded(n) => write!(f, "recorded {n}"),
-            Outcome::Repeat(n) => write!(f, "repeat {n}"),
-            Outcome::Saved(n) => write!(f, "saved {n}"),
-            Outcome::Resent(packets) => write!(f, "resent {packets}"),
-            Outcome::Stopped => f.write_str("stopped"),
-            Outcome::Restarted(saved) => write!(f, "restarted {saved}"),
-            Outcome::Nothing => f.write_str("nothing"),
-            Outcome::Refused(refusal) => write!(f, "refused {refusal}"),
-            Outcome::NotMade(fault) => write!(f, "refused {fault}"),
-        }
+        let (word, number) = match self {
+            Outcome::Recorded(n) => ("recorded ", n),
+            Outcome::Repeat(n) => ("repeat ", n),
+            Outcome::Saved(n) => ("saved ", n),
+            Outcome::Resent(packets) => return write!(f, "resent {packets}"),
+            Outcome::Stopped => return f.write_str("stopped"),
+            Outcome::Restarted(saved) => ("restarted ", saved),
+            Outcome::Nothing => return f.write_str("nothing"),
+            Outcome::Refused(refusal) => return write!(f, "refused {refusal}"),
+            Outcome::NotMade(fault) => return write!(f, "refused {fault}"),
+        };
+        write!(f, "{word}{number}")
     }
 }

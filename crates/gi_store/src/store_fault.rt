@@ -66,16 +66,16 @@ impl fmt::Display for StoreFault {
     ghost output = { λ fault. Some (fault_text fault) };
 
     fn fmt<W: fmt::Write>(&self, f: &mut fmt::Formatter<W>) -> fmt::Result {
-        match self {
-            StoreFault::Version => f.write_str("Version"),
-            StoreFault::Gap(n) => write!(f, "Gap {n}"),
-            StoreFault::Damaged(n) => write!(f, "Damaged {n}"),
-            StoreFault::BatchSize => f.write_str("BatchSize"),
-            StoreFault::NotLoaded => f.write_str("NotLoaded"),
-            StoreFault::NotNext { expected } => write!(f, "NotNext {expected}"),
-            StoreFault::Store => f.write_str("Store"),
-            StoreFault::OutOfMemory => f.write_str("OutOfMemory"),
-        }
+        f.write_str(match self {
+            StoreFault::Version => "Version",
+            StoreFault::Gap(n) => return write!(f, "Gap {n}"),
+            StoreFault::Damaged(n) => return write!(f, "Damaged {n}"),
+            StoreFault::BatchSize => "BatchSize",
+            StoreFault::NotLoaded => "NotLoaded",
+            StoreFault::NotNext { expected } => return write!(f, "NotNext {expected}"),
+            StoreFault::Store => "Store",
+            StoreFault::OutOfMemory => "OutOfMemory",
+        })
     }
 }
 

@@ -14,7 +14,7 @@ const MOST_READS: u32 = 134_217_728;
 const CHUNK: usize = 65_536;
 
 /// How a reader has been called: how often, and whether a call failed for good.
-#[derive(Clone, Copy, Debug)]
+#[derive(Clone, Copy)]
 pub struct Calls {
     pub made: u32,
     pub failed: bool,

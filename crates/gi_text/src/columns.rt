@@ -6,7 +6,7 @@ ghost use Rattle.gi_text.specs.Columns.{right_in, two_digits};
 use std::fmt;
 
 /// A number that is printed right in two places.
-#[derive(Clone, Copy, Debug)]
+#[derive(Clone, Copy)]
 pub struct RightInTwo {
     pub number: u64,
 }
@@ -21,7 +21,7 @@ impl fmt::Display for RightInTwo {
 }
 
 /// A number that is printed in two digits, the first a zero where it is below 10.
-#[derive(Clone, Copy, Debug)]
+#[derive(Clone, Copy)]
 pub struct TwoDigits {
     pub number: u8,
 }

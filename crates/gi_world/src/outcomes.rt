@@ -5,7 +5,7 @@ use crate::world_reply::WorldReply;
 use std::marker::Model;
 
 /// What came of the steps of a run, in their order.
-#[derive(Debug, Drop)]
+#[derive(Drop)]
 pub struct Outcomes {
     outcomes: Vec<Result<WorldReply, WorldFault>>,
 }

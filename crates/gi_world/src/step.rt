@@ -2,7 +2,7 @@ use gi_desk::Call;
 use gi_pairs::Side;
 
 /// What happens next at one of the two operators.
-#[derive(Debug, Drop)]
+#[derive(Drop)]
 pub enum Step {
     /// The side's desk is asked this; a delivery has a step of its own.
     Local { side: Side, call: Call },

@@ -36,13 +36,13 @@ impl fmt::Display for WorldFault {
     ghost output = { λ fault. Some (world_fault_text fault) };
 
     fn fmt<W: fmt::Write>(&self, f: &mut fmt::Formatter<W>) -> fmt::Result {
-        match self {
-            WorldFault::NotLocal => f.write_str("NotLocal"),
-            WorldFault::NoSuchPacket => f.write_str("NoSuchPacket"),
-            WorldFault::KeepsTooFew { saved } => write!(f, "KeepsTooFew {saved}"),
-            WorldFault::KeepsTooMany { len } => write!(f, "KeepsTooMany {len}"),
-            WorldFault::OutOfMemory => f.write_str("OutOfMemory"),
-        }
+        f.write_str(match self {
+            WorldFault::NotLocal => "NotLocal",
+            WorldFault::NoSuchPacket => "NoSuchPacket",
+            WorldFault::KeepsTooFew { saved } => return write!(f, "KeepsTooFew {saved}"),
+            WorldFault::KeepsTooMany { len } => return write!(f, "KeepsTooMany {len}"),
+            WorldFault::OutOfMemory => "OutOfMemory",
+        })
     }
 }
 

@@ -1,7 +1,7 @@
 use gi_desk::Reply;
 
 /// What comes of a step.
-#[derive(Debug, Drop)]
+#[derive(Drop)]
 pub enum WorldReply {
     /// The desk's reply; a refusal of the desk is one too.
     Desk(Reply),

@@ -6,8 +6,8 @@ mod lone;
 mod queries;
 
 use answers::add_outcome;
-pub use asking::body;
 use asking::step_of;
+pub use asking::{body, mark};
 use gi_calls::{Answer, Fault, Subject, Words};
 use gi_pairs::{Code, Side};
 use gi_world::{Run, Step, World, run_world};

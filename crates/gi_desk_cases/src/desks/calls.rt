@@ -3,41 +3,7 @@
 use super::facts::fact_of;
 use gi_calls::Words;
 use gi_desk::{Body, Call, Desk, Role};
-use gi_pairs::Code;
-use gi_processing::{Contract, Notice};
 use std::alloc::{AllocError, Global};
-
-/// The words behind a portfolio as its contract.
-pub(crate) fn contract_of(portfolio: Code, words: Words<'_>) -> Option<Contract> {
-    let mut words = words;
-    Some(Contract {
-        portfolio,
-        day: words.day()?,
-        direction: words.direction()?,
-        firm: words.quantity()?,
-        interruptible: words.quantity()?,
-    })
-}
-
-/// The words as a contract.
-fn contract(words: Words<'_>) -> Option<Call> {
-    let mut words = words;
-    let portfolio = words.code()?;
-    Some(Call::Contract(contract_of(portfolio, words)?))
-}
-
-/// The words as a notice.
-fn notice(words: Words<'_>) -> Option<Call> {
-    let mut words = words;
-    Some(Call::Notice(Notice {
-        day: words.day()?,
-        direction: words.direction()?,
-        first: words.byte()?,
-        last: words.byte()?,
-        firm: u16::try_from(words.number()?).ok()?,
-        interruptible: u16::try_from(words.number()?).ok()?,
-    }))
-}
 
 /// The number of `spaces 5`.
 fn spaces(text: &str) -> Option<u32> {
@@ -76,8 +42,8 @@ fn mark(alloc: Global, words: Words<'_>) -> Option<Call> {
 /// The call of this word and of those behind it.
 fn named(alloc: Global, word: &str, mut words: Words<'_>) -> Result<Option<Call>, AllocError> {
     Ok(match word {
-        "contract" => contract(words),
-        "notice" => notice(words),
+        "contract" => words.contract().map(|contract| Call::Contract(contract)),
+        "notice" => words.notice().map(|notice| Call::Notice(notice)),
         "submit" => Some(Call::Submit(body(alloc, words.rest())?)),
         "close" => words.cycle().map(|id| Call::Close(id)),
         "deliver" => Some(Call::Deliver(body(alloc, words.rest())?)),

@@ -1,7 +1,7 @@
 //! What a desk tells without a step.
 
-use super::texts::{add_bytes, add_message, add_packet, add_table};
-use gi_calls::{Answer, Fault, Words};
+use super::texts::{add_bytes, add_message, add_packet};
+use gi_calls::{Answer, Fault, Words, add_table};
 use gi_desk::{Desk, Fact, Packet, Packets, Role, encode_fact};
 use gi_messages::{Message, Nomres};
 use gi_pairs::Table;

@@ -1,10 +1,10 @@
 //! The steps of a desk.
 
-use super::calls::{call_of, contract_of};
+use super::calls::call_of;
 use super::texts::add_reply;
 use gi_calls::{Answer, Fault, Words};
 use gi_desk::{Call, Desk, Packet, Refusal, Reply, Role, StageName};
-use gi_pairs::{Code, CycleId};
+use gi_pairs::CycleId;
 use std::alloc::{AllocError, Global};
 
 /// Whether two packets are the same.
@@ -113,18 +113,11 @@ fn again<R: Role>(
     Ok(true)
 }
 
-/// The numbered portfolio: `P4`.
-fn portfolio_of(alloc: Global, number: u8) -> Result<Option<Code>, AllocError> {
-    let portfolio = format!(in alloc; "P{number}")?;
-    Ok(Code::read(portfolio.as_str()).ok())
-}
-
-/// The contract of a numbered portfolio, as the words say.
-fn numbered(alloc: Global, number: u8, words: Words<'_>) -> Result<Option<Call>, AllocError> {
-    let Some(portfolio) = portfolio_of(alloc, number)? else {
-        return Ok(None);
-    };
-    Ok(contract_of(portfolio, words).map(|contract| Call::Contract(contract)))
+/// The contract of the numbered portfolio, `P4` for instance, as the text says behind a portfolio.
+fn numbered(alloc: Global, number: u8, text: &str) -> Result<Option<Call>, AllocError> {
+    let text = format!(in alloc; "P{number} {text}")?;
+    let mut words = Words::of(text.as_str());
+    Ok(words.contract().map(|contract| Call::Contract(contract)))
 }
 
 /// The contracts of the portfolios from `P1` on, and what the last of them is answered.
@@ -140,7 +133,7 @@ fn contracts<R: Role>(
     };
     for before in 0..count {
         let number = before + 1;
-        let Some(call) = numbered(alloc, number, words)? else {
+        let Some(call) = numbered(alloc, number, words.rest())? else {
             return Ok(false);
         };
         made(desk, call, number == count, text)?;

@@ -3,7 +3,6 @@
 use gi_calls::{Answer, Fault};
 use gi_desk::{Recipient, Reply};
 use gi_messages::{Message, encode};
-use gi_pairs::{Row, Table};
 use std::alloc::Global;
 
 /// Adds the bytes of a text.
@@ -70,29 +69,4 @@ pub(crate) fn add_message(
         None => text.add("none"),
     }
     Ok(true)
-}
-
-/// Adds a line for a row: its pair, its direction and its quantities.
-fn add_row(row: &Row, text: &mut Answer) {
-    let pair = row.pair;
-    text.show(&pair.initiating);
-    text.word(&pair.matching);
-    text.word(&row.direction);
-    for quantity in row.hours.as_slice() {
-        let quantity = quantity.value();
-        text.word(&quantity);
-    }
-    text.end_line();
-}
-
-/// Adds a table: its first and last hour, and a line for each row.
-pub(crate) fn add_table(table: &Table, text: &mut Answer) {
-    let (first, last) = (table.first(), table.last());
-    text.add("hours");
-    text.word(&first);
-    text.word(&last);
-    text.end_line();
-    for row in table.rows() {
-        add_row(row, text);
-    }
 }

@@ -1,15 +1,14 @@
 //! What is decided of the other operator's message.
 
-use super::tables::{table_of, two_tables};
-use crate::desks::texts::add_table;
-use gi_calls::{Answer, Fault, Words};
+use super::tables::two_tables;
+use gi_calls::{Answer, Fault, Words, add_table, table_of};
 use gi_cycles::CycleState;
 use gi_desk::{Decision, Role};
 use gi_initiator::{Initiating, take_response};
 use gi_matcher::{Matching, take_order};
 use gi_messages::{Delord, Delres, Message};
 use gi_pairs::{Code, CycleId, MOST_PROCESSED_ROWS, Side};
-use std::alloc::{AllocError, Global};
+use std::alloc::Global;
 
 /// Adds a decision: the table that is met, or the refusal.
 pub(crate) fn add_decision(decision: &Decision, text: &mut Answer) {
@@ -33,7 +32,7 @@ fn id_of(state: &CycleState) -> CycleId {
 }
 
 /// The order of the cycle with the table of the line.
-fn order_of(alloc: Global, id: CycleId, line: &str) -> Result<Option<Delord>, AllocError> {
+fn order_of(alloc: Global, id: CycleId, line: &str) -> Result<Option<Delord>, Fault> {
     let Some(processed) = table_of(alloc, line)? else {
         return Ok(None);
     };
@@ -52,7 +51,7 @@ fn order_of(alloc: Global, id: CycleId, line: &str) -> Result<Option<Delord>, Al
 }
 
 /// The response of the cycle with both tables of the line.
-fn response_of(alloc: Global, id: CycleId, line: &str) -> Result<Option<Delres>, AllocError> {
+fn response_of(alloc: Global, id: CycleId, line: &str) -> Result<Option<Delres>, Fault> {
     let Some((processed, confirmed)) = two_tables(alloc, line, " confirmed ")? else {
         return Ok(None);
     };
@@ -75,7 +74,7 @@ fn order_taken(
     state: &CycleState,
     by_role: bool,
     line: &str,
-) -> Result<Option<Decision>, AllocError> {
+) -> Result<Option<Decision>, Fault> {
     let Some(order) = order_of(alloc, id_of(state), line)? else {
         return Ok(None);
     };
@@ -100,7 +99,7 @@ fn response_taken(
     state: &CycleState,
     by_role: bool,
     line: &str,
-) -> Result<Option<Decision>, AllocError> {
+) -> Result<Option<Decision>, Fault> {
     let Some(response) = response_of(alloc, id_of(state), line)? else {
         return Ok(None);
     };
@@ -120,11 +119,7 @@ fn response_taken(
 }
 
 /// What the role of a side decides.
-fn decide(
-    alloc: Global,
-    state: &CycleState,
-    words: Words<'_>,
-) -> Result<Option<Decision>, AllocError> {
+fn decide(alloc: Global, state: &CycleState, words: Words<'_>) -> Result<Option<Decision>, Fault> {
     let mut words = words;
     match words.side() {
         Some(Side::I) => response_taken(alloc, state, true, words.rest()),

@@ -1,7 +1,7 @@
 //! The fields of a fact, in words.
 
-use crate::messages::shown::{add_cycle, add_field, add_nomint, add_table};
-use gi_calls::Answer;
+use crate::messages::shown::{add_cycle, add_field, add_nomint};
+use gi_calls::{Answer, add_table};
 use gi_facts::Fact;
 use gi_processing::{Contract, Notice};
 

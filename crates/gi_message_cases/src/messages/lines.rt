@@ -1,21 +1,8 @@
 //! Lines of a message, from the words of a call.
 
-use gi_calls::{Fault, Words};
+use gi_calls::{Fault, Words, hours_of};
 use gi_messages::{Line, Lines};
-use gi_pairs::Hours;
 use std::alloc::Global;
-
-/// The quantities that the words are.
-fn hours_of(alloc: Global, words: &str) -> Result<Option<Hours>, Fault> {
-    let mut quantities = Vec::new(alloc);
-    for word in words.split_whitespace() {
-        let Some(quantity) = Words::of(word).quantity() else {
-            return Ok(None);
-        };
-        quantities.push(quantity)?;
-    }
-    Ok(Some(Hours::from(quantities)))
-}
 
 /// The line `COUNTERPARTY DIRECTION QUANTITY QUANTITY ..`.
 pub(crate) fn line_of(alloc: Global, words: &str) -> Result<Option<Line>, Fault> {
@@ -23,7 +10,7 @@ pub(crate) fn line_of(alloc: Global, words: &str) -> Result<Option<Line>, Fault>
     let (Some(counterparty), Some(direction)) = (words.code(), words.direction()) else {
         return Ok(None);
     };
-    let Some(hours) = hours_of(alloc, words.rest())? else {
+    let Some(hours) = hours_of(alloc, words)? else {
         return Ok(None);
     };
     Ok(Some(Line {

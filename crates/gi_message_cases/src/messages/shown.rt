@@ -1,9 +1,9 @@
 //! The fields of what was read, in words.
 
-use gi_calls::Answer;
+use gi_calls::{Answer, add_hours, add_table};
 use gi_day::GasDay;
 use gi_messages::{Acknow, Delord, Delres, Line, Lines, Message, Nomint, Nomres};
-use gi_pairs::{Code, Hours, Row, Table};
+use gi_pairs::Code;
 use std::fmt::Display;
 
 /// Adds a field behind its name.
@@ -24,21 +24,13 @@ pub(crate) fn add_cycle(day: GasDay, cycle: u8, text: &mut Answer) {
     add_field("cycle", &cycle, text);
 }
 
-/// Adds quantities, each behind a space, and a line feed.
-fn add_hours(hours: &Hours, text: &mut Answer) {
-    for quantity in hours.as_slice() {
-        let value = quantity.value();
-        text.word(&value);
-    }
-    text.end_line();
-}
-
 /// Adds a line of a message.
 pub(crate) fn add_line(line: &Line, text: &mut Answer) {
     text.add(line.counterparty.as_str());
     text.add(" ");
     text.add(line.direction.as_str());
     add_hours(&line.hours, text);
+    text.end_line();
 }
 
 /// Adds the lines of a message, in their order.
@@ -48,25 +40,6 @@ pub(crate) fn add_lines(lines: &Lines, text: &mut Answer) {
     }
     for line in lines.as_slice() {
         add_line(line, text);
-    }
-}
-
-/// Adds a row of a table.
-fn add_row(row: &Row, text: &mut Answer) {
-    text.show(&row.pair.initiating);
-    text.word(&row.pair.matching);
-    text.word(&row.direction);
-    add_hours(&row.hours, text);
-}
-
-/// Adds the hours that a table covers, then its rows.
-pub(crate) fn add_table(table: &Table, text: &mut Answer) {
-    let (first, last) = (table.first(), table.last());
-    add_field("hours", &first, text);
-    text.word(&last);
-    text.end_line();
-    for row in table.rows() {
-        add_row(row, text);
     }
 }
 

@@ -2,23 +2,22 @@
 
 use crate::nominations::add_verdict;
 use crate::nomint_text::nomint;
-use crate::processing::reading::{contract, notice};
 use crate::processing::records::Records;
 use gi_calls::{Answer, Fault, Words};
 use gi_messages::Nomint;
 use gi_nominations::Verdict;
 use std::alloc::{AllocError, Global};
 
-fn set(records: &mut Records, words: Words<'_>, text: &mut Answer) -> bool {
-    let Some(contract) = contract(words) else {
+fn set(records: &mut Records, mut words: Words<'_>, text: &mut Answer) -> bool {
+    let Some(contract) = words.contract() else {
         return false;
     };
     text.done(&records.set(contract));
     true
 }
 
-fn refuses(records: &Records, words: Words<'_>, text: &mut Answer) -> bool {
-    let Some(contract) = contract(words) else {
+fn refuses(records: &Records, mut words: Words<'_>, text: &mut Answer) -> bool {
+    let Some(contract) = words.contract() else {
         return false;
     };
     let is_refused = records.contracts().refuses(&contract);
@@ -26,8 +25,8 @@ fn refuses(records: &Records, words: Words<'_>, text: &mut Answer) -> bool {
     true
 }
 
-fn give(records: &mut Records, words: Words<'_>, text: &mut Answer) -> bool {
-    let Some(notice) = notice(words) else {
+fn give(records: &mut Records, mut words: Words<'_>, text: &mut Answer) -> bool {
+    let Some(notice) = words.notice() else {
         return false;
     };
     text.done(&records.notice(notice));

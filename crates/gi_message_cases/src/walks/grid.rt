@@ -1,7 +1,6 @@
 //! Tables with a row for each of many pairs.
 
-use crate::table_text::like_row;
-use gi_calls::{Fault, Words};
+use gi_calls::{Fault, Words, like_row};
 use gi_pairs::{Code, Pair, Quantity, Row, Table};
 use std::alloc::Global;
 

@@ -1,12 +1,13 @@
 //! The calls on the desk of a book.
 
+use crate::offices::calls::named;
+use crate::offices::texts::add_answer;
 use gi_calls::{Answer, Fault, Words};
 use gi_day::Calendar;
-use gi_desk::{Body, Call, Desk, Fact, ReplayFault};
+use gi_desk::{Call, Desk, Fact, ReplayFault};
 use gi_initiator::Initiating;
 use gi_pairs::Code;
-use gi_processing::Contract;
-use std::alloc::{AllocError, Global};
+use std::alloc::Global;
 use std::mem::ManuallyDrop;
 
 /// The desk of these facts.
@@ -49,64 +50,6 @@ fn add_counts(desk: &Desk<Initiating>, text: &mut Answer) {
     text.show(&saved);
 }
 
-/// Adds what was done with a fact, and its number.
-fn add_numbered(done: &str, n: u32, text: &mut Answer) {
-    text.add(done);
-    text.word(&n);
-}
-
-/// Adds a desk's answer.
-fn add_answer(answer: gi_desk::Answer, text: &mut Answer) {
-    match answer {
-        gi_desk::Answer::Recorded { n } => add_numbered("recorded", n, text),
-        gi_desk::Answer::Repeat { n } => add_numbered("repeat", n, text),
-        gi_desk::Answer::Saved { n } => add_numbered("saved", n, text),
-        gi_desk::Answer::Resent => text.add("resent"),
-        gi_desk::Answer::Stopped => text.add("stopped"),
-        gi_desk::Answer::Refused(refusal) => {
-            text.add("refused");
-            text.word(&refusal);
-        }
-    }
-}
-
-/// The words as a contract: its portfolio, day, direction, and firm and interruptible quantity.
-fn contract_of(mut words: Words<'_>) -> Option<Contract> {
-    let (Some(portfolio), Some(day), Some(direction), Some(firm), Some(interruptible)) = (
-        words.code(),
-        words.day(),
-        words.direction(),
-        words.quantity(),
-        words.quantity(),
-    ) else {
-        return None;
-    };
-    Some(Contract {
-        portfolio,
-        day,
-        direction,
-        firm,
-        interruptible,
-    })
-}
-
-/// The bytes of a text.
-fn body_of(alloc: Global, text: &str) -> Result<Body, AllocError> {
-    Ok(Body::from(Vec::from_slice(alloc, text.as_bytes())?))
-}
-
-/// The step that a line asks for.
-fn step_of(alloc: Global, line: &str) -> Result<Option<Call>, AllocError> {
-    let mut words = Words::of(line);
-    Ok(match words.next() {
-        "contract" => contract_of(words).map(Call::Contract),
-        "submit" => Some(Call::Submit(body_of(alloc, words.rest())?)),
-        "close" => words.cycle().map(Call::Close),
-        "deliver" => Some(Call::Deliver(body_of(alloc, words.rest())?)),
-        _ => None,
-    })
-}
-
 /// Adds what is confirmed in a place, where its cycle is: a cycle, a key and an hour.
 fn add_confirmed(desk: &Desk<Initiating>, mut words: Words<'_>, text: &mut Answer) -> bool {
     let (Some(id), Some(key), Some(hour)) = (words.cycle(), words.key(), words.byte()) else {
@@ -142,10 +85,11 @@ pub(crate) fn call(
     text: &mut Answer,
 ) -> Result<bool, Fault> {
     let mut words = Words::of(line);
-    if words.next() == "confirmed" {
+    let word = words.next();
+    if word == "confirmed" {
         return Ok(add_confirmed(desk, words, text));
     }
-    let Some(call) = step_of(alloc, line)? else {
+    let Some(call) = named(alloc, word, words)? else {
         return Ok(false);
     };
     step(desk, call, text);

@@ -3,57 +3,8 @@
 use gi_calls::{Fault, Words};
 use gi_desk::{Body, Call};
 use gi_pairs::Code;
-use gi_processing::{Contract, Notice};
 use std::alloc::{AllocError, Global};
 use std::fmt::Write;
-
-/// The words as a contract.
-pub fn contract(mut words: Words<'_>) -> Option<Contract> {
-    let (Some(portfolio), Some(day), Some(direction), Some(firm), Some(interruptible)) = (
-        words.code(),
-        words.day(),
-        words.direction(),
-        words.quantity(),
-        words.quantity(),
-    ) else {
-        return None;
-    };
-    Some(Contract {
-        portfolio,
-        day,
-        direction,
-        firm,
-        interruptible,
-    })
-}
-
-/// The next word as thousandths.
-fn permille(words: &mut Words<'_>) -> Option<u16> {
-    words.next().parse::<u16>().ok()
-}
-
-/// The words as a notice.
-fn notice(mut words: Words<'_>) -> Option<Call> {
-    let (Some(day), Some(direction), Some(first), Some(last)) = (
-        words.day(),
-        words.direction(),
-        words.byte(),
-        words.byte(),
-    ) else {
-        return None;
-    };
-    let (Some(firm), Some(interruptible)) = (permille(&mut words), permille(&mut words)) else {
-        return None;
-    };
-    Some(Call::Notice(Notice {
-        day,
-        direction,
-        first,
-        last,
-        firm,
-        interruptible,
-    }))
-}
 
 /// The bytes of a text.
 fn body_of(alloc: Global, text: &str) -> Result<Body, AllocError> {
@@ -86,10 +37,14 @@ fn long(alloc: Global, mut words: Words<'_>) -> Result<Option<Call>, Fault> {
 }
 
 /// The call of this word.
-fn named(alloc: Global, word: &str, mut words: Words<'_>) -> Result<Option<Call>, Fault> {
+pub(crate) fn named(
+    alloc: Global,
+    word: &str,
+    mut words: Words<'_>,
+) -> Result<Option<Call>, Fault> {
     Ok(match word {
-        "contract" => contract(words).map(Call::Contract),
-        "notice" => notice(words),
+        "contract" => words.contract().map(Call::Contract),
+        "notice" => words.notice().map(Call::Notice),
         "submit" => Some(Call::Submit(body_of(alloc, words.rest())?)),
         "long" => return long(alloc, words),
         "close" => words.cycle().map(|id| Call::Close(id)),

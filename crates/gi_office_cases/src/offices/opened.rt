@@ -8,9 +8,10 @@ mod sessions;
 
 use super::calls::call_of;
 use super::opening::{Unopened, opened};
-use super::saving::{add_turn, book_call, fact_of, new_book};
+use super::saving::{add_turn, book_call, new_book};
 use super::seats::{asked, count_notes, lose, put_back, taken};
 use super::texts::{add_answered, add_receipts, add_settled, add_told};
+use crate::books::batches::fact_of;
 use gi_calls::{Answer, Fault, Words};
 use gi_desk::{Fact, Role};
 use gi_office::{Office, OfficeFault, Receipt, Seat, Settled};

@@ -1,40 +1,21 @@
 //! The book, and what turns that save come to.
 
-ghost use Rattle.std.specs.Prelude.{IfOk};
 ghost use Rattle.std.specs.List.{AllByRecursion};
 ghost use Rattle.gi_facts.specs.Grammar.{IsWritable};
 
 use super::texts::add_receipt;
+use crate::books::batches::facts_of;
 use gi_calls::{Answer, Words};
-use gi_facts::{Fact, FactFault, decode_fact};
+use gi_facts::Fact;
 use gi_office::{SaveFault, Turn};
 use gi_store::{BookStore, StoreFault};
 use sqlite::{Connection, MemStore};
-use std::alloc::{AllocError, Global};
+use std::alloc::Global;
 
 /// A new book in memory, which is not loaded.
 pub fn new_book(alloc: Global) -> Option<BookStore<MemStore>> {
     let connection = Connection::open_in_memory(alloc).ok()?;
     BookStore::open(alloc, connection).ok()
-}
-
-/// The fact that a text is.
-pub fn fact_of(alloc: Global, text: &str) -> Result<Fact, FactFault>
-    ensures { IfOk result IsWritable }
-{
-    decode_fact(alloc, text.as_bytes())
-}
-
-/// The facts that the words of a text are.
-fn facts_of(alloc: Global, text: &str) -> Result<Vec<Fact>, FactFault>
-    ensures { IfOk result (λ facts. AllByRecursion IsWritable facts.items) }
-{
-    let mut facts = Vec::new(alloc);
-    for word in text.split_ascii_whitespace() {
-        let fact = fact_of(alloc, word)?;
-        facts.push(fact).map_err(AllocError::from)?;
-    }
-    Ok(facts)
 }
 
 /// Adds `ok` and a number, or why a call was refused.

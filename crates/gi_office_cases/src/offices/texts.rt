@@ -11,7 +11,7 @@ fn add_numbered(name: &str, n: u32, text: &mut Answer) {
 }
 
 /// Adds `Recorded 4`, or the refusal.
-fn add_answer(answer: gi_desk::Answer, text: &mut Answer) {
+pub(crate) fn add_answer(answer: gi_desk::Answer, text: &mut Answer) {
     match answer {
         gi_desk::Answer::Recorded { n } => add_numbered("Recorded", n, text),
         gi_desk::Answer::Repeat { n } => add_numbered("Repeat", n, text),

@@ -1,7 +1,8 @@
 use crate::reports::add_report;
+use crate::worlds::{body, mark};
 use gi_calls::{Answer, Fault, Words};
 use gi_day::Calendar;
-use gi_desk::{Body, Call, Desk, Fact, ReplayFault, Role};
+use gi_desk::{Call, Desk, Fact, ReplayFault, Role};
 use gi_initiator::Initiating;
 use gi_matcher::Matching;
 use gi_pairs::{Code, Side};
@@ -63,17 +64,6 @@ fn call_said(alloc: Global, words: Words<'_>) -> Result<Option<Call>, AllocError
     }
 }
 
-/// What marks the next fact as saved; none where all are.
-fn mark<R: Role>(desk: &Desk<R>) -> Result<Option<Call>, AllocError> {
-    Ok(match desk.unsaved() {
-        Some((n, fact)) => Some(Call::MarkSaved {
-            n,
-            fact: fact.copy()?,
-        }),
-        None => None,
-    })
-}
-
 impl Office {
     /// The desk of these facts, all of them saved.
     pub fn replay(
@@ -114,9 +104,13 @@ impl Office {
     }
 
     /// `deliver BODY`.
-    pub fn deliver(&mut self, alloc: Global, body: &str, text: &mut Answer) -> Result<bool, Fault> {
-        let body = Body::from(Vec::from_slice(alloc, body.as_bytes())?);
-        self.answer(&Call::Deliver(body), text);
+    pub fn deliver(
+        &mut self,
+        alloc: Global,
+        given: &str,
+        text: &mut Answer,
+    ) -> Result<bool, Fault> {
+        self.answer(&Call::Deliver(body(alloc, given)?), text);
         Ok(true)
     }
 

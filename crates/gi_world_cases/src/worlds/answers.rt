@@ -2,7 +2,6 @@
 
 use gi_calls::Answer;
 use gi_desk::{Desk, Packet, Recipient, Reply, Role};
-use gi_pairs::{Row, Table};
 use gi_world::{WorldFault, WorldReply};
 
 /// Adds the text that the bytes are.
@@ -57,36 +56,14 @@ pub fn add_reply(reply: &Reply, text: &mut Answer) {
 pub fn add_outcome(outcome: &Result<WorldReply, WorldFault>, text: &mut Answer) {
     match outcome {
         Ok(WorldReply::Desk(reply)) => return add_reply(reply, text),
-        Ok(restarted) => text.debug(restarted),
+        Ok(WorldReply::Restarted { saved }) => {
+            text.add("Restarted { saved: ");
+            text.show(saved);
+            text.add(" }");
+        }
         Err(fault) => text.show(fault),
     }
     text.end_line();
-}
-
-/// Adds the line of a row.
-fn add_row(row: &Row, text: &mut Answer) {
-    let (initiating, matching) = (row.pair.initiating, row.pair.matching);
-    let direction = row.direction;
-    text.show(&initiating);
-    text.word(&matching);
-    text.word(&direction);
-    for quantity in row.hours.as_slice() {
-        let value = quantity.value();
-        text.word(&value);
-    }
-    text.end_line();
-}
-
-/// Adds the hours of a table, and a line for each row, in order.
-pub fn add_table(table: &Table, text: &mut Answer) {
-    let (first, last) = (table.first(), table.last());
-    text.add("hours");
-    text.word(&first);
-    text.word(&last);
-    text.end_line();
-    for row in table.rows() {
-        add_row(row, text);
-    }
 }
 
 /// Adds how many facts a desk has, and how many of them are saved.

@@ -4,57 +4,8 @@ use crate::nomination::nomination;
 use gi_calls::Words;
 use gi_desk::{Body, Call, Desk, Role};
 use gi_pairs::Side;
-use gi_processing::{Contract, Notice};
 use gi_world::{Step, World};
 use std::alloc::{AllocError, Global};
-
-/// A contract: portfolio, day, direction, and the firm and the interruptible quantity in kWh/h.
-fn contract(mut words: Words<'_>) -> Option<Contract> {
-    let (Some(portfolio), Some(day), Some(direction)) = (
-        words.code(),
-        words.day(),
-        words.direction(),
-    ) else {
-        return None;
-    };
-    let (Some(firm), Some(interruptible)) = (words.quantity(), words.quantity()) else {
-        return None;
-    };
-    Some(Contract {
-        portfolio,
-        day,
-        direction,
-        firm,
-        interruptible,
-    })
-}
-
-/// So many thousandths.
-fn per_mille(words: &mut Words<'_>) -> Option<u16> {
-    words.next().parse::<u16>().ok()
-}
-
-/// A notice: day, direction, first and last hour, and the thousandths of firm and interruptible
-/// quantities.
-fn notice(mut words: Words<'_>) -> Option<Notice> {
-    let (Some(day), Some(direction)) = (words.day(), words.direction()) else {
-        return None;
-    };
-    let (Some(first), Some(last)) = (words.byte(), words.byte()) else {
-        return None;
-    };
-    let (Some(firm), Some(interruptible)) = (per_mille(&mut words), per_mille(&mut words)) else {
-        return None;
-    };
-    Some(Notice {
-        day,
-        direction,
-        first,
-        last,
-        firm,
-        interruptible,
-    })
-}
 
 /// The bytes of a text.
 pub fn body(alloc: Global, text: &str) -> Result<Body, AllocError> {
@@ -75,8 +26,8 @@ fn submission(alloc: Global, text: &str) -> Result<Option<Call>, AllocError> {
 /// resending or a halt.
 pub fn call_of(alloc: Global, mut words: Words<'_>) -> Result<Option<Call>, AllocError> {
     match words.next() {
-        "contract" => Ok(contract(words).map(Call::Contract)),
-        "notice" => Ok(notice(words).map(Call::Notice)),
+        "contract" => Ok(words.contract().map(Call::Contract)),
+        "notice" => Ok(words.notice().map(Call::Notice)),
         "submit" => submission(alloc, words.rest()),
         "nominate" => submission(alloc, nomination(alloc, words)?.as_str()),
         "close" => Ok(words.cycle().map(Call::Close)),

@@ -1,7 +1,7 @@
 //! What is asked about a world, and about one of its desks.
 
-use crate::worlds::answers::{add_bytes, add_counts, add_kept, add_table};
-use gi_calls::{Answer, Fault, Words};
+use crate::worlds::answers::{add_bytes, add_counts, add_kept};
+use gi_calls::{Answer, Fault, Words, add_table};
 use gi_desk::{Desk, Role};
 use gi_messages::{Message, Nomres, encode};
 use gi_pairs::{Side, Table};

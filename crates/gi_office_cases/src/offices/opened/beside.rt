@@ -2,7 +2,6 @@
 
 use super::sessions::serve;
 use super::{Opened, receipt_at};
-use crate::offices::calls::contract;
 use crate::offices::documents::documents;
 use crate::offices::saving::add_turn;
 use crate::offices::seats::{put_back, taken};
@@ -102,7 +101,11 @@ fn both_made<L: Ledger + Send + Sync, T: Threads + Wait + Sync>(
 fn both_of(mut words: Words<'_>) -> Option<(u32, Contract, Contract)> {
     let count = words.number()?;
     let (one, two) = words.rest().split_once(" | ")?;
-    Some((count, contract(Words::of(one))?, contract(Words::of(two))?))
+    Some((
+        count,
+        Words::of(one).contract()?,
+        Words::of(two).contract()?,
+    ))
 }
 
 /// The receipt that is waited for, whether the desk is halted, and the seat from which it is called.

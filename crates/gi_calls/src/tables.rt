@@ -1,9 +1,11 @@
 //! Tables as the words of a call, and as an answer shows them. A table in a call is the first and
-//! the last hour, and then its rows, each behind a bar: `23 24 | A B IM 10 20 | A C MI 5 5`; a count
-//! of like rows may stand before them, `25 25 rows A 4096 7`: of `A` and `B0`, `B1` and so on in
-//! `IM`, with 7 in each hour.
+//! the last hour, and then its rows, each behind a bar: `23 24 | A B IM 10 20 | A C MI 5 5`; like
+//! rows may stand before them, `25 25 rows A 0 4095 7`: of `A` and `B0` to `B4095`, in `IM`,
+//! with 7 in each hour.
 
-use gi_calls::{Answer, Fault, Words};
+use crate::answer::Answer;
+use crate::fault::Fault;
+use crate::words::Words;
 use gi_pairs::{Code, Direction, Hours, Key, Pair, Quantity, Row, Table, TableFault};
 use std::alloc::Global;
 
@@ -25,7 +27,7 @@ fn push_hours(words: Words<'_>, quantities: &mut Vec<Quantity>) -> Result<bool, 
 }
 
 /// The quantities of the words.
-pub(crate) fn hours_of(alloc: Global, words: Words<'_>) -> Result<Option<Hours>, Fault> {
+pub fn hours_of(alloc: Global, words: Words<'_>) -> Result<Option<Hours>, Fault> {
     let mut quantities = Vec::new(alloc);
     match push_hours(words, &mut quantities) {
         Ok(true) => Ok(Some(Hours::from(quantities))),
@@ -39,7 +41,7 @@ pub(crate) fn hours_of(alloc: Global, words: Words<'_>) -> Result<Option<Hours>,
 }
 
 /// The row of the words: a key and then the quantities.
-pub(crate) fn row_of(alloc: Global, mut words: Words<'_>) -> Result<Option<Row>, Fault> {
+pub fn row_of(alloc: Global, mut words: Words<'_>) -> Result<Option<Row>, Fault> {
     let Some(Key { pair, direction }) = words.key() else {
         return Ok(None);
     };
@@ -54,12 +56,7 @@ pub(crate) fn row_of(alloc: Global, mut words: Words<'_>) -> Result<Option<Row>,
 }
 
 /// A row of `IM` with one quantity in each of so many hours.
-pub(crate) fn like_row(
-    alloc: Global,
-    pair: Pair,
-    quantity: Quantity,
-    hours: u8,
-) -> Result<Row, Fault> {
+pub fn like_row(alloc: Global, pair: Pair, quantity: Quantity, hours: u8) -> Result<Row, Fault> {
     let mut quantities = Vec::new(alloc);
     for _ in 0..hours {
         quantities.push(quantity)?;
@@ -96,21 +93,22 @@ fn push_like_row(
     Ok(true)
 }
 
-/// Adds the rows of the words: the initiating code, how many there are, and the quantity.
+/// Adds the rows of the words: the initiating code, the first and the last number, and the quantity.
 fn push_like_rows(
     alloc: Global,
     mut words: Words<'_>,
     hours: u8,
     rows: &mut Vec<Row>,
 ) -> Result<bool, Fault> {
-    let (Some(initiating), Some(count), Some(quantity)) = (
+    let (Some(initiating), Some(first), Some(last), Some(quantity)) = (
         words.code(),
+        words.number(),
         words.number(),
         words.quantity(),
     ) else {
         return Ok(false);
     };
-    for number in 0..count {
+    for number in first..=last {
         if !push_like_row(alloc, number, (initiating, quantity), hours, rows)? {
             return Ok(false);
         }
@@ -172,10 +170,7 @@ fn push_rows(alloc: Global, text: &str, rows: &mut Vec<Row>) -> Result<Option<(u
 }
 
 /// What `Table::build` answers to the hours and rows of a call.
-pub(crate) fn table_of(
-    alloc: Global,
-    text: &str,
-) -> Result<Option<Result<Table, TableFault>>, Fault> {
+pub fn build(alloc: Global, text: &str) -> Result<Option<Result<Table, TableFault>>, Fault> {
     let mut rows = Vec::new(alloc);
     match push_rows(alloc, text, &mut rows) {
         Ok(Some((first, last))) => Ok(Some(Table::build(first, last, rows))),
@@ -186,8 +181,16 @@ pub(crate) fn table_of(
     }
 }
 
+/// The table of the hours and rows of a call, where they are one.
+pub fn table_of(alloc: Global, text: &str) -> Result<Option<Table>, Fault> {
+    match build(alloc, text)? {
+        Some(Ok(table)) => Ok(Some(table)),
+        _ => Ok(None),
+    }
+}
+
 /// Adds the quantities, each behind a space.
-pub(crate) fn add_hours(hours: &Hours, text: &mut Answer) {
+pub fn add_hours(hours: &Hours, text: &mut Answer) {
     for quantity in hours.as_slice() {
         let quantity = quantity.value();
         text.word(&quantity);
@@ -195,7 +198,7 @@ pub(crate) fn add_hours(hours: &Hours, text: &mut Answer) {
 }
 
 /// Adds what a row is for.
-pub(crate) fn add_key(key: Key, text: &mut Answer) {
+pub fn add_key(key: Key, text: &mut Answer) {
     let (initiating, matching, direction) = (key.pair.initiating, key.pair.matching, key.direction);
     text.show(&initiating);
     text.word(&matching);
@@ -203,7 +206,7 @@ pub(crate) fn add_key(key: Key, text: &mut Answer) {
 }
 
 /// Adds a row, in a line.
-pub(crate) fn add_row(row: &Row, text: &mut Answer) {
+pub fn add_row(row: &Row, text: &mut Answer) {
     add_key(row.key(), text);
     add_hours(&row.hours, text);
     text.end_line();
@@ -222,10 +225,10 @@ fn add_ends(rows: &[Row], text: &mut Answer) {
     add_row(last, text)
 }
 
-/// Adds the hours of a table, and its rows.
-pub(crate) fn add_table(table: &Table, text: &mut Answer) {
+/// Adds the hours of a table, behind a space where its line has begun, and a line for each row.
+pub fn add_table(table: &Table, text: &mut Answer) {
     let (first, last) = (table.first(), table.last());
-    text.add("hours");
+    text.word(&"hours");
     text.word(&first);
     text.word(&last);
     text.end_line();
