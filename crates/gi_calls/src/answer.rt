@@ -35,14 +35,14 @@ impl Answer {
     }
 
     /// Adds a value as it is shown.
-    pub fn show<T: Display>(&mut self, value: &T) {
+    pub fn show<T: Display + Copy>(&mut self, value: T) {
         if write!(self.text, "{value}").is_err() {
             self.is_whole = false;
         }
     }
 
     /// Adds a value as it is shown, behind a space where its line has begun.
-    pub fn word<T: Display>(&mut self, value: &T) {
+    pub fn word<T: Display + Copy>(&mut self, value: T) {
         if !self.text.is_empty() && !self.text.as_str().ends_with('\n') {
             self.add(" ");
         }
@@ -57,18 +57,18 @@ impl Answer {
     }
 
     /// Adds a value, or the refusal in its place.
-    pub fn value<T: Display, E: Display>(&mut self, given: &Result<T, E>) {
+    pub fn value<T: Display + Copy, E: Display + Copy>(&mut self, given: &Result<T, E>) {
         match given {
-            Ok(value) => self.word(value),
-            Err(fault) => self.word(fault),
+            Ok(value) => self.word(*value),
+            Err(fault) => self.word(*fault),
         }
     }
 
     /// Adds `ok`, or the refusal in its place.
-    pub fn done<T, E: Display>(&mut self, given: &Result<T, E>) {
+    pub fn done<T, E: Display + Copy>(&mut self, given: &Result<T, E>) {
         match given {
-            Ok(_) => self.word(&"ok"),
-            Err(fault) => self.word(fault),
+            Ok(_) => self.word("ok"),
+            Err(fault) => self.word(*fault),
         }
     }
 

@@ -15,6 +15,6 @@ pub use cases::{add_answer, add_case, answered};
 pub use fault::Fault;
 pub use subject::Subject;
 pub use tables::{
-    add_hours, add_key, add_row, add_table, build, hours_of, like_row, row_of, table_of,
+    add_hours, add_key, add_row, add_table, built_table, hours_of, like_row, row_of, table_of,
 };
 pub use words::Words;

@@ -170,7 +170,7 @@ fn push_rows(alloc: Global, text: &str, rows: &mut Vec<Row>) -> Result<Option<(u
 }
 
 /// What `Table::build` answers to the hours and rows of a call.
-pub fn build(alloc: Global, text: &str) -> Result<Option<Result<Table, TableFault>>, Fault> {
+pub fn built_table(alloc: Global, text: &str) -> Result<Option<Result<Table, TableFault>>, Fault> {
     let mut rows = Vec::new(alloc);
     match push_rows(alloc, text, &mut rows) {
         Ok(Some((first, last))) => Ok(Some(Table::build(first, last, rows))),
@@ -183,7 +183,7 @@ pub fn build(alloc: Global, text: &str) -> Result<Option<Result<Table, TableFaul
 
 /// The table of the hours and rows of a call, where they are one.
 pub fn table_of(alloc: Global, text: &str) -> Result<Option<Table>, Fault> {
-    match build(alloc, text)? {
+    match built_table(alloc, text)? {
         Some(Ok(table)) => Ok(Some(table)),
         _ => Ok(None),
     }
@@ -192,17 +192,15 @@ pub fn table_of(alloc: Global, text: &str) -> Result<Option<Table>, Fault> {
 /// Adds the quantities, each behind a space.
 pub fn add_hours(hours: &Hours, text: &mut Answer) {
     for quantity in hours.as_slice() {
-        let quantity = quantity.value();
-        text.word(&quantity);
+        text.word(quantity.value());
     }
 }
 
 /// Adds what a row is for.
 pub fn add_key(key: Key, text: &mut Answer) {
-    let (initiating, matching, direction) = (key.pair.initiating, key.pair.matching, key.direction);
-    text.show(&initiating);
-    text.word(&matching);
-    text.word(&direction);
+    text.show(key.pair.initiating);
+    text.word(key.pair.matching);
+    text.word(key.direction);
 }
 
 /// Adds a row, in a line.
@@ -219,18 +217,18 @@ fn add_ends(rows: &[Row], text: &mut Answer) {
     };
     let more = between.len();
     add_row(first, text);
-    text.show(&more);
+    text.show(more);
     text.add(" more");
     text.end_line();
     add_row(last, text)
 }
 
-/// Adds the hours of a table, behind a space where its line has begun, and a line for each row.
+/// Adds the hours of a table, behind a space where its line has begun, and a line for each row; where
+/// there are more than 20, for the first, the number of those between, and the last.
 pub fn add_table(table: &Table, text: &mut Answer) {
-    let (first, last) = (table.first(), table.last());
-    text.word(&"hours");
-    text.word(&first);
-    text.word(&last);
+    text.word("hours");
+    text.word(table.first());
+    text.word(table.last());
     text.end_line();
     if table.rows().len() > MOST_SHOWN {
         return add_ends(table.rows(), text);

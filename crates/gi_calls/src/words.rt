@@ -106,7 +106,7 @@ impl<'a> Words<'a> {
     }
 
     /// The next word as thousandths.
-    pub fn permille(&mut self) -> Option<u16> {
+    fn permille(&mut self) -> Option<u16> {
         self.next().parse::<u16>().ok()
     }
 

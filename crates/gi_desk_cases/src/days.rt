@@ -29,11 +29,11 @@ fn add_days(alloc: Global, side: Side, seeds: (u32, u32), text: &mut Answer) {
             same = same.wrapping_add(1);
         } else {
             text.add("other on");
-            text.word(&seed);
+            text.word(seed);
             text.end_line();
         }
     }
-    text.show(&same);
+    text.show(same);
     text.add(" the same");
 }
 

@@ -93,7 +93,7 @@ impl Desks {
                 let _former = unsafe { ManuallyDrop::new_unchecked(former) };
                 text.add("ok");
             }
-            Err(fault) => text.show(&fault),
+            Err(fault) => text.show(fault),
         }
     }
 

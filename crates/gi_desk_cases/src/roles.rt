@@ -34,7 +34,7 @@ fn side(words: Words<'_>, text: &mut Answer) -> bool {
         "Matching" => Matching::SIDE,
         _ => return false,
     };
-    text.show(&side);
+    text.show(side);
     true
 }
 
@@ -105,7 +105,7 @@ impl Roles {
             }
             Err((cycle, fault)) => {
                 self.keep(CycleState::Frozen(cycle));
-                text.show(&fault);
+                text.show(fault);
             }
         }
         true

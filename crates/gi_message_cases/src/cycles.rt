@@ -47,8 +47,8 @@ fn lesser_of(alloc: Global, tables: &str, text: &mut Answer) -> Result<bool, Fau
 /// `names`: the refusals.
 fn names(text: &mut Answer) -> bool {
     let (shape, memory) = (MeetFault::ShapeDiffers, MeetFault::OutOfMemory);
-    text.show(&shape);
-    text.word(&memory);
+    text.show(shape);
+    text.word(memory);
     true
 }
 
@@ -78,7 +78,7 @@ fn met(answer: Result<Matched, (Frozen, MeetFault)>, text: &mut Answer) -> Cycle
             CycleState::Matched(matched)
         }
         Err((frozen, fault)) => {
-            text.show(&fault);
+            text.show(fault);
             CycleState::Frozen(frozen)
         }
     }
@@ -102,8 +102,8 @@ fn id(state: &CycleState, text: &mut Answer) -> bool {
     };
     let CycleId { day, cycle } = cycle_of(state);
     text.add(name);
-    text.word(&day);
-    text.word(&cycle);
+    text.word(day);
+    text.word(cycle);
     true
 }
 
@@ -125,7 +125,7 @@ fn add_reading(state: &CycleState, name: &str, key: &Key, hour: u8, text: &mut A
     };
     let reading = table.at(key.pair, key.direction, hour);
     text.add(name);
-    text.word(&reading);
+    text.word(reading);
     text.end_line();
 }
 

@@ -15,8 +15,8 @@ pub struct Days {
 /// `read TEXT`, the rest of the line.
 fn read(given: &str, text: &mut Answer) -> bool {
     match GasDay::read(given) {
-        Ok(day) => text.show(&day),
-        Err(fault) => text.show(&fault),
+        Ok(day) => text.show(day),
+        Err(fault) => text.show(fault),
     }
     true
 }
@@ -33,17 +33,16 @@ fn compare(mut words: Words<'_>, text: &mut Answer) -> bool {
 /// `names`: the refusals of each kind.
 fn names(text: &mut Answer) -> bool {
     let (format, range) = (DayFault::DayText, DayFault::DayRange);
-    text.show(&format);
-    text.word(&range);
+    text.show(format);
+    text.word(range);
     text.end_line();
     let (zone, length) = (CalendarFault::ZoneRefused, CalendarFault::DayLength);
     let memory = CalendarFault::OutOfMemory;
-    text.show(&zone);
-    text.word(&length);
-    text.word(&memory);
+    text.show(zone);
+    text.word(length);
+    text.word(memory);
     text.end_line();
-    let cycle = NoSuchCycle;
-    text.show(&cycle);
+    text.show(NoSuchCycle);
     text.end_line();
     true
 }
@@ -83,7 +82,7 @@ fn due(frame: DayFrame, mut words: Words<'_>, text: &mut Answer) -> bool {
         },
     };
     match frame.due(moment, last) {
-        Some(cycle) => text.show(&cycle),
+        Some(cycle) => text.show(cycle),
         None => text.add("none"),
     }
     true
@@ -92,11 +91,11 @@ fn due(frame: DayFrame, mut words: Words<'_>, text: &mut Answer) -> bool {
 /// Adds a frame: its day, its hours and how many cycles it has.
 fn add_frame(frame: &DayFrame, text: &mut Answer) {
     text.add("day");
-    text.word(&frame.day());
+    text.word(frame.day());
     text.add(" hours");
-    text.word(&frame.hours());
+    text.word(frame.hours());
     text.add(" cycles");
-    text.word(&frame.cycle_count());
+    text.word(frame.cycle_count());
 }
 
 impl Days {
@@ -114,7 +113,7 @@ impl Days {
                 self.calendar = Some(calendar);
                 text.add("ok");
             }
-            Err(fault) => text.show(&fault),
+            Err(fault) => text.show(fault),
         }
         true
     }
@@ -129,7 +128,7 @@ impl Days {
                 add_frame(&frame, text);
                 self.frame = Some(frame);
             }
-            Err(fault) => text.show(&fault),
+            Err(fault) => text.show(fault),
         }
         true
     }

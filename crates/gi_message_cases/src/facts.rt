@@ -53,7 +53,7 @@ impl Facts {
         match decode_fact(alloc, &bytes) {
             Ok(fact) => self.keep(alloc, form, &bytes, fact, text),
             Err(fault) => {
-                text.show(&fault);
+                text.show(fault);
                 Ok(true)
             }
         }
@@ -90,7 +90,7 @@ impl Facts {
     /// Whether the fact is another; `none` where one of them is no fact.
     fn is(&self, alloc: Global, words: Words, text: &mut Answer) -> bool {
         match (&self.fact, &fact_of(alloc, words)) {
-            (Some(fact), Some(other)) => text.show(&fact.is(other)),
+            (Some(fact), Some(other)) => text.show(fact.is(other)),
             _ => text.add("none"),
         }
         true
@@ -100,7 +100,7 @@ impl Facts {
     fn eq_table(&self, alloc: Global, words: Words, text: &mut Answer) -> bool {
         match (&self.fact, &fact_of(alloc, words)) {
             (Some(Fact::Met { peer, .. }), Some(Fact::Met { peer: other, .. })) => {
-                text.show(&(peer == other));
+                text.show(peer == other);
             }
             _ => text.add("none"),
         }
@@ -115,7 +115,7 @@ fn fault(name: &str, text: &mut Answer) -> bool {
         "OutOfMemory" => FactFault::OutOfMemory,
         _ => return false,
     };
-    text.show(&fault);
+    text.show(fault);
     true
 }
 

@@ -5,10 +5,10 @@ use gi_pairs::{Quantity, Row, Table};
 
 /// Adds a quantity, behind a space, and how many times it stands there.
 fn add_run(quantity: Quantity, count: usize, text: &mut Answer) {
-    text.word(&quantity.value());
+    text.word(quantity.value());
     if count > 1 {
         text.add("x");
-        text.show(&count);
+        text.show(count);
     }
 }
 
@@ -23,9 +23,9 @@ pub(crate) fn add_hours(hours: &[Quantity], text: &mut Answer) {
 
 /// Adds a row.
 fn add_row(row: &Row, text: &mut Answer) {
-    text.show(&row.pair.initiating);
-    text.word(&row.pair.matching);
-    text.word(&row.direction);
+    text.show(row.pair.initiating);
+    text.word(row.pair.matching);
+    text.word(row.direction);
     add_hours(row.hours.as_slice(), text);
 }
 
@@ -33,8 +33,8 @@ fn add_row(row: &Row, text: &mut Answer) {
 pub(crate) fn add_table(table: &Table, text: &mut Answer) {
     let (first, last) = (table.first(), table.last());
     text.add("hours");
-    text.word(&first);
-    text.word(&last);
+    text.word(first);
+    text.word(last);
     for row in table.rows() {
         text.end_line();
         add_row(row, text);

@@ -56,7 +56,7 @@ impl Messages {
         match decode(alloc, &bytes) {
             Ok(message) => self.keep(alloc, form, &bytes, message, text),
             Err(fault) => {
-                text.show(&fault);
+                text.show(fault);
                 Ok(true)
             }
         }
@@ -111,7 +111,7 @@ impl Messages {
             return false;
         };
         let lines = lines.into_vec();
-        text.show(&lines.len());
+        text.show(lines.len());
         text.end_line();
         for line in &lines {
             add_line(line, text);
@@ -133,8 +133,8 @@ fn copy_line(alloc: Global, words: Words, text: &mut Answer) -> Result<bool, Fau
 fn add_span(span: Result<Span, Key>, text: &mut Answer) {
     match span {
         Ok(Span { first, last }) => {
-            text.show(&first);
-            text.word(&last);
+            text.show(first);
+            text.word(last);
         }
         Err(key) => text.add(key.text()),
     }

@@ -85,7 +85,7 @@ fn take(book: &mut Book, offer: Offer) -> Result<Verdict, AllocError> {
 /// Adds a verdict.
 pub(crate) fn add_verdict(verdict: Verdict, text: &mut Answer) {
     match verdict {
-        Verdict::Refused(fault) => text.show(&fault),
+        Verdict::Refused(fault) => text.show(fault),
         other => text.debug(&other),
     }
 }
@@ -93,11 +93,11 @@ pub(crate) fn add_verdict(verdict: Verdict, text: &mut Answer) {
 /// Adds the version and the lines of a nomination.
 fn add_nomint(nomint: &Nomint, text: &mut Answer) {
     text.add("version");
-    text.word(&nomint.version);
+    text.word(nomint.version);
     for line in nomint.lines.as_slice() {
         text.end_line();
-        text.show(&line.counterparty);
-        text.word(&line.direction);
+        text.show(line.counterparty);
+        text.word(line.direction);
         add_hours(line.hours.as_slice(), text);
     }
 }
@@ -162,7 +162,7 @@ impl Subject for Nominations {
             "take" => self.take(alloc, words, text),
             "in_force" => Ok(self.in_force(words, text)),
             "most_lines" => {
-                text.show(&MOST_LINES);
+                text.show(MOST_LINES);
                 Ok(true)
             }
             _ => Ok(false),

@@ -37,7 +37,7 @@ fn add_fault(mut words: Words<'_>, text: &mut Answer) -> bool {
         return false;
     };
     match fault(&notice) {
-        Some(fault) => text.show(&fault),
+        Some(fault) => text.show(fault),
         None => text.add("none"),
     }
     true
@@ -47,7 +47,7 @@ fn add_fault(mut words: Words<'_>, text: &mut Answer) -> bool {
 fn add_processed(table: &Result<Table, NoSuchCycle>, whole: bool, text: &mut Answer) {
     match table {
         Ok(table) if whole => add_table(table, text),
-        Ok(table) => text.show(&table.rows().len()),
+        Ok(table) => text.show(table.rows().len()),
         Err(fault) => text.show(fault),
     }
 }
@@ -71,8 +71,8 @@ fn answer_alone(
 fn answer_plain(name: &str, words: Words<'_>, text: &mut Answer) -> bool {
     match name {
         "fault" => return add_fault(words, text),
-        "most_portfolios" => text.show(&MOST_PORTFOLIOS),
-        "most_permille" => text.show(&MOST_PERMILLE),
+        "most_portfolios" => text.show(MOST_PORTFOLIOS),
+        "most_permille" => text.show(MOST_PERMILLE),
         "faults" => add_faults(text),
         _ => return false,
     }
@@ -82,7 +82,7 @@ fn answer_plain(name: &str, words: Words<'_>, text: &mut Answer) -> bool {
 /// Adds the faults of `set` and of `notice`.
 fn add_faults(text: &mut Answer) {
     for fault in [ContractFault::TooManyPortfolios, ContractFault::OutOfMemory] {
-        text.show(&fault);
+        text.show(fault);
         text.end_line();
     }
     for fault in [
@@ -90,7 +90,7 @@ fn add_faults(text: &mut Answer) {
         NoticeFault::PermilleRange,
         NoticeFault::OutOfMemory,
     ] {
-        text.show(&fault);
+        text.show(fault);
         text.end_line();
     }
 }
@@ -160,8 +160,7 @@ impl Processing {
         let (Some(table), Some(key), Some(hour)) = (&self.table, words.key(), words.byte()) else {
             return false;
         };
-        let quantity = table.at(key.pair, key.direction, hour);
-        text.show(&quantity);
+        text.show(table.at(key.pair, key.direction, hour));
         true
     }
 }

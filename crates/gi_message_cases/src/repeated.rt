@@ -25,10 +25,10 @@ fn with_number(alloc: Global, call: &str, number: u8) -> Result<String, AllocErr
 
 /// Adds the answer for the numbers from `first` to `last`.
 fn add_run(first: u8, last: u8, answer: &Answer, text: &mut Answer) {
-    text.show(&first);
+    text.show(first);
     if first != last {
         text.add("-");
-        text.show(&last);
+        text.show(last);
     }
     text.add(" ");
     text.append(answer);

@@ -8,8 +8,7 @@ pub(crate) fn other(mut words: Words<'_>, text: &mut Answer) -> bool {
     let Some(side) = words.side() else {
         return false;
     };
-    let other = side.other();
-    text.show(&other);
+    text.show(side.other());
     true
 }
 
@@ -22,8 +21,8 @@ pub(crate) fn pair_of(mut words: Words<'_>, text: &mut Answer) -> bool {
         initiating,
         matching,
     } = Pair::of(side, own, other);
-    text.show(&initiating);
-    text.word(&matching);
+    text.show(initiating);
+    text.word(matching);
     true
 }
 
@@ -32,7 +31,6 @@ pub(crate) fn pair_at(mut words: Words<'_>, text: &mut Answer) -> bool {
     let (Some(side), Some(pair)) = (words.side(), words.pair()) else {
         return false;
     };
-    let code = pair.at(side);
-    text.show(&code);
+    text.show(pair.at(side));
     true
 }

@@ -3,7 +3,8 @@
 use crate::order::order_of;
 use crate::sides::{other, pair_at, pair_of};
 use gi_calls::{
-    Answer, Fault, Subject, Words, add_hours, add_key, add_row, add_table, build, hours_of, row_of,
+    Answer, Fault, Subject, Words, add_hours, add_key, add_row, add_table, built_table, hours_of,
+    row_of,
 };
 use gi_pairs::{
     Code, CodeText, Direction, Hours, Key, LAST_HOUR, MOST_PROCESSED_ROWS, MOST_ROWS, Quantity,
@@ -21,7 +22,7 @@ pub struct Tables {
 fn code(given: &str, text: &mut Answer) -> bool {
     match Code::read(given) {
         Ok(code) => text.add(code.as_str()),
-        Err(fault) => text.show(&fault),
+        Err(fault) => text.show(fault),
     }
     true
 }
@@ -45,10 +46,9 @@ fn quantity(mut words: Words<'_>, text: &mut Answer) -> bool {
     };
     match Quantity::new(value) {
         Ok(quantity) => {
-            let value = quantity.value();
-            text.show(&value);
+            text.show(quantity.value());
         }
-        Err(fault) => text.show(&fault),
+        Err(fault) => text.show(fault),
     }
     true
 }
@@ -85,8 +85,7 @@ fn hours(alloc: Global, words: Words<'_>, text: &mut Answer) -> Result<bool, Fau
         return Ok(false);
     };
     let quantities = hours.copy()?.into_vec();
-    let count = quantities.len();
-    text.show(&count);
+    text.show(quantities.len());
     text.add(":");
     add_hours(&Hours::from(quantities), text);
     Ok(true)
@@ -115,8 +114,7 @@ fn add_equal(alloc: Global, left: &Row, right: &str, text: &mut Answer) -> Resul
     let Some(right) = row_of(alloc, Words::of(right))? else {
         return Ok(false);
     };
-    let equal = *left == right;
-    text.show(&equal);
+    text.show(*left == right);
     Ok(true)
 }
 
@@ -134,43 +132,41 @@ fn equal(alloc: Global, rows: &str, text: &mut Answer) -> Result<bool, Fault> {
 /// `names`: sides, directions and refusals.
 fn names(text: &mut Answer) -> bool {
     let (initiating, matching) = (Side::I, Side::M);
-    text.show(&initiating);
-    text.word(&matching);
+    text.show(initiating);
+    text.word(matching);
     text.end_line();
     let (leaving, entering) = (Direction::IM, Direction::MI);
-    text.show(&leaving);
-    text.word(&entering);
+    text.show(leaving);
+    text.word(entering);
     text.end_line();
     let (range, format) = (QuantityRange, CodeText);
-    text.show(&range);
-    text.word(&format);
+    text.show(range);
+    text.word(format);
     text.end_line();
     let (hours, rows) = (TableFault::HourRange, TableFault::TooManyRows);
-    text.show(&hours);
-    text.word(&rows);
+    text.show(hours);
+    text.word(rows);
     text.end_line();
     let (unequal, twice) = (TableFault::UnequalHours, TableFault::Duplicate);
-    text.show(&unequal);
-    text.word(&twice);
+    text.show(unequal);
+    text.word(twice);
     text.end_line();
-    let memory = TableFault::OutOfMemory;
-    text.show(&memory);
+    text.show(TableFault::OutOfMemory);
     text.end_line();
     true
 }
 
 /// `limits`: the last hour, the most rows of a processed table and the most rows of a table.
 fn limits(text: &mut Answer) -> bool {
-    text.show(&LAST_HOUR);
-    text.word(&MOST_PROCESSED_ROWS);
-    text.word(&MOST_ROWS);
+    text.show(LAST_HOUR);
+    text.word(MOST_PROCESSED_ROWS);
+    text.word(MOST_ROWS);
     true
 }
 
 /// Adds what the table reads, behind what stands there.
 fn add_reading(table: &Table, key: &Key, hour: u8, text: &mut Answer) {
-    let reading = table.at(key.pair, key.direction, hour);
-    text.word(&reading);
+    text.word(table.at(key.pair, key.direction, hour));
 }
 
 /// `at INITIATING MATCHING DIRECTION HOUR ..`: the readings in these hours.
@@ -215,12 +211,12 @@ impl Tables {
 
     /// `build FIRST LAST ROWS`; where it is refused the table before it stays.
     fn build(&mut self, alloc: Global, given: &str, text: &mut Answer) -> Result<bool, Fault> {
-        let Some(built) = build(alloc, given)? else {
+        let Some(built) = built_table(alloc, given)? else {
             return Ok(false);
         };
         match built {
             Ok(table) => self.keep(table, text),
-            Err(fault) => text.show(&fault),
+            Err(fault) => text.show(fault),
         }
         Ok(true)
     }

@@ -66,13 +66,12 @@ fn plainly(
 ) -> Result<Option<Table>, Fault> {
     match is_plain(alloc, own, peer, &walked) {
         Ok(true) => {
-            let rows = walked.rows().len();
-            text.word(&rows);
+            text.word(walked.rows().len());
             Ok(Some(walked))
         }
         Ok(false) => {
             drop(walked);
-            text.word(&"differ");
+            text.word("differ");
             Ok(None)
         }
         Err(fault) => {
@@ -93,7 +92,7 @@ fn agreed(
     match walked(threads, alloc, own, peer)? {
         Some(walked) => plainly(alloc, own, peer, walked, text),
         None => {
-            text.word(&"differ");
+            text.word("differ");
             Ok(None)
         }
     }
@@ -176,8 +175,7 @@ impl Walks {
             let Some(quantity) = Words::of(word).quantity() else {
                 return false;
             };
-            let count = count_of(lesser, quantity);
-            text.word(&count);
+            text.word(count_of(lesser, quantity));
         }
         true
     }

@@ -93,8 +93,7 @@ impl Books {
                 text.add("ok");
             }
             Err(error) => {
-                let fault = StoreFault::from(error);
-                text.show(&fault);
+                text.show(StoreFault::from(error));
             }
         }
         true

@@ -55,7 +55,7 @@ fn joined(
             keep_settled(former, Some(joined));
             text.add("ok");
         }
-        Err(fault) => text.show(&fault),
+        Err(fault) => text.show(fault),
     }
     true
 }
@@ -71,7 +71,7 @@ fn reconciled(
     };
     match reconcile(initiating, matching) {
         Ok(()) => text.add("ok"),
-        Err(fault) => text.show(&fault),
+        Err(fault) => text.show(fault),
     }
     true
 }

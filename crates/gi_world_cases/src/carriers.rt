@@ -60,7 +60,7 @@ fn build(alloc: Global, words: Words<'_>, text: &mut Answer) -> Result<bool, Fau
     };
     match plan {
         Ok(plan) => add_moves(&plan, text),
-        Err(fault) => text.show(&fault),
+        Err(fault) => text.show(fault),
     }
     Ok(true)
 }
@@ -76,8 +76,7 @@ fn eq(alloc: Global, words: Words<'_>, text: &mut Answer) -> Result<bool, Fault>
     let Some(Ok(other)) = plan(alloc, Words::of(other))? else {
         return Ok(false);
     };
-    let equal = one == other;
-    text.show(&equal);
+    text.show(one == other);
     Ok(true)
 }
 
@@ -85,11 +84,11 @@ fn eq(alloc: Global, words: Words<'_>, text: &mut Answer) -> Result<bool, Fault>
 fn faults(text: &mut Answer) -> bool {
     let (length, full) = (PlanFault::PlanLength, SendFault::Full);
     let memory = SendFault::OutOfMemory;
-    text.show(&length);
+    text.show(length);
     text.end_line();
-    text.show(&full);
+    text.show(full);
     text.end_line();
-    text.show(&memory);
+    text.show(memory);
     text.end_line();
     true
 }

@@ -92,7 +92,7 @@ impl Reports {
                 self.keep(fact)?;
                 text.add("ok");
             }
-            Err(fault) => text.show(&fault),
+            Err(fault) => text.show(fault),
         }
         Ok(true)
     }
@@ -123,7 +123,7 @@ impl Reports {
                 self.keep_office(office);
                 text.add("ok");
             }
-            Err(fault) => text.show(&fault),
+            Err(fault) => text.show(fault),
         }
         Ok(true)
     }

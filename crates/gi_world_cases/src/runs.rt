@@ -44,7 +44,7 @@ impl<T: Shown + PartialEq + Drop> Runs<T> {
             text.add(", ");
         }
         if self.count > 1 {
-            text.show(&self.count);
+            text.show(self.count);
             text.add(" times ");
         }
         last.add_to(text);

@@ -31,11 +31,10 @@ fn add_said(script: &Script, text: &mut Answer) {
 
 /// Adds a script's point, and the number of each line with what it says.
 fn add_script(script: &Script, text: &mut Answer) {
-    let point = script.point();
-    text.show(&point);
+    text.show(script.point());
     text.end_line();
     for line in script.lines() {
-        text.show(&line.number);
+        text.show(line.number);
         add_instruction(&line.instruction, text);
         text.end_line();
     }
@@ -48,7 +47,7 @@ fn add_line(alloc: Global, line: &[u8], text: &mut Answer) -> Result<bool, Fault
     script.extend_from_slice(b"\n")?;
     match read_script(alloc, &script) {
         Ok(script) => add_said(&script, text),
-        Err(fault) => text.show(&fault),
+        Err(fault) => text.show(fault),
     }
     Ok(true)
 }
@@ -78,11 +77,11 @@ fn plan_line(alloc: Global, mut words: Words<'_>, text: &mut Answer) -> Result<b
 fn faults(text: &mut Answer) -> bool {
     let (point, unreadable) = (ScriptFault::Point, ScriptFault::Unreadable(7));
     let memory = ScriptFault::OutOfMemory;
-    text.show(&point);
+    text.show(point);
     text.end_line();
-    text.show(&unreadable);
+    text.show(unreadable);
     text.end_line();
-    text.show(&memory);
+    text.show(memory);
     text.end_line();
     true
 }
@@ -114,7 +113,7 @@ impl Scripts {
         self.lines.extend_from_slice(&last)?;
         match read_script(self.alloc, &self.lines) {
             Ok(script) => add_script(&script, text),
-            Err(fault) => text.show(&fault),
+            Err(fault) => text.show(fault),
         }
         self.lines.clear();
         Ok(true)

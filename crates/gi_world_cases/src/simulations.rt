@@ -48,7 +48,7 @@ fn make(
     text: &mut Answer,
 ) -> Result<(), AllocError> {
     match simulation.make(instruction)? {
-        Some(outcome) => text.show(&outcome),
+        Some(outcome) => text.show(outcome),
         None => text.add("none"),
     }
     text.end_line();
@@ -78,7 +78,7 @@ fn read(alloc: Global, script: &str, text: &mut Answer) -> Option<Script> {
     match read_script(alloc, script.as_bytes()) {
         Ok(script) => Some(script),
         Err(fault) => {
-            text.show(&fault);
+            text.show(fault);
             text.end_line();
             None
         }
@@ -224,7 +224,7 @@ impl Simulations {
                 self.take(simulated.simulation);
             }
             Err(fault) => {
-                text.show(&fault);
+                text.show(fault);
                 text.end_line();
             }
         }
@@ -246,7 +246,7 @@ impl Simulations {
                 text.end_line();
             }
             Err(fault) => {
-                text.show(&fault);
+                text.show(fault);
                 text.end_line();
             }
         }
@@ -264,7 +264,7 @@ impl Simulations {
                 text.add("ok\n");
             }
             Err(fault) => {
-                text.show(&fault);
+                text.show(fault);
                 text.end_line();
             }
         }

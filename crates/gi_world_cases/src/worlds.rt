@@ -41,7 +41,7 @@ fn add_run(run: &Run, text: &mut Answer) {
     }
     let done = run.done;
     text.add("done");
-    text.word(&done);
+    text.word(done);
     text.end_line();
 }
 
@@ -81,7 +81,7 @@ impl Worlds {
                 self.begin_steps(alloc, text)
             }
             Err(fault) => {
-                text.show(&fault);
+                text.show(fault);
                 text.end_line();
                 true
             }
@@ -123,7 +123,7 @@ impl Worlds {
                 self.take(run.world);
             }
             Err(fault) => {
-                text.show(&fault);
+                text.show(fault);
                 text.end_line();
             }
         }

@@ -19,7 +19,7 @@ fn add_reading(table: &Table, mut words: Words<'_>, text: &mut Answer) -> bool {
     match words.next() {
         "" => add_table(table, text),
         "at" => match reading(table, words) {
-            Some(quantity) => text.show(&quantity),
+            Some(quantity) => text.show(quantity),
             None => return false,
         },
         _ => return false,
@@ -84,7 +84,7 @@ fn unsaved<R: Role>(alloc: Global, desk: &Desk<R>, text: &mut Answer) -> Result<
     let Some((number, fact)) = desk.unsaved() else {
         return add_fact(alloc, None, text);
     };
-    text.show(&number);
+    text.show(number);
     text.add(" ");
     add_fact(alloc, Some(fact), text)
 }
@@ -136,9 +136,9 @@ fn hours<R: Role>(desk: &Desk<R>, mut words: Words<'_>, text: &mut Answer) -> bo
         Ok(frame) => {
             let hours = frame.hours();
             text.add("hours");
-            text.word(&hours);
+            text.word(hours);
         }
-        Err(fault) => text.show(&fault),
+        Err(fault) => text.show(fault),
     }
     true
 }
@@ -154,8 +154,7 @@ fn told_of<R: Role>(
     match query {
         "fact" => add_fact(alloc, desk.fact(number), text),
         "acknowledged" => {
-            let acknowledged = desk.acknowledged(number);
-            text.show(&acknowledged);
+            text.show(desk.acknowledged(number));
             Ok(true)
         }
         "outgoing" => outgoing(desk, number, text),
@@ -167,10 +166,10 @@ fn told_of<R: Role>(
 /// What the desk tells of itself.
 fn told_alone<R: Role>(desk: &Desk<R>, query: &str, text: &mut Answer) -> bool {
     match query {
-        "len" => text.show(&desk.len()),
-        "saved" => text.show(&desk.saved()),
-        "halted" => text.show(&desk.halted()),
-        "point" => text.show(&desk.point()),
+        "len" => text.show(desk.len()),
+        "saved" => text.show(desk.saved()),
+        "halted" => text.show(desk.halted()),
+        "point" => text.show(desk.point()),
         // All is saved.
         "save" => text.add("none"),
         "known" => {

@@ -16,7 +16,7 @@ pub(crate) fn add_bytes(bytes: &[u8], text: &mut Answer) {
 /// Adds `Recorded 4`: what was done, and the number of the fact.
 fn add_numbered(done: &str, number: u32, text: &mut Answer) {
     text.add(done);
-    text.word(&number);
+    text.word(number);
 }
 
 /// Adds a line with `Recorded 4`, or the refusal.
@@ -27,7 +27,7 @@ fn add_answer(answer: gi_desk::Answer, text: &mut Answer) {
         gi_desk::Answer::Saved { n } => add_numbered("Saved", n, text),
         gi_desk::Answer::Resent => text.add("Resent"),
         gi_desk::Answer::Stopped => text.add("Stopped"),
-        gi_desk::Answer::Refused(refusal) => text.show(&refusal),
+        gi_desk::Answer::Refused(refusal) => text.show(refusal),
     }
     text.end_line();
 }
@@ -37,7 +37,7 @@ pub(crate) fn add_packet(to: Recipient, body: &[u8], text: &mut Answer) {
     text.add("-> ");
     match to {
         Recipient::Peer => text.add("peer"),
-        Recipient::User(portfolio) => text.show(&portfolio),
+        Recipient::User(portfolio) => text.show(portfolio),
     }
     text.add(" ");
     add_bytes(body, text);

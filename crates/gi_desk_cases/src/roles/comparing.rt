@@ -11,11 +11,11 @@ use std::alloc::Global;
 fn add_comparison(function: &str, one: &Table, other: &Table, text: &mut Answer) -> bool {
     match function {
         "difference" => match difference(one.rows(), other.rows()) {
-            Some(row) => text.show(&row),
+            Some(row) => text.show(row),
             None => text.add("none"),
         },
         "met_again" => add_decision(&met_again(one, other), text),
-        "covers_same_hours" => text.show(&one.covers_same_hours(other)),
+        "covers_same_hours" => text.show(one.covers_same_hours(other)),
         _ => return false,
     }
     true

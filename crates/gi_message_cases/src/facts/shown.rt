@@ -20,7 +20,7 @@ fn add_notice(notice: &Notice, text: &mut Answer) {
     add_field("day", &notice.day, text);
     add_field("direction", &notice.direction, text);
     add_field("hours", &notice.first, text);
-    text.word(&notice.last);
+    text.word(notice.last);
     add_field("firm", &notice.firm, text);
     add_field("interruptible", &notice.interruptible, text);
     text.end_line();

@@ -8,7 +8,7 @@ use std::fmt::Display;
 
 /// Adds a field behind its name.
 pub(crate) fn add_field<T: Display>(name: &str, value: &T, text: &mut Answer) {
-    text.word(&name);
+    text.word(name);
     text.word(value);
 }
 
@@ -65,7 +65,7 @@ fn add_nomres(message: &Nomres, text: &mut Answer) {
     add_portfolio(message.point, message.portfolio, text);
     add_cycle(message.day, message.cycle, text);
     add_field("hours", &message.first, text);
-    text.word(&message.last);
+    text.word(message.last);
     text.end_line();
     add_lines(&message.lines, text);
 }

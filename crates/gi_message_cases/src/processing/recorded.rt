@@ -20,8 +20,7 @@ fn refuses(records: &Records, mut words: Words<'_>, text: &mut Answer) -> bool {
     let Some(contract) = words.contract() else {
         return false;
     };
-    let is_refused = records.contracts().refuses(&contract);
-    text.show(&is_refused);
+    text.show(records.contracts().refuses(&contract));
     true
 }
 
@@ -37,8 +36,7 @@ fn knows(records: &Records, mut words: Words<'_>, text: &mut Answer) -> bool {
     let (Some(portfolio), Some(day)) = (words.code(), words.day()) else {
         return false;
     };
-    let is_known = records.contracts().knows(portfolio, day);
-    text.show(&is_known);
+    text.show(records.contracts().knows(portfolio, day));
     true
 }
 
@@ -54,7 +52,7 @@ fn available(records: &Records, mut words: Words<'_>, text: &mut Answer) -> bool
     let quantity = records
         .contracts()
         .available(portfolio, day, direction, hour);
-    text.show(&quantity);
+    text.show(quantity);
     true
 }
 

@@ -121,8 +121,8 @@ fn add_rows(table: &Table, text: &mut Answer) {
         if place > 0 {
             text.add(", ");
         }
-        text.show(&row.pair.matching);
-        text.word(&row.direction);
+        text.show(row.pair.matching);
+        text.word(row.direction);
         add_hours(row.hours.as_slice(), text);
     }
     if table.rows().is_empty() {

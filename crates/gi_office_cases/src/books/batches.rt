@@ -60,7 +60,6 @@ pub(crate) fn add_fitting(alloc: Global, facts: &str, text: &mut Answer) -> Resu
     if facts.is_empty() || MOST_FACTS < facts.len() {
         return Ok(false);
     }
-    let count = fitting(alloc, facts.as_slice())?;
-    text.show(&count);
+    text.show(fitting(alloc, facts.as_slice())?);
     Ok(true)
 }

@@ -37,7 +37,7 @@ pub(crate) fn replay(
             add_counts(&desk, text);
             let _former = unsafe { ManuallyDrop::new_unchecked(place.replace(desk)) };
         }
-        Err(fault) => text.show(&fault),
+        Err(fault) => text.show(fault),
     }
 }
 
@@ -45,9 +45,9 @@ pub(crate) fn replay(
 fn add_counts(desk: &Desk<Initiating>, text: &mut Answer) {
     let (facts, saved) = (desk.len(), desk.saved());
     text.add("facts ");
-    text.show(&facts);
+    text.show(facts);
     text.add(" saved ");
-    text.show(&saved);
+    text.show(saved);
 }
 
 /// Adds what is confirmed in a place, where its cycle is: a cycle, a key and an hour.
@@ -57,8 +57,7 @@ fn add_confirmed(desk: &Desk<Initiating>, mut words: Words<'_>, text: &mut Answe
     };
     match desk.confirmed(id) {
         Some(table) => {
-            let quantity = table.at(key.pair, key.direction, hour);
-            text.show(&quantity);
+            text.show(table.at(key.pair, key.direction, hour));
         }
         None => text.add("none"),
     }

@@ -56,7 +56,7 @@ fn point_of(call: &str) -> Option<Code> {
 fn add_facts(alloc: Global, facts: &[Fact], text: &mut Answer) -> Result<(), Fault> {
     let count = facts.len();
     text.add("facts ");
-    text.show(&count);
+    text.show(count);
     text.end_line();
     for fact in facts {
         let bytes = encode_fact(alloc, fact)?;
@@ -112,7 +112,7 @@ fn save_next<S: Alter>(
             text.done(&book.save_next(n, &fact));
             drop(fact);
         }
-        Err(fault) => text.show(&fault),
+        Err(fault) => text.show(fault),
     }
 }
 
@@ -129,14 +129,14 @@ fn save_batch<S: Alter>(
             text.done(&book.save_batch(n, facts.as_slice()));
             drop(facts);
         }
-        Err(fault) => text.show(&fault),
+        Err(fault) => text.show(fault),
     }
 }
 
 /// Adds how many facts are known.
 fn add_count(count: Option<u32>, text: &mut Answer) {
     match count {
-        Some(count) => text.show(&count),
+        Some(count) => text.show(count),
         None => text.add("none"),
     }
 }
@@ -182,7 +182,7 @@ fn save_fact<S: Alter>(
         return Ok(true);
     };
     if let Err(fault) = book.save_next(n, fact) {
-        text.show(&fault);
+        text.show(fault);
         return Ok(true);
     }
     let fact = fact.copy()?;
@@ -208,7 +208,7 @@ impl<S: Alter + Drop> Opened<S> {
                 let _none = unsafe { ManuallyDrop::new_unchecked(self.book.replace(book)) };
                 text.add("ok");
             }
-            Err(fault) => text.show(&fault),
+            Err(fault) => text.show(fault),
         }
         true
     }
@@ -220,7 +220,7 @@ impl<S: Alter + Drop> Opened<S> {
         };
         match book.load() {
             Ok(facts) => desks::replay(alloc, point, facts, &mut self.desk, text),
-            Err(fault) => text.show(&fault),
+            Err(fault) => text.show(fault),
         }
         true
     }

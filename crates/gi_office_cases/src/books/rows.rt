@@ -6,7 +6,7 @@ use sqlite::{Error, Row};
 fn add_value(value: ValueRef<'_>, text: &mut Answer) {
     match value {
         ValueRef::Null => text.add("NULL"),
-        ValueRef::Int(number) => text.show(&number),
+        ValueRef::Int(number) => text.show(number),
         ValueRef::Text(bytes) => text.add(str::from_utf8(bytes).unwrap_or("no text")),
         _ => text.add("other"),
     }

@@ -93,8 +93,7 @@ fn count_entries<R: Role>(settled: &Option<Settled<R>>, text: &mut Answer) -> bo
     let Some(settled) = settled else {
         return false;
     };
-    let count = settled.len();
-    text.show(&count);
+    text.show(settled.len());
     true
 }
 

@@ -56,7 +56,7 @@ pub fn opened<R: Role, L: Ledger>(
     let desk = match new_desk(alloc, point, facts) {
         Ok(desk) => desk,
         Err(fault) => {
-            text.show(&fault);
+            text.show(fault);
             return None;
         }
     };
@@ -64,7 +64,7 @@ pub fn opened<R: Role, L: Ledger>(
     match Office::new(alloc, blank, desk, seats) {
         Ok(opened) => Some(opened),
         Err(fault) => {
-            text.show(&fault);
+            text.show(fault);
             None
         }
     }

@@ -23,9 +23,9 @@ fn add_number(answer: Result<usize, StoreFault>, text: &mut Answer) {
     match answer {
         Ok(number) => {
             text.add("ok");
-            text.word(&number);
+            text.word(number);
         }
-        Err(fault) => text.show(&fault),
+        Err(fault) => text.show(fault),
     }
 }
 

@@ -27,8 +27,7 @@ pub fn count_notes<L: Ledger>(seats: &[Seat<L>], number: u8, text: &mut Answer) 
     let Some(seat) = seats.iter().find(|it| it.number() == number) else {
         return false;
     };
-    let count = seat.notes().len();
-    text.show(&count);
+    text.show(seat.notes().len());
     true
 }
 

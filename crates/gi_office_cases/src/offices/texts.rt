@@ -7,7 +7,7 @@ use gi_office::{Entry, OfficeFault, Receipt, Settled, Unsettled};
 /// Adds a name and the number of a fact.
 fn add_numbered(name: &str, n: u32, text: &mut Answer) {
     text.add(name);
-    text.word(&n);
+    text.word(n);
 }
 
 /// Adds `Recorded 4`, or the refusal.
@@ -18,7 +18,7 @@ pub(crate) fn add_answer(answer: gi_desk::Answer, text: &mut Answer) {
         gi_desk::Answer::Saved { n } => add_numbered("Saved", n, text),
         gi_desk::Answer::Resent => text.add("Resent"),
         gi_desk::Answer::Stopped => text.add("Stopped"),
-        gi_desk::Answer::Refused(refusal) => text.show(&refusal),
+        gi_desk::Answer::Refused(refusal) => text.show(refusal),
     }
 }
 
@@ -27,7 +27,7 @@ fn add_packet(packet: &Packet, text: &mut Answer) {
     text.add("-> ");
     match packet.to {
         Recipient::Peer => text.add("peer"),
-        Recipient::User(portfolio) => text.show(&portfolio),
+        Recipient::User(portfolio) => text.show(portfolio),
     }
     text.add(" ");
     text.add(std::str::from_utf8(packet.body.as_slice()).unwrap_or("not text"));
@@ -45,7 +45,7 @@ fn add_reply(reply: &Reply, text: &mut Answer) {
 
 /// Adds a receipt: its place in the trail, and the reply.
 pub fn add_receipt(receipt: &Receipt, text: &mut Answer) {
-    text.show(&receipt.place);
+    text.show(receipt.place);
     text.add(" ");
     add_reply(&receipt.reply, text)
 }
@@ -58,7 +58,7 @@ pub fn is_recorded(receipt: &Receipt) -> bool {
 /// Adds an entry of the trail: its seat, and the reply.
 fn add_entry(entry: &Entry, text: &mut Answer) {
     text.add("seat ");
-    text.show(&entry.seat);
+    text.show(entry.seat);
     text.add(" ");
     add_reply(&entry.reply, text)
 }
@@ -84,7 +84,7 @@ pub fn add_receipts(receipts: &[Receipt], seat: u8, text: &mut Answer) {
 pub fn add_told<R: Role>(settled: &Settled<R>, word: &str, number: u8, text: &mut Answer) {
     if word == "acknowledged" {
         let is_saved = settled.desk().acknowledged(u32::from(number));
-        return text.show(&is_saved);
+        return text.show(is_saved);
     }
     match settled.entry(u64::from(number)) {
         Some(entry) => add_entry(entry, text),
@@ -98,9 +98,9 @@ pub fn add_settled<R: Role>(settled: &Result<Settled<R>, Unsettled>, text: &mut 
         Ok(settled) => {
             let (facts, saved) = (settled.desk().len(), settled.desk().saved());
             text.add("settled facts ");
-            text.show(&facts);
+            text.show(facts);
             text.add(" saved ");
-            text.show(&saved);
+            text.show(saved);
         }
         Err(fault) => text.show(fault),
     }

@@ -24,8 +24,8 @@ fn add_cycles<R: Role>(alloc: Global, desk: &Desk<R>, text: &mut Answer) -> Resu
         text.add("no lines");
     }
     for id in &ids {
-        text.show(&id.day);
-        text.word(&id.cycle);
+        text.show(id.day);
+        text.word(id.cycle);
         text.end_line();
     }
     Ok(true)

@@ -37,7 +37,7 @@ pub fn add_escaped(given: &str, text: &mut Answer) {
         match character {
             '\r' => text.add("\\r"),
             '\t' => text.add("\\t"),
-            _ => text.show(&character),
+            _ => text.show(character),
         }
     }
 }

@@ -20,8 +20,8 @@ fn add_submission(body: &[u8], text: &mut Answer) {
 /// Adds a name and a cycle.
 fn add_cycle(name: &str, id: CycleId, text: &mut Answer) {
     text.add(name);
-    text.word(&id.day);
-    text.word(&id.cycle);
+    text.word(id.day);
+    text.word(id.cycle);
 }
 
 /// Adds a call of a desk, behind a space.
@@ -30,20 +30,20 @@ fn add_call(call: &Call, text: &mut Answer) {
         Call::Contract(of) => {
             let (firm, interruptible) = (of.firm.value(), of.interruptible.value());
             text.add(" contract");
-            text.word(&of.portfolio);
-            text.word(&of.day);
-            text.word(&of.direction);
-            text.word(&firm);
-            text.word(&interruptible);
+            text.word(of.portfolio);
+            text.word(of.day);
+            text.word(of.direction);
+            text.word(firm);
+            text.word(interruptible);
         }
         Call::Notice(of) => {
             text.add(" notice");
-            text.word(&of.day);
-            text.word(&of.direction);
-            text.word(&of.first);
-            text.word(&of.last);
-            text.word(&of.firm);
-            text.word(&of.interruptible);
+            text.word(of.day);
+            text.word(of.direction);
+            text.word(of.first);
+            text.word(of.last);
+            text.word(of.firm);
+            text.word(of.interruptible);
         }
         Call::Submit(body) => add_submission(body.as_slice(), text),
         Call::Close(id) => add_cycle(" close", *id, text),
@@ -56,9 +56,9 @@ fn add_call(call: &Call, text: &mut Answer) {
 
 /// Adds a side, what it is asked, and how many or which.
 fn add_asked(side: Side, asked: &str, number: u32, text: &mut Answer) {
-    text.word(&side);
+    text.word(side);
     text.add(asked);
-    text.word(&number);
+    text.word(number);
 }
 
 /// Adds an instruction, behind a space where its line has begun.
@@ -72,7 +72,7 @@ pub fn add_instruction(instruction: &Instruction, text: &mut Answer) {
         Instruction::Deliver { side, packet } => add_asked(*side, " deliver", *packet, text),
         Instruction::Restart { side, keep } => add_asked(*side, " restart", *keep, text),
         Instruction::Plan { side, plan } => {
-            text.word(&"plan");
+            text.word("plan");
             text.word(side);
             text.add(" ");
             add_moves(plan, text);

@@ -17,7 +17,7 @@ fn add_packet(packet: &Packet, text: &mut Answer) {
     text.add("-> ");
     match packet.to {
         Recipient::Peer => text.add("peer"),
-        Recipient::User(portfolio) => text.show(&portfolio),
+        Recipient::User(portfolio) => text.show(portfolio),
     }
     text.add(" ");
     add_bytes(packet.body.as_slice(), text);
@@ -44,7 +44,7 @@ pub fn add_reply(reply: &Reply, text: &mut Answer) {
     match reply.answer {
         gi_desk::Answer::Refused(refusal) => {
             text.add("Refused");
-            text.word(&refusal);
+            text.word(refusal);
         }
         answer => text.debug(&answer),
     }
@@ -69,10 +69,10 @@ pub fn add_outcome(outcome: &Result<WorldReply, WorldFault>, text: &mut Answer) 
 /// Adds how many facts a desk has, and how many of them are saved.
 pub fn add_counts<R: Role>(desk: &Desk<R>, text: &mut Answer) {
     let (side, facts, saved) = (R::SIDE, desk.len(), desk.saved());
-    text.show(&side);
+    text.show(side);
     text.add(" facts");
-    text.word(&facts);
+    text.word(facts);
     text.add(" saved");
-    text.word(&saved);
+    text.word(saved);
     text.end_line();
 }

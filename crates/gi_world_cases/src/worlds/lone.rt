@@ -72,7 +72,7 @@ impl Lone {
                 text.add("ok\n");
             }
             Err(fault) => {
-                text.show(&fault);
+                text.show(fault);
                 text.end_line();
             }
         }

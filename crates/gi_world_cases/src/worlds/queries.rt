@@ -14,8 +14,7 @@ fn add_quantity(table: &Table, mut words: Words<'_>, text: &mut Answer) -> bool 
     let (Some(key), Some(hour)) = (words.key(), words.byte()) else {
         return false;
     };
-    let quantity = table.at(key.pair, key.direction, hour);
-    text.show(&quantity);
+    text.show(table.at(key.pair, key.direction, hour));
     text.end_line();
     true
 }
@@ -109,7 +108,7 @@ fn ask<R: Role>(
 /// Adds the number of the packet with these bytes that was let out to the side.
 fn add_number(world: &World, side: Side, bytes: &str, text: &mut Answer) {
     match world.number_of(side, bytes.as_bytes()) {
-        Some(number) => text.show(&number),
+        Some(number) => text.show(number),
         None => text.add("none"),
     }
     text.end_line();

@@ -176,8 +176,8 @@ fn keep_both<L: Ledger>(
     (two, second): (Seat<L>, u32),
     text: &mut Answer,
 ) -> Result<bool, Fault> {
-    text.word(&first);
-    text.word(&second);
+    text.word(first);
+    text.word(second);
     let kept = put_back(seats, one);
     put_back(seats, two)?;
     kept?;

@@ -69,8 +69,7 @@ fn keep_receipts(
     text: &mut Answer,
 ) -> Result<(), Fault> {
     let mut given = given;
-    let count = given.iter().filter(|it| is_recorded(it)).count();
-    text.word(&count);
+    text.word(given.iter().filter(|it| is_recorded(it)).count());
     let kept = receipts.append(&mut given);
     drop(given);
     kept?;
@@ -88,9 +87,9 @@ fn add_notices<W: Wait>(handle: &W, receiver: Receiver<Side>, text: &mut Answer)
     }
     text.end_line();
     text.add("notices I");
-    text.word(&initiating);
+    text.word(initiating);
     text.add(" M");
-    text.word(&matching);
+    text.word(matching);
 }
 
 /// Keeps the seat and the receipts of a session. Adds how many facts it recorded, and its fault.
@@ -103,7 +102,7 @@ fn keep_served<L: Ledger>(
     let (seat, given, fault) = served.into_parts();
     let kept = keep_receipts(receipts, given, text);
     if let Some(fault) = fault {
-        text.word(&fault);
+        text.word(fault);
     }
     put_back(seats, seat)?;
     kept
