@@ -9,9 +9,33 @@ CLAUSE = r"(requires|ensures|ghost|invariant|decreases)\b"
 OWNER = re.compile(r"^(?:impl(?:<[^>]*>)?|(?:pub(?:\(\w+\))? )?trait) (.*?) *\{?$")
 
 
+CLOSURE = re.compile(r"^ *(?:\S.*[ (&])?(?:move )?&?(?:move )?\|[^|]*\|(?: -> .*)?$")
+
+
 def text_of(file):
     with open(file, encoding="utf-8") as it:
         return it.read()
+
+
+def depth_of(line):
+    return len(line) - len(line.lstrip(" "))
+
+
+def outline(text):
+    """What of a file's text the crates above see: no line that is a comment or empty, and of a function no body. Files have the layout of
+    rt fmt."""
+    kept, lines, at = [], [it for it in text.split("\n") if it.strip() and not it.lstrip().startswith("//")], 0
+    while at < len(lines):
+        found = FUNCTION.match(lines[at])
+        if found:
+            opened = re.compile(rf"^{found[1]}(?! ).*[{{}}]$|;$")
+            end = next(it for it in range(at, len(lines)) if opened.search(lines[it]))
+            kept += lines[at : end + 1]
+            at = lines.index(f"{found[1]}}}", end) if lines[end].endswith("{") else end + 1
+        else:
+            kept.append(lines[at])
+            at += 1
+    return "\n".join(kept)
 
 
 def module_of(path):
@@ -89,12 +113,14 @@ def owner_of(crate, path, owner):
 class Edit:
     """A wrong body: in each place the file, where its text starts and ends, and the new text; the functions whose contracts have to
     refuse it; whether it reaches outside of their bodies, where it could break other functions too, and so is tried alone; whether
-    one of these functions has waited for another edit's, so that it was not judged; and whether it is tried with all proofs."""
+    one of these functions has waited for another edit's, so that it was not judged; whether it is tried with all proofs; whether
+    the answers that are kept for the functions' goals are left out; and whether it stands in a closure with a clause of its own."""
 
     def __init__(self, crate, folder, name):
         self.crate, self.name, self.changes, self.functions = crate, name.removesuffix(".edit"), [], {}
         self.file = f"{folder}/{name}"
         self.is_alone, self.has_waited, self.is_whole, self.by, path, old, text = False, False, False, None, "", "", ""
+        self.lacks_answers, self.is_in_closure = False, False
         for line in text_of(self.file).split("\n"):
             word, _, rest = line.partition(":")
             rest = rest.removeprefix(" ")
@@ -151,6 +177,7 @@ class Edit:
             self.is_alone = True
             return
         self.functions[function.name] = function
+        self.is_in_closure |= is_in_closure(text[: text.find("\n", start)].split("\n"))
         self.is_alone |= re.findall(r"\bfn (\w+)", old) != re.findall(r"\bfn (\w+)", new)
 
     @staticmethod
@@ -171,6 +198,24 @@ class Edit:
         """Whether a clause behind this part of a new text is not one of a function that the edit brings."""
         names = re.findall(r"\bfn (\w+)", before)
         return not names or re.search(rf"\bfn {names[-1]}\b", text) is not None
+
+
+def is_in_closure(lines):
+    """Whether the last of these lines stands in a closure that has a clause of its own: its block begins on a line of its own, behind the
+    clauses, which stand deeper than it and than the closure's head above them."""
+    depth = depth_of(lines[-1]) + 1
+    for at in range(len(lines) - 1, 0, -1):
+        line = lines[at]
+        if not line.strip() or depth_of(line) >= depth:
+            continue
+        depth = depth_of(line)
+        if FUNCTION.match(line):
+            return False
+        if line.lstrip().startswith("{") and depth_of(lines[at - 1]) > depth:
+            head = next(it for it in reversed(lines[:at]) if it.strip() and depth_of(it) <= depth)
+            if CLOSURE.match(head):
+                return True
+    return False
 
 
 def placed(text, changes, start=0, end=None):

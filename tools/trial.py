@@ -1,4 +1,5 @@
 """Trials of crates with changes: a copy of the crate that is checked, and the libraries below."""
+import contextlib
 import os
 import re
 import shutil
@@ -21,11 +22,12 @@ class Trial:
         self.crate, self.room, self.jobs = crate, room, jobs
         self.functions = {it.name: it for it in functions_of(crate) if not it.is_of_trait}
 
-    def said(self, changes, functions, has_holes, copies=()):
+    def said(self, changes, functions, has_holes, copies=(), unanswered=()):
         """What a check of these functions says where the crate has these changes, and for the functions of which there is a copy
         also a copy of what helps to prove them: each function's verdict, or None where the check did not come to any, and what it
         printed. With holes all other functions, the methods of traits aside, have one in the place of their proof and no body, so that
-        what these call costs nothing, and a function is proved where it is under the contracts of what it calls."""
+        what these call costs nothing, and a function is proved where it is under the contracts of what it calls. The answers that are
+        kept for goals of the functions of these paths, or of their copies, are left out."""
         for part in kit.rtlib.PARTS:
             shutil.rmtree(f"{self.room}/{part}", ignore_errors=True)
             if os.path.isdir(f"{self.crate.folder}/{part}"):
@@ -38,6 +40,9 @@ class Trial:
                 file.write(text)
         for parts, name in copies:
             self.copy_proof(parts, name)
+        for parts in unanswered:
+            with contextlib.suppress(FileNotFoundError):
+                os.remove(f"{self.room}/{'/'.join(['proofs', *parts])}/Answers.antt")
         for other in others.values():
             self.put_hole(other.parts)
         only = [word for it in sorted(functions) for word in ("--only", it)]
