@@ -8,3 +8,5 @@ pub mod TotalLemmas
 pub mod LineLemmas
 pub mod AgreeLaws
 pub mod RunLemmas
+pub mod FirstPlaces
+pub mod ToldPlaces

@@ -16,8 +16,10 @@ use Rattle.gi_world.specs.declared.world_reply.WorldReply.TheVariants.{Restarted
 use Rattle.gi_desk.specs.Machine.{started_again}
 use Rattle.gi_desk.proofs.HistoryLaws.{one_more}
 use Rattle.std.specs.Prelude.{IsTrue}
+use Rattle.std.specs.Result.{OnOk}
 use Rattle.gi_world.proofs.DeliveredPackets.{delivered-order, delivered-response}
 use Rattle.gi_world.proofs.Meetings.{after-sound, met-sound}
+use Rattle.gi_audit.specs.LetOut.{HaveLetOut}
 use Rattle.gi_world.proofs.SentPackets.{legal-sound, point-sound, sent-sound, told-sound}
 
 pub step_sound : (w : WorldState) (step : Step) → IsSound w → FitsWorld w → IsSound (after w step)
@@ -74,6 +76,31 @@ restarted_M : (w : WorldState) (saved : ℕ) → (with_station M (after_restart 
 unfolding after_restart
 restarted_M w saved = refl
 
+-- a restart lets nothing out
+restart_out : (w : WorldState) (at side : Side) (saved : ℕ) → (station_of side (with_station at (after_restart (station_of at w) saved) w)).sent ≡ (station_of side w).sent
+unfolding after_restart
+restart_out w I I saved = refl
+restart_out w I M saved = refl
+restart_out w M I saved = refl
+restart_out w M M saved = refl
+
+restart_told : (w : WorldState) (at side : Side) (saved : ℕ) → (station_of side (with_station at (after_restart (station_of at w) saved) w)).told ≡ (station_of side w).told
+unfolding after_restart
+restart_told w I I saved = refl
+restart_told w I M saved = refl
+restart_told w M I saved = refl
+restart_told w M M saved = refl
+
+pub restart_lets_nothing_out : (old new : WorldState) (at : Side) (saved : ℕ) → new ≡ with_station at (after_restart (station_of at old) saved) old → HaveLetOut old new
+restart_lets_nothing_out old new at saved is = record {
+  sent = λ side. ap (λ (w : WorldState). (station_of side w).sent) is ∙ restart_out old at side saved;
+  told = λ side. ap (λ (w : WorldState). (station_of side w).told) is ∙ restart_told old at side saved;
+}
+
+pub out_of_both : (old between new : WorldState) → HaveLetOut old between → HaveLetOut between new → HaveLetOut old new
+out_of_both old between new first second =
+    record { sent = λ side. second.sent side ∙ first.sent side; told = λ side. second.told side ∙ first.told side }
+
 -- what restarts of both sides leave
 pub record AreBothAgain (old new : WorldState) : Type 0 where
   pub initiating : new.initiating.desk ≡ started_again old.initiating.desk old.initiating.desk.saved
@@ -91,3 +118,8 @@ both_again old between new first second =
           ap (λ (w : WorldState). w.matching.desk) second ∙ restarted_M between between.matching.desk.saved
           ∙ ap (λ (s : DeskState). started_again s s.saved) theirs;
     }
+
+-- what is so is so where a call is done
+pub done_too : {T E : Type 0} (r : Result T E) (P : Type 0) → P → OnOk r P
+done_too (Ok x) P is = is
+done_too (Err e) P is = tt

@@ -1,7 +1,8 @@
 -- What holds of all desks that agree, and of the desks of every world.
-use Rattle.std.specs.Prelude.{◌≡◌, None, Some, is_some, true}
-use Rattle.gi_pairs.specs.Table.{TableContents}
+use Rattle.std.specs.Prelude.{◌≡◌, ◌≢◌, ℕ, None, Some, is_some, true}
+use Rattle.gi_pairs.specs.Table.{HasShapeOf, TableContents}
 use Rattle.gi_pairs.specs.declared.cycle_id.CycleId.{CycleId}
+use Rattle.gi_pairs.specs.declared.side.Side.{Side}
 use Rattle.gi_pairs.specs.declared.side.Side.TheVariants.{I, M}
 use Rattle.gi_desk.specs.Machine.{DeskState, started_again}
 use Rattle.gi_desk.specs.Queries.{confirmed}
@@ -10,7 +11,11 @@ use Rattle.gi_world.specs.Agreement.{IsLegal, IsSound}
 use Rattle.gi_world.specs.World.{WorldState}
 use Rattle.gi_audit.specs.Agreeing.{Agree, ConfirmOneQuantity}
 use Rattle.gi_audit.specs.Finding.{difference, finding}
+use Rattle.gi_audit.specs.Place.{IsFirstPlace, first_place, place_between}
+use Rattle.gi_audit.specs.declared.difference.Difference.{Difference}
+use Rattle.gi_audit.specs.declared.difference.Against.TheVariants.{Closed}
 use Rattle.gi_audit.specs.declared.finding.Finding.TheVariants.{OpenAtBoth}
+use Rattle.gi_audit.specs.declared.place.Place.{Place}
 
 -- Of two desks that agree every quantity that either has confirmed is the lower of the two that both froze. Each holds
 -- facts that it would record in turn, and can be written: so do all desks.
@@ -39,3 +44,20 @@ WorldsAgree =
     (w : WorldState) → IsSound w
     → Agree w.initiating.desk w.matching.desk
     × Agree (started_again w.initiating.desk w.initiating.desk.saved) (started_again w.matching.desk w.matching.desk.saved)
+
+-- Two tables of the same hours that are not equal have a place: the first row that differs, and there the first hour, if any
+-- reads another quantity.
+abbrev pub TablesThatDifferHaveAPlace : Type 0
+TablesThatDifferHaveAPlace =
+    (met written : TableContents) → HasShapeOf met written → met ≢ written
+    → (place : Place) × (first_place met written ≡ Some place) × IsFirstPlace met written place
+
+-- Whatever place is told, it is that one.
+abbrev pub APlaceIsTheFirst : Type 0
+APlaceIsTheFirst = (met written : TableContents) (place : Place) → first_place met written ≡ Some place → IsFirstPlace met written place
+
+-- So where a desk met another table than the one that its peer wrote, a place is told.
+abbrev pub AnotherTableHasAPlace : Type 0
+AnotherTableHasAPlace =
+    (side other : Side) (s peer : DeskState) (id : CycleId) (found : Difference) (closing : ℕ) → IsLegal side s → difference side other s peer id ≡ Some found
+    → found.against ≡ Closed closing → is_some (place_between other s peer id) ≡ true

@@ -5,4 +5,5 @@ pub mod FindingText
 pub mod Place
 pub mod Cycles
 pub mod Audit
+pub mod LetOut
 pub mod Laws

@@ -1,5 +1,5 @@
 -- Where a table that a side met and the one that its peer wrote differ first.
-use Rattle.std.specs.Prelude.{ℕ, zero, suc, ◌+◌, ◌-◌, List, [], ◌++◌, Bool, not, nat_eq, if◌then◌else◌, Option, None, Some, option_map, slice_get, codes}
+use Rattle.std.specs.Prelude.{◌≡◌, ◌≢◌, ◌<◌, ◌≤◌, ℕ, zero, suc, ◌+◌, ◌-◌, List, [], ◌++◌, Bool, not, nat_eq, if◌then◌else◌, Option, None, Some, option_map, slice_get, codes}
 use Rattle.std.specs.Fmt.{decimal}
 use Rattle.std.specs.Ordering.{is_lt}
 use Rattle.gi_pairs.specs.Direction.{direction_text}
@@ -65,6 +65,40 @@ place_at met written key = record { key = key; hour = hour_at met written key }
 -- the first row in which two tables differ, and there the first hour
 abbrev pub first_place : TableContents → TableContents → Option Place
 first_place met written = option_map (place_at met written) (key_at met written)
+
+-- ---- which place that is
+
+-- The row is for this key: before it both tables have the same rows, and there they do not.
+pub record IsFirstRow (met written : TableContents) (key : Key) : Type 0 where
+  pub before : List Row
+  pub met_rest : List Row
+  pub written_rest : List Row
+  pub met_rows : met.rows ≡ before ++ met_rest
+  pub written_rows : written.rows ≡ before ++ written_rest
+  pub differ : slice_get met_rest 0 ≢ slice_get written_rest 0
+  pub for_key : lower_key (slice_get met_rest 0) (slice_get written_rest 0) ≡ Some key
+
+-- the tables read the same there
+abbrev pub ReadAlikeIn : TableContents → TableContents → Key → ℕ → Type 0
+ReadAlikeIn met written key hour = reading met key.pair key.direction hour ≡ reading written key.pair key.direction hour
+
+-- What the tables read in that hour is told, and they differ; and in each hour before it they read the same.
+pub record IsFirstHour (met written : TableContents) (key : Key) (told : HourDifference) : Type 0 where
+  pub from : 1 ≤ told.hour
+  pub to : told.hour ≤ last_hour
+  pub met_reads : told.met ≡ reading met key.pair key.direction told.hour
+  pub written_reads : told.written ≡ reading written key.pair key.direction told.hour
+  pub differ : told.met ≢ told.written
+  pub before : (hour : ℕ) → 1 ≤ hour → hour < told.hour → ReadAlikeIn met written key hour
+
+-- where no hour is told they read the same in each
+abbrev pub IsHourTold : TableContents → TableContents → Key → Option HourDifference → Type 0
+IsHourTold met written key None = (hour : ℕ) → 1 ≤ hour → hour ≤ last_hour → ReadAlikeIn met written key hour
+IsHourTold met written key (Some told) = IsFirstHour met written key told
+
+pub record IsFirstPlace (met written : TableContents) (place : Place) : Type 0 where
+  pub row : IsFirstRow met written place.key
+  pub hour : IsHourTold met written place.key place.hour
 
 -- ---- of a cycle
 

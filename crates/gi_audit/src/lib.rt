@@ -29,6 +29,7 @@ mod total;
 
 pub use auditing::{Audited, audit};
 pub use laws::{
-    agreeing_desks_confirm_one_quantity, the_matching_side_confirms_first, worlds_agree,
+    a_difference_has_its_place, agreeing_desks_confirm_one_quantity,
+    the_matching_side_confirms_first, worlds_agree,
 };
 pub use running::audit_run;

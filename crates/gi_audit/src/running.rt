@@ -7,6 +7,7 @@ ghost use Rattle.gi_world.specs.Runs.{run};
 ghost use Rattle.gi_world.specs.World.{after, after_restart, new_world, station_of, with_station};
 ghost use Rattle.gi_world.specs.declared.world_fault.WorldFault.TheVariants.{OutOfMemory};
 ghost use Rattle.gi_audit.specs.Audit.{IsAudit};
+ghost use Rattle.gi_audit.specs.LetOut.{HaveLetOut};
 
 use crate::auditing::{Audited, audit};
 use crate::knowing::known;
@@ -57,6 +58,7 @@ fn saved(world: &World, side: Side) -> u32
 fn start_again(world: &mut World, side: Side) -> Result<(), AllocError>
     requires { IsSound world.now }
     ensures next { OnOk result (world.new ≡ with_station side (after_restart (station_of side world.old) (station_of side world.old).desk.saved) world.old) }
+    ensures out { OnOk result (HaveLetOut world.old world.new) }
     ensures sound { OnOk result (IsSound world.new) }
 {
     let keep = saved(world, side);
@@ -67,6 +69,7 @@ fn start_both_again(world: &mut World) -> Result<(), AllocError>
     requires { IsSound world.now }
     ensures initiating { OnOk result (world.new.initiating.desk ≡ started_again world.old.initiating.desk world.old.initiating.desk.saved) }
     ensures matching { OnOk result (world.new.matching.desk ≡ started_again world.old.matching.desk world.old.matching.desk.saved) }
+    ensures out { OnOk result (HaveLetOut world.old world.new) }
     ensures sound { OnOk result (IsSound world.new) }
 {
     start_again(world, Side::I)?;
@@ -83,6 +86,7 @@ pub fn audit_run(alloc: Global, world: &mut World, steps: &[Step]) -> Result<Aud
     ensures agreed { IfOk result (λ audited. audited.first ≡ None) }
     ensures initiating { OnOk result (let w = run world.old steps.now in world.new.initiating.desk ≡ started_again w.initiating.desk w.initiating.desk.saved) }
     ensures matching { OnOk result (let w = run world.old steps.now in world.new.matching.desk ≡ started_again w.matching.desk w.matching.desk.saved) }
+    ensures out { OnOk result (HaveLetOut (run world.old steps.now) world.new) }
 {
     make_all(world, steps)?;
     start_both_again(world)?;

@@ -4,6 +4,7 @@
 #![tactic(auto)]
 
 use gi_calls::{Fault, answered};
+use gi_command_cases::command_answers;
 use gi_desk_cases::{Desks, DrawnDays, Roles};
 use gi_message_cases::{
     Cycles, Days, Facts, Messages, Nominations, Processing, Repeated, Tables, walk_answers,
@@ -29,6 +30,7 @@ fn answers<W: Threads + Wait + Clock + Sync>(
     match subject {
         "books" => answered(rt, Books::new(), cases),
         "carriers" => answered(rt, Carriers::new(alloc), cases),
+        "commands" => command_answers(handle, alloc, cases),
         "cycles" => answered(rt, Cycles::new(), cases),
         "days" => answered(rt, Days::new(), cases),
         "desks" => answered(rt, Desks::new(alloc), cases),

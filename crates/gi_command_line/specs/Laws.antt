@@ -1,9 +1,18 @@
 -- What holds of all words.
-use Rattle.std.specs.Prelude.{◌≡◌, ℕ, List, [], ◌∷◌, None, true, false, codes}
+use Rattle.std.specs.Prelude.{◌≡◌, ℕ, List, [], ◌∷◌, ◌++◌, None, Some, true, false, codes}
 use Rattle.clap.specs.declared.error.kind.ErrorKind.TheVariants.{MissingRequiredArgument}
-use Rattle.gi_command_line.specs.Asked.{at_once, hours, match_tables, serve, simulate}
+use Rattle.gi_pairs.specs.Direction.{direction_text}
+use Rattle.gi_pairs.specs.Side.{side_text}
+use Rattle.gi_pairs.specs.declared.direction.Direction.{Direction}
+use Rattle.gi_pairs.specs.declared.side.Side.{Side}
+use Rattle.gi_command_line.specs.Asked.{QuantityWords, Wanted, at_once, audit, explain, hours, match_tables, mistaken, report, serve, simulate}
 use Rattle.gi_command_line.specs.CommandLine.{MeansHours, MeansMatch, asked, objections}
+use Rattle.gi_command_line.specs.Numbers.{cycle_named, hour_named}
+use Rattle.gi_command_line.specs.ReportWords.{format_text, kind_text}
 use Rattle.gi_command_line.specs.Sessions.{default_sessions}
+use Rattle.gi_command_line.specs.declared.request.Format.{Format}
+use Rattle.gi_command_line.specs.declared.request.Format.TheVariants.{Text}
+use Rattle.gi_command_line.specs.declared.request.ReportKind.{ReportKind}
 
 -- to the program's name, alone or with the word `match`, nothing is objected, and it asks for `match`
 abbrev pub MatchIsTaken : Type 0
@@ -32,3 +41,134 @@ TraceIsTaken =
     (program : List ℕ)
     → (objections (program ∷ codes "simulate" ∷ codes "--trace" ∷ []) ≡ [])
     × (asked (program ∷ codes "simulate" ∷ codes "--trace" ∷ []) ≡ at_once (simulate true))
+
+-- ---- words with values of any text
+
+-- nothing is objected to the words, and they ask for this
+abbrev pub AreTaken : List (List ℕ) → Wanted → Type 0
+AreTaken words wanted = (objections words ≡ []) × (asked words ≡ wanted)
+
+-- an option with its value, in one word: `--point=BORDER-1`
+abbrev pub with_value : List ℕ → List ℕ → List ℕ
+with_value name value = codes "--" ++ (name ++ (codes "=" ++ value))
+
+-- the options of a book
+abbrev pub book_words : List ℕ → List ℕ → List (List ℕ)
+book_words file point = with_value (codes "book") file ∷ with_value (codes "point") point ∷ []
+
+-- the same, each in two words, where the file is of a name that begins with `day`, and the point with `BORDER`
+abbrev pub book_in_words : List ℕ → List ℕ → List (List ℕ)
+book_in_words file point = codes "--book" ∷ (codes "day" ++ file) ∷ codes "--point" ∷ (codes "BORDER" ++ point) ∷ []
+
+-- ---- `report`
+
+abbrev pub report_words : List ℕ → ReportKind → Side → List (List ℕ) → List (List ℕ)
+report_words program kind side more = program ∷ codes "report" ∷ kind_text kind ∷ side_text side ∷ more
+
+-- a kind and a side ask for that report of a script, as text; with a format, in that; with a book, of the book
+abbrev pub ReportIsTaken : Type 0
+ReportIsTaken = (program : List ℕ) (kind : ReportKind) (side : Side) → AreTaken (report_words program kind side []) (at_once (report kind Text side None))
+
+abbrev pub FormatIsTaken : Type 0
+FormatIsTaken =
+    (program : List ℕ) (kind : ReportKind) (side : Side) (format : Format)
+    → AreTaken (report_words program kind side (codes "--format" ∷ format_text format ∷ [])) (at_once (report kind format side None))
+
+abbrev pub BookIsTaken : Type 0
+BookIsTaken =
+    (program file point : List ℕ) (kind : ReportKind) (side : Side)
+    → AreTaken (report_words program kind side (book_words file point)) (at_once (report kind Text side (Some (file, point))))
+
+abbrev pub BookInWordsIsTaken : Type 0
+BookInWordsIsTaken =
+    (program file point : List ℕ) (kind : ReportKind) (side : Side)
+    → AreTaken (report_words program kind side (book_in_words file point)) (at_once (report kind Text side (Some (codes "day" ++ file, codes "BORDER" ++ point))))
+
+-- without a side, it is the side that is missing; a book without its point is asked for in wrong words
+abbrev pub ReportNeedsASide : Type 0
+ReportNeedsASide = (program : List ℕ) (kind : ReportKind) → objections (program ∷ codes "report" ∷ kind_text kind ∷ []) ≡ MissingRequiredArgument ∷ []
+
+abbrev pub BookNeedsItsPoint : Type 0
+BookNeedsItsPoint =
+    (program file : List ℕ) (kind : ReportKind) (side : Side)
+    → AreTaken (report_words program kind side (with_value (codes "book") file ∷ [])) (at_once mistaken)
+
+-- ---- `explain`
+
+-- behind `--` no word is an option, whatever it begins with
+abbrev pub explain_words : List ℕ → List (List ℕ) → List (List ℕ) → List (List ℕ)
+explain_words program options values = program ∷ codes "explain" ∷ (options ++ codes "--" ∷ values)
+
+abbrev pub quantity_texts : Side → Direction → (initiating matching day cycle hour : List ℕ) → List (List ℕ)
+quantity_texts side direction initiating matching day cycle hour =
+    side_text side ∷ initiating ∷ matching ∷ direction_text direction ∷ day ∷ cycle ∷ hour ∷ []
+
+abbrev pub quantity : Direction → (initiating matching day : List ℕ) → ℕ → ℕ → QuantityWords
+quantity direction initiating matching day cycle hour =
+    record { initiating = initiating; matching = matching; direction = direction; day = day; cycle = cycle; hour = hour }
+
+-- a side, two portfolios, a direction, a day, a cycle and an hour ask for what that quantity comes from after a script; with a
+-- book, by that book
+abbrev pub ExplainIsTaken : Type 0
+ExplainIsTaken =
+    (program initiating matching day cycle hour : List ℕ) (side : Side) (direction : Direction) (k h : ℕ)
+    → cycle_named cycle ≡ Some k → hour_named hour ≡ Some h
+    → AreTaken (explain_words program [] (quantity_texts side direction initiating matching day cycle hour))
+    (at_once (explain side (quantity direction initiating matching day k h) None))
+
+abbrev pub ExplainedBookIsTaken : Type 0
+ExplainedBookIsTaken =
+    (program file point initiating matching day cycle hour : List ℕ) (side : Side) (direction : Direction) (k h : ℕ)
+    → cycle_named cycle ≡ Some k → hour_named hour ≡ Some h
+    → AreTaken (explain_words program (book_words file point) (quantity_texts side direction initiating matching day cycle hour))
+    (at_once (explain side (quantity direction initiating matching day k h) (Some (file, point))))
+
+-- without `--` too, as `explain I A B IM 2026-01-15 35 24`: portfolios that begin with A and B, and a day that begins with 2
+abbrev pub PlainExplainIsTaken : Type 0
+PlainExplainIsTaken =
+    (program a b day : List ℕ) (side : Side) (direction : Direction)
+    → AreTaken (program ∷ codes "explain" ∷ quantity_texts side direction (65 ∷ a) (66 ∷ b) (50 ∷ day) (codes "35") (codes "24"))
+    (at_once (explain side (quantity direction (65 ∷ a) (66 ∷ b) (50 ∷ day) 35 24) None))
+
+-- a cycle, or an hour, that is none is asked for in wrong words; without an hour, it is the hour that is missing
+abbrev pub ExplainNeedsACycle : Type 0
+ExplainNeedsACycle =
+    (program initiating matching day cycle hour : List ℕ) (side : Side) (direction : Direction) → cycle_named cycle ≡ None
+    → AreTaken (explain_words program [] (quantity_texts side direction initiating matching day cycle hour)) (at_once mistaken)
+
+abbrev pub ExplainNeedsAnHour : Type 0
+ExplainNeedsAnHour =
+    (program initiating matching day cycle hour : List ℕ) (side : Side) (direction : Direction) → hour_named hour ≡ None
+    → AreTaken (explain_words program [] (quantity_texts side direction initiating matching day cycle hour)) (at_once mistaken)
+
+abbrev pub HourIsMissing : Type 0
+HourIsMissing =
+    (program initiating matching day cycle : List ℕ) (side : Side) (direction : Direction)
+    → objections (explain_words program [] (side_text side ∷ initiating ∷ matching ∷ direction_text direction ∷ day ∷ cycle ∷ [])) ≡ MissingRequiredArgument ∷ []
+
+-- ---- `audit`
+
+abbrev pub audit_words : (program initiating matching point : List ℕ) → List (List ℕ)
+audit_words program initiating matching point =
+    program ∷ codes "audit" ∷ with_value (codes "initiating") initiating ∷ with_value (codes "matching") matching ∷ with_value (codes "point") point ∷ []
+
+-- both books and the point ask for their audit
+abbrev pub AuditIsTaken : Type 0
+AuditIsTaken = (program initiating matching point : List ℕ) → AreTaken (audit_words program initiating matching point) (at_once (audit initiating matching point))
+
+-- each in two words, where both names begin with `day`, and the point with `BORDER`
+abbrev pub audit_in_words : (program initiating matching point : List ℕ) → List (List ℕ)
+audit_in_words program initiating matching point =
+    program ∷ codes "audit" ∷ codes "--initiating" ∷ (codes "day" ++ initiating) ∷ codes "--matching" ∷ (codes "day" ++ matching) ∷ codes "--point"
+    ∷ (codes "BORDER" ++ point) ∷ []
+
+abbrev pub AuditInWordsIsTaken : Type 0
+AuditInWordsIsTaken =
+    (program initiating matching point : List ℕ)
+    → AreTaken (audit_in_words program initiating matching point) (at_once (audit (codes "day" ++ initiating) (codes "day" ++ matching) (codes "BORDER" ++ point)))
+
+-- without the matching side's book, that is missing
+abbrev pub AuditNeedsBothBooks : Type 0
+AuditNeedsBothBooks =
+    (program initiating point : List ℕ)
+    → objections (program ∷ codes "audit" ∷ with_value (codes "initiating") initiating ∷ with_value (codes "point") point ∷ []) ≡ MissingRequiredArgument ∷ []

@@ -8,6 +8,17 @@ use Rattle.gi_command_line.specs.declared.request.Mistake.TheVariants as mistake
 use Rattle.gi_command_line.specs.declared.request.ReportKind.{ReportKind}
 use Rattle.gi_command_line.specs.declared.request.ReportKind.TheVariants.{Open, Confirmed, Refused}
 
+-- the words of the kinds and of the formats
+abbrev pub kind_text : ReportKind → List ℕ
+kind_text Open = codes "open"
+kind_text Confirmed = codes "confirmed"
+kind_text Refused = codes "refused"
+
+abbrev pub format_text : Format → List ℕ
+format_text Text = codes "text"
+format_text Csv = codes "csv"
+format_text Json = codes "json"
+
 -- the kind of report that a word names
 abbrev pub kind_named : List ℕ → Option ReportKind
 kind_named word =

@@ -1,3 +1,4 @@
 mod TableFaults
+mod BookFaults
 mod ExplainingLemmas
 pub mod SimulatingLemmas

@@ -1,5 +1,5 @@
 -- What `audit` writes of both operators' books.
-use Rattle.std.specs.Prelude.{◌≡◌, ◌⊎◌, ℕ, List, Option, None, Some}
+use Rattle.std.specs.Prelude.{◌≡◌, ◌⊎◌, ℕ, List, Option, None, Some, Ok, Err}
 use Rattle.std.specs.Io.KnownBytes.{Appends, Keeps}
 use Rattle.gi_pairs.specs.Code.{IsCode}
 use Rattle.gi_pairs.specs.declared.cycle_id.CycleId.{CycleId}
@@ -8,7 +8,9 @@ use Rattle.gi_facts.specs.declared.fact.Fact.{Fact}
 use Rattle.gi_desk.specs.Machine.{bad_fact}
 use Rattle.gi_audit.specs.Agreeing.{ConfirmOneQuantity}
 use Rattle.gi_audit.specs.Audit.{IsAudit}
-use Rattle.gi_commands.specs.Reporting.{IsBookFault, desk_of}
+use Rattle.gi_store.specs.Source.{Reading}
+use Rattle.gi_store.specs.declared.store_fault.StoreFault.TheVariants as store
+use Rattle.gi_commands.specs.Reporting.{desk_of}
 use Rattle.gi_commands.specs.declared.fault.Fault.{Fault}
 use Rattle.gi_commands.specs.declared.fault.Fault.TheVariants as fault
 
@@ -29,27 +31,40 @@ IsNoFactsAudit point initiating matching (fault.BadFact n) =
 IsNoFactsAudit point initiating matching fault.OutOfMemory = Unit {0}
 IsNoFactsAudit point initiating matching _ = ⊥
 
--- the audit of some facts
-abbrev pub HasAudit : List ℕ → List ℕ → Option CycleId → Type 0
-HasAudit point text first = (initiating matching : List Fact) × IsFactsAudit point initiating matching text first
+-- the audit of the facts that the two books give, the initiating operator's and the matching one's
+abbrev pub HasAudit : Reading → Reading → List ℕ → List ℕ → Option CycleId → Type 0
+HasAudit ours theirs point text first =
+    (initiating matching : List Fact) × ours (Ok initiating) × theirs (Ok matching) × IsFactsAudit point initiating matching text first
 
 -- the books agree, and their audit is what the output has gained
-abbrev pub Audits : List ℕ → Option (List ℕ) → Option (List ℕ) → Type 0
-Audits point old new = (text : List ℕ) × HasAudit point text None × Appends old new text
+abbrev pub Audits : Reading → Reading → List ℕ → Option (List ℕ) → Option (List ℕ) → Type 0
+Audits ours theirs point old new = (text : List ℕ) × HasAudit ours theirs point text None × Appends old new text
 
--- why two books have no audit: the point is no code, or one of them makes no desk
-abbrev pub IsNoAudit : List ℕ → Fault → Type 0
-IsNoAudit point (fault.Code why) = ¬ (IsCode point)
-IsNoAudit point why = IsBookFault I point why ⊎ IsBookFault M point why
+-- why two books have no audit, the first: the initiating operator's gives this fault, or it has facts and the matching
+-- operator's gives it, want of memory among them; or both have facts, of which some make no desk, or memory ran out then
+abbrev pub IsNoBooksAudit : Reading → Reading → List ℕ → Fault → Type 0
+IsNoBooksAudit ours theirs point (fault.Store store.OutOfMemory) = ⊥
+IsNoBooksAudit ours theirs point (fault.Store why) = ours (Err why) ⊎ ((initiating : List Fact) × ours (Ok initiating) × theirs (Err why))
+IsNoBooksAudit ours theirs point (fault.BadFact n) =
+    (initiating matching : List Fact) × ours (Ok initiating) × theirs (Ok matching) × IsNoFactsAudit point initiating matching (fault.BadFact n)
+IsNoBooksAudit ours theirs point fault.OutOfMemory =
+    ours (Err store.OutOfMemory) ⊎ ((initiating : List Fact) × ours (Ok initiating) × (theirs (Err store.OutOfMemory) ⊎ ((matching : List Fact) × theirs (Ok matching))))
+IsNoBooksAudit ours theirs point _ = ⊥
 
--- the first fault: a writer fails only where there is an audit, and then books differ
-abbrev pub IsFirstAuditFault : List ℕ → Fault → Type 0
-IsFirstAuditFault point fault.Write = (text : List ℕ) × (first : Option CycleId) × HasAudit point text first
-IsFirstAuditFault point fault.Differs = (text : List ℕ) × (id : CycleId) × HasAudit point text (Some id)
-IsFirstAuditFault point why = IsNoAudit point why
+-- or the point is no code, whatever the books are
+abbrev pub IsNoAudit : Reading → Reading → List ℕ → Fault → Type 0
+IsNoAudit ours theirs point (fault.Code why) = ¬ (IsCode point)
+IsNoAudit ours theirs point why = IsNoBooksAudit ours theirs point why
+
+-- the first fault: a writer fails only where there is an audit, and then books differ; in the words of a command memory may run out before
+abbrev pub IsFirstAuditFault : Reading → Reading → List ℕ → Fault → Type 0
+IsFirstAuditFault ours theirs point fault.Write = (text : List ℕ) × (first : Option CycleId) × HasAudit ours theirs point text first
+IsFirstAuditFault ours theirs point fault.OutOfMemory = Unit {0}
+IsFirstAuditFault ours theirs point fault.Differs = (text : List ℕ) × (id : CycleId) × HasAudit ours theirs point text (Some id)
+IsFirstAuditFault ours theirs point why = IsNoAudit ours theirs point why
 
 -- of books that differ the output has gained the audit; before that nothing is written
-abbrev pub LeavesAudit : List ℕ → Option (List ℕ) → Option (List ℕ) → Fault → Type 0
-LeavesAudit point old new fault.Write = Unit {0}
-LeavesAudit point old new fault.Differs = (text : List ℕ) × (id : CycleId) × HasAudit point text (Some id) × Appends old new text
-LeavesAudit point old new _ = Keeps old new
+abbrev pub LeavesAudit : Reading → Reading → List ℕ → Option (List ℕ) → Option (List ℕ) → Fault → Type 0
+LeavesAudit ours theirs point old new fault.Write = Unit {0}
+LeavesAudit ours theirs point old new fault.Differs = (text : List ℕ) × (id : CycleId) × HasAudit ours theirs point text (Some id) × Appends old new text
+LeavesAudit ours theirs point old new _ = Keeps old new

@@ -9,25 +9,28 @@ use Rattle.gi_commands.specs.Auditing.{Audits, IsFirstAuditFault, LeavesAudit}
 use Rattle.gi_commands.specs.Explaining.{Asks, IsQuestionFault, NamesNoCodes}
 use Rattle.gi_commands.specs.Fault.{OfTables}
 use Rattle.gi_commands.specs.Leaving.{LeavesNothing}
-use Rattle.gi_commands.specs.Reporting.{IsFirstFileFault, ReportsBook}
+use Rattle.gi_commands.specs.Reporting.{IsFirstBookFault, ReportsBook}
 use Rattle.gi_commands.specs.Simulating.{CutsShort, HasReport, HasScript, IsFirstScriptFault, Reports, Simulates}
 use Rattle.gi_explanations.specs.declared.question.Question.{Question}
 use Rattle.gi_commands.specs.declared.desk_report.DeskReport.{DeskReport}
 use Rattle.gi_commands.specs.declared.desk_report.DeskReport.TheVariants.{Explanation, Listed}
 use Rattle.gi_table_commands.specs.Hours.{IsFirstHoursFault, TellsHours}
 use Rattle.gi_table_commands.specs.Match.{Answers, IsFirstFault}
+use Rattle.gi_store.specs.Source.{Source}
 use Rattle.gi_commands.specs.declared.fault.Fault.{Fault}
 use Rattle.gi_commands.specs.declared.fault.Fault.TheVariants as fault
 
+-- `books` says what may come of reading a book, by its file's name.
+
 -- ---- what is told of a side's desk: after a script, or in the book of that file and point
 
-abbrev pub TellsDesk : DeskReport → Side → Option (List ℕ × List ℕ) → Option (List ℕ) → Option (List ℕ) → Option (List ℕ) → Type 0
-TellsDesk kind side None remaining old new = IfSome remaining (λ input. Reports kind side input old new)
-TellsDesk kind side (Some book) remaining old new = ReportsBook kind side book.1 old new
+abbrev pub TellsDesk : Source → DeskReport → Side → Option (List ℕ × List ℕ) → Option (List ℕ) → Option (List ℕ) → Option (List ℕ) → Type 0
+TellsDesk books kind side None remaining old new = IfSome remaining (λ input. Reports kind side input old new)
+TellsDesk books kind side (Some book) remaining old new = ReportsBook (books book.0) kind side book.1 old new
 
-abbrev pub IsDeskFault : DeskReport → Side → Option (List ℕ × List ℕ) → Option (List ℕ) → Fault → Type 0
-IsDeskFault kind side None remaining why = IfSome remaining (λ input. IsFirstScriptFault (HasReport kind side) input why)
-IsDeskFault kind side (Some book) remaining why = IsFirstFileFault kind side book.1 why
+abbrev pub IsDeskFault : Source → DeskReport → Side → Option (List ℕ × List ℕ) → Option (List ℕ) → Fault → Type 0
+IsDeskFault books kind side None remaining why = IfSome remaining (λ input. IsFirstScriptFault (HasReport kind side) input why)
+IsDeskFault books kind side (Some book) remaining why = IsFirstBookFault (books book.0) kind side book.1 why
 
 -- the input is not read where there is a book
 abbrev pub ReadsUnlessBook : Option (List ℕ × List ℕ) → Option (List ℕ) → Option (List ℕ) → Type 0
@@ -42,27 +45,27 @@ HasNoPoint (Some book) = ¬ (IsCode book.1)
 -- ---- the commands
 
 -- what is asked for is what the output gains; of what the reader has left, where it tells that
-abbrev pub Does : Asked → Option (List ℕ) → Option (List ℕ) → Option (List ℕ) → Type 0
-Does match_tables remaining old new = IfSome remaining (λ input. Answers input old new)
-Does (hours day) remaining old new = TellsHours day old new
-Does (simulate trace) remaining old new = IfSome remaining (λ input. Simulates trace input old new)
-Does (report kind format side book) remaining old new = TellsDesk (Listed kind format) side book remaining old new
-Does (explain side words book) remaining old new =
-    (question : Question) × Asks words question × TellsDesk (Explanation question) side book remaining old new
-Does (audit initiating matching point) remaining old new = Audits point old new
-Does mistaken remaining old new = ⊥
+abbrev pub Does : Source → Asked → Option (List ℕ) → Option (List ℕ) → Option (List ℕ) → Type 0
+Does books match_tables remaining old new = IfSome remaining (λ input. Answers input old new)
+Does books (hours day) remaining old new = TellsHours day old new
+Does books (simulate trace) remaining old new = IfSome remaining (λ input. Simulates trace input old new)
+Does books (report kind format side book) remaining old new = TellsDesk books (Listed kind format) side book remaining old new
+Does books (explain side words book) remaining old new =
+    (question : Question) × Asks words question × TellsDesk books (Explanation question) side book remaining old new
+Does books (audit initiating matching point) remaining old new = Audits (books initiating) (books matching) point old new
+Does books mistaken remaining old new = ⊥
 
 -- the first fault
-abbrev pub IsFaultOf : Asked → Option (List ℕ) → Fault → Type 0
-IsFaultOf match_tables remaining why = IfSome remaining (λ input. OfTables (IsFirstFault input) why)
-IsFaultOf (hours day) remaining why = OfTables (IsFirstHoursFault day) why
-IsFaultOf (simulate trace) remaining why = IfSome remaining (λ input. IsFirstScriptFault HasScript input why)
-IsFaultOf (report kind format side book) remaining why = IsDeskFault (Listed kind format) side book remaining why
-IsFaultOf (explain side words book) remaining why =
+abbrev pub IsFaultOf : Source → Asked → Option (List ℕ) → Fault → Type 0
+IsFaultOf books match_tables remaining why = IfSome remaining (λ input. OfTables (IsFirstFault input) why)
+IsFaultOf books (hours day) remaining why = OfTables (IsFirstHoursFault day) why
+IsFaultOf books (simulate trace) remaining why = IfSome remaining (λ input. IsFirstScriptFault HasScript input why)
+IsFaultOf books (report kind format side book) remaining why = IsDeskFault books (Listed kind format) side book remaining why
+IsFaultOf books (explain side words book) remaining why =
     (why ≡ fault.OutOfMemory) ⊎ IsQuestionFault words why
-    ⊎ ((question : Question) × Asks words question × IsDeskFault (Explanation question) side book remaining why)
-IsFaultOf (audit initiating matching point) remaining why = IsFirstAuditFault point why
-IsFaultOf mistaken remaining why = (why ≡ fault.CommandLine) ⊎ (why ≡ fault.OutOfMemory)
+    ⊎ ((question : Question) × Asks words question × IsDeskFault books (Explanation question) side book remaining why)
+IsFaultOf books (audit initiating matching point) remaining why = IsFirstAuditFault (books initiating) (books matching) point why
+IsFaultOf books mistaken remaining why = (why ≡ fault.CommandLine) ⊎ (why ≡ fault.OutOfMemory)
 
 -- After a fault nothing is written, but where a writer failed; of a script, where memory ran out, the lines of the first
 -- steps may be.
@@ -71,14 +74,14 @@ LeavesFront trace remaining old new fault.Write = Unit {0}
 LeavesFront trace remaining old new fault.OutOfMemory = IfSome remaining (λ input. CutsShort trace input old new)
 LeavesFront trace remaining old new _ = Keeps old new
 
-abbrev pub Leaves : Asked → Option (List ℕ) → Option (List ℕ) → Option (List ℕ) → Fault → Type 0
-Leaves match_tables remaining old new why = LeavesNothing old new why
-Leaves (hours day) remaining old new why = LeavesNothing old new why
-Leaves (simulate trace) remaining old new why = LeavesFront trace remaining old new why
-Leaves (report kind format side book) remaining old new why = LeavesNothing old new why
-Leaves (explain side words book) remaining old new why = LeavesNothing old new why
-Leaves (audit initiating matching point) remaining old new why = LeavesAudit point old new why
-Leaves mistaken remaining old new why = LeavesNothing old new why
+abbrev pub Leaves : Source → Asked → Option (List ℕ) → Option (List ℕ) → Option (List ℕ) → Fault → Type 0
+Leaves books match_tables remaining old new why = LeavesNothing old new why
+Leaves books (hours day) remaining old new why = LeavesNothing old new why
+Leaves books (simulate trace) remaining old new why = LeavesFront trace remaining old new why
+Leaves books (report kind format side book) remaining old new why = LeavesNothing old new why
+Leaves books (explain side words book) remaining old new why = LeavesNothing old new why
+Leaves books (audit initiating matching point) remaining old new why = LeavesAudit (books initiating) (books matching) point old new why
+Leaves books mistaken remaining old new why = LeavesNothing old new why
 
 -- `hours`, what is told of books, and wrong words read nothing
 abbrev pub MayRead : Asked → Option (List ℕ) → Option (List ℕ) → Type 0

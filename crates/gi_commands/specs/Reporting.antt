@@ -1,5 +1,5 @@
 -- What `report` writes of a desk.
-use Rattle.std.specs.Prelude.{◌≡◌, ℕ, List, [], length, Option, None, Some, false}
+use Rattle.std.specs.Prelude.{◌≡◌, ◌⊎◌, ℕ, List, [], length, Option, None, Some, Ok, Err, false}
 use Rattle.std.specs.Io.KnownBytes.{Appends}
 use Rattle.gi_pairs.specs.Code.{IsCode}
 use Rattle.gi_pairs.specs.declared.side.Side.{Side}
@@ -11,7 +11,8 @@ use Rattle.gi_exports.specs.Json.{IsConfirmedJson, IsOpenJson, count_data, json_
 use Rattle.gi_reports.specs.Confirmed.{IsConfirmedReport}
 use Rattle.gi_reports.specs.Open.{IsOpenReport}
 use Rattle.gi_reports.specs.Refused.{refused_counts, refused_lines}
-use Rattle.gi_store.specs.Book.{IsLoadFault, IsRead}
+use Rattle.gi_store.specs.Book.{IsLoadCaused, IsLoadFault, IsRead}
+use Rattle.gi_store.specs.Source.{Reading}
 use Rattle.gi_store.specs.declared.store_fault.StoreFault.TheVariants as store
 use Rattle.sqlite.specs.State.{State}
 use Rattle.gi_commands.specs.declared.fault.Fault.{Fault}
@@ -54,9 +55,9 @@ pub record IsBookReport (kind : DeskReport) (side : Side) (point : List ℕ) (fa
   pub legal : bad_fact side point facts ≡ None
   pub reported : IsReport kind side (desk_of point facts) [] text
 
--- the report of some facts, which make a desk of that side and point
-abbrev pub HasBookReport : DeskReport → Side → List ℕ → List ℕ → Type 0
-HasBookReport kind side point text = (facts : List Fact) × IsBookReport kind side point facts text
+-- the report of the facts that a book gives, which make a desk of that side and point
+abbrev pub HasBookReport : Reading → DeskReport → Side → List ℕ → List ℕ → Type 0
+HasBookReport gives kind side point text = (facts : List Fact) × gives (Ok facts) × IsBookReport kind side point facts text
 
 -- why facts have no report: they make no desk, or memory ran out
 abbrev pub IsFactsFault : Side → List ℕ → List Fact → Fault → Type 0
@@ -64,32 +65,33 @@ IsFactsFault side point facts (fault.BadFact n) = bad_fact side point facts ≡ 
 IsFactsFault side point facts fault.OutOfMemory = Unit {0}
 IsFactsFault side point facts _ = ⊥
 
--- why a book has no report: some facts make no desk, or the store failed or memory ran out
-abbrev pub IsBookFault : Side → List ℕ → Fault → Type 0
-IsBookFault side point (fault.BadFact n) = (facts : List Fact) × (bad_fact side point facts ≡ Some n)
-IsBookFault side point (fault.Store store.OutOfMemory) = ⊥
-IsBookFault side point (fault.Store why) = Unit {0}
-IsBookFault side point fault.OutOfMemory = Unit {0}
-IsBookFault side point _ = ⊥
+-- why a book has no report: it gives this fault, want of memory among them; or it has facts, which make no desk, or memory ran out then
+abbrev pub IsBookFault : Reading → Side → List ℕ → Fault → Type 0
+IsBookFault gives side point (fault.BadFact n) = (facts : List Fact) × gives (Ok facts) × (bad_fact side point facts ≡ Some n)
+IsBookFault gives side point (fault.Store store.OutOfMemory) = ⊥
+IsBookFault gives side point (fault.Store why) = gives (Err why)
+IsBookFault gives side point fault.OutOfMemory = gives (Err store.OutOfMemory) ⊎ ((facts : List Fact) × gives (Ok facts))
+IsBookFault gives side point _ = ⊥
 
 -- the same of a database, before and after: its rows' facts make no desk, or it was not to be loaded
 abbrev pub IsRowsFault : Side → List ℕ → State → State → Fault → Type 0
 IsRowsFault side point old new (fault.BadFact n) = (facts : List Fact) × IsRead new facts × (bad_fact side point facts ≡ Some n)
 IsRowsFault side point old new (fault.Store store.OutOfMemory) = ⊥
-IsRowsFault side point old new (fault.Store why) = IsLoadFault old why
+IsRowsFault side point old new (fault.Store why) = IsLoadFault old why × IsLoadCaused old new why
 IsRowsFault side point old new fault.OutOfMemory = Unit {0}
 IsRowsFault side point old new _ = ⊥
 
 -- or its point is no code
-abbrev pub IsFileFault : Side → List ℕ → Fault → Type 0
-IsFileFault side point (fault.Code why) = ¬ (IsCode point)
-IsFileFault side point why = IsBookFault side point why
+abbrev pub IsNamedFault : Reading → Side → List ℕ → Fault → Type 0
+IsNamedFault gives side point (fault.Code why) = ¬ (IsCode point)
+IsNamedFault gives side point why = IsBookFault gives side point why
 
--- a writer fails only where there is a report
-abbrev pub IsFirstFileFault : DeskReport → Side → List ℕ → Fault → Type 0
-IsFirstFileFault kind side point fault.Write = (text : List ℕ) × HasBookReport kind side point text
-IsFirstFileFault kind side point why = IsFileFault side point why
+-- a writer fails only where there is a report; in the words of a command memory may run out before
+abbrev pub IsFirstBookFault : Reading → DeskReport → Side → List ℕ → Fault → Type 0
+IsFirstBookFault gives kind side point fault.Write = (text : List ℕ) × HasBookReport gives kind side point text
+IsFirstBookFault gives kind side point fault.OutOfMemory = Unit {0}
+IsFirstBookFault gives kind side point why = IsNamedFault gives side point why
 
 -- the report is what the output has gained
-abbrev pub ReportsBook : DeskReport → Side → List ℕ → Option (List ℕ) → Option (List ℕ) → Type 0
-ReportsBook kind side point old new = (text : List ℕ) × HasBookReport kind side point text × Appends old new text
+abbrev pub ReportsBook : Reading → DeskReport → Side → List ℕ → Option (List ℕ) → Option (List ℕ) → Type 0
+ReportsBook gives kind side point old new = (text : List ℕ) × HasBookReport gives kind side point text × Appends old new text

@@ -1,4 +1,4 @@
-//! The audit of both operators' books in files.
+//! The audit of both operators' books, which are read by their names.
 
 ghost use Rattle.std.specs.Prelude.{◌≡◌, Err, IfErr, IfOk, string_bytes};
 ghost use Rattle.gi_pairs.specs.Code.{IsCode};
@@ -13,7 +13,7 @@ use gi_desk::Fact;
 use gi_initiator::Initiating;
 use gi_matcher::Matching;
 use gi_pairs::{Code, CodeText};
-use gi_store::facts_of_file;
+use gi_store::BookSource;
 use std::alloc::Global;
 
 /// The audit of the facts of two books. `BadFact` for the first fact that no desk of the initiating
@@ -49,16 +49,26 @@ pub fn facts_audit(
     Ok(audited?)
 }
 
-/// The audit of both operators' books. `CodeText` where the point is no code, whatever the files
-/// are; then what is wrong with the initiating operator's file, and with the matching one's; then the
-/// faults of their facts.
-pub fn file_audit(rt: &HostRuntime, books: BookFiles<'_>) -> Result<Audited, Fault>
-    ensures audited { IfOk result (λ it. HasAudit books.entry.point.now (string_bytes it.text) it.first) }
-    ensures fault { IfErr result (IsNoAudit books.entry.point.now) }
-    ensures code { ¬ (IsCode books.entry.point.now) → result ≡ Err no_code }
+/// The audit of both operators' books. `CodeText` where the point is no code, whatever the books are;
+/// then why the initiating operator's cannot be read, and why the matching one's; then the faults of
+/// their facts.
+pub(crate) fn named_audit<B: BookSource>(
+    alloc: Global,
+    books: &B,
+    files: BookFiles<'_>,
+) -> Result<Audited, Fault>
+    ensures audited { IfOk result (λ it. HasAudit (B.gives books.now files.entry.initiating.now) (B.gives books.now files.entry.matching.now) files.entry.point.now (string_bytes it.text) it.first) }
+    ensures fault { IfErr result (IsNoAudit (B.gives books.now files.entry.initiating.now) (B.gives books.now files.entry.matching.now) files.entry.point.now) }
+    ensures code { ¬ (IsCode files.entry.point.now) → result ≡ Err no_code }
 {
-    let point = Code::read(books.point)?;
-    let initiating = facts_of_file(rt, books.initiating)?;
-    let matching = facts_of_file(rt, books.matching)?;
-    facts_audit(rt.alloc(), point, initiating, matching)
+    let point = Code::read(files.point)?;
+    let initiating = books.facts(files.initiating)?;
+    let matching = match books.facts(files.matching) {
+        Ok(matching) => matching,
+        Err(fault) => {
+            drop(initiating);
+            return Err(Fault::from(fault));
+        }
+    };
+    facts_audit(alloc, point, initiating, matching)
 }

@@ -1,10 +1,14 @@
 //! What `report` and `explain` write of a script's end, and of a book.
 
-ghost use Rattle.std.specs.Prelude.{◌≡◌, IfErr, IfOk, List};
+ghost use Rattle.std.specs.Prelude.{◌≡◌, Err, IfErr, IfOk, List};
 ghost use Rattle.sqlite.specs.Held.{state};
 ghost use Rattle.gi_facts.specs.declared.fact.Fact.{Fact};
+ghost use Rattle.gi_script.specs.Script.{HasNoPoint};
+ghost use Rattle.gi_script.specs.declared.fault.ScriptFault.TheVariants.{Point};
 ghost use Rattle.gi_store.specs.Book.{IsRead};
 ghost use Rattle.gi_store.specs.Clean.{IsClean};
+ghost use Rattle.gi_store.specs.Keeping.{AddsNoOutcome, Keeps};
+ghost use Rattle.gi_store.specs.Source.{anything};
 ghost use Rattle.gi_commands.specs.Reporting.{HasBookReport, IsBookFault, IsBookReport, IsCsvReport, IsFactsFault, IsJsonReport, IsReport, IsRowsFault, IsTextReport};
 ghost use Rattle.gi_commands.specs.Simulating.{IsNoScript, IsScriptReport};
 ghost use Rattle.gi_world.specs.World.{station_of};
@@ -105,7 +109,7 @@ fn side_report(
 }
 
 /// What `report` writes for an input: the report of a side after the script's steps. The fault is
-/// the script's, or `OutOfMemory`.
+/// the script's, or `OutOfMemory`; `Point` wants no memory.
 pub fn script_report(
     alloc: Global,
     kind: DeskReport,
@@ -114,6 +118,7 @@ pub fn script_report(
 ) -> Result<Vec<u8>, Fault>
     ensures text { IfOk result (λ text. IsScriptReport kind side input.now (text.items)) }
     ensures fault { IfErr result (IsNoScript input.now) }
+    ensures point { HasNoPoint input.now → result ≡ Err (Fault.Script Point) }
 {
     let script = read_script(alloc, input)?;
     let (simulation, submissions) = refused_submissions(alloc, side, script)?;
@@ -152,8 +157,10 @@ fn replayed_report<R: Role, S: Alter>(
         IfOk result (λ text. (facts : List Fact) × IsRead (state S.Store book.new.connection) facts × IsBookReport kind R.SIDE point facts (text.items)) }
     ensures refused_rows { IsClean S.Store book.new.connection →
         IfErr result (IsRowsFault R.SIDE point (state S.Store book.old.connection) (state S.Store book.new.connection)) }
-    ensures reported { IfOk result (λ text. HasBookReport kind R.SIDE point (text.items)) }
-    ensures fault { IfErr result (IsBookFault R.SIDE point) }
+    ensures reported { IfOk result (λ text. HasBookReport anything kind R.SIDE point (text.items)) }
+    ensures fault { IfErr result (IsBookFault anything R.SIDE point) }
+    ensures kept { IsClean S.Store book.new.connection → Keeps (state S.Store book.old.connection) (state S.Store book.new.connection) }
+    ensures crash { IsClean S.Store book.new.connection → AddsNoOutcome (state S.Store book.old.connection) (state S.Store book.new.connection) }
 {
     facts_report::<R>(alloc, kind, point, book.load()?)
 }
@@ -172,8 +179,12 @@ pub fn book_report<S: Alter>(
         IfOk result (λ text. (facts : List Fact) × IsRead (state S.Store book.new.connection) facts × IsBookReport kind side point facts (text.items)) }
     ensures refused_rows { IsClean S.Store book.new.connection →
         IfErr result (IsRowsFault side point (state S.Store book.old.connection) (state S.Store book.new.connection)) }
-    ensures reported { IfOk result (λ text. HasBookReport kind side point (text.items)) }
-    ensures fault { IfErr result (IsBookFault side point) }
+    ensures reported { IfOk result (λ text. HasBookReport anything kind side point (text.items)) }
+    ensures fault { IfErr result (IsBookFault anything side point) }
+
+    // No row is changed, and a crash leaves nothing that it could not leave before.
+    ensures kept { IsClean S.Store book.new.connection → Keeps (state S.Store book.old.connection) (state S.Store book.new.connection) }
+    ensures crash { IsClean S.Store book.new.connection → AddsNoOutcome (state S.Store book.old.connection) (state S.Store book.new.connection) }
 {
     match side {
         Side::I => replayed_report::<Initiating, S>(alloc, kind, point, book),

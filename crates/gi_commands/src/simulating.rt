@@ -1,6 +1,8 @@
 //! What `simulate` writes of a script.
 
-ghost use Rattle.std.specs.Prelude.{◌≡◌, ◌++◌, IfErr, IfOk, OnErr, OnOk, false, string_bytes, true};
+ghost use Rattle.std.specs.Prelude.{◌≡◌, ◌++◌, Err, IfErr, IfOk, OnErr, OnOk, false, string_bytes, true};
+ghost use Rattle.gi_script.specs.Script.{HasNoPoint};
+ghost use Rattle.gi_script.specs.declared.fault.ScriptFault.TheVariants.{Point};
 ghost use Rattle.gi_commands.specs.Simulating.{HasScript, IsCutShort, IsNoScript, IsSimulation, counts_of};
 
 use crate::fault::Fault;
@@ -46,14 +48,15 @@ fn with_counts(alloc: Global, text: String, simulation: &Simulation) -> Written
 }
 
 /// What `simulate` writes for an input: a line of each step of the script, with a trace also lines of
-/// what moved in it, and two of what the sides then hold. The fault is the script's. Where memory runs
-/// out in a step, or for its lines, the lines of those before it are written. The input's memory is
-/// given back once the script is read.
+/// what moved in it, and two of what the sides then hold. The fault is the script's; `Point` wants no
+/// memory. Where memory runs out in a step, or for its lines, the lines of those before it are written.
+/// The input's memory is given back once the script is read.
 pub fn simulated(alloc: Global, input: Vec<u8>, trace: bool) -> Result<Written, Fault>
     ensures text { IfOk result (λ written. written.complete ≡ true → IsSimulation trace input.items (string_bytes written.text)) }
     ensures cut { IfOk result (λ written. written.complete ≡ false → IsCutShort trace input.items (string_bytes written.text)) }
     ensures script { IfOk result (λ written. HasScript input.items) }
     ensures fault { IfErr result (IsNoScript input.items) }
+    ensures point { HasNoPoint input.items → result ≡ Err (Fault.Script Point) }
 {
     let script = read_script(alloc, &input)?;
     drop(input);

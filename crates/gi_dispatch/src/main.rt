@@ -3,6 +3,7 @@
 #![tactic(auto)]
 
 use gi_service::{ProgramFault, Progress, dispatch};
+use gi_store::FileSource;
 use gi_table_commands::{given_words, reported};
 use std::process::ExitCode;
 
@@ -13,6 +14,7 @@ fn main(rt: HostRuntime) -> ExitCode {
             &rt,
             &rt,
             &mut Progress::new(rt.stderr()),
+            &FileSource::new(&rt),
             words.as_slice(),
             &mut input,
             &mut output,

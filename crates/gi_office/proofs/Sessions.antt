@@ -4,7 +4,7 @@ use Rattle.std.proofs.lemmas.List.{get_or-drop, map-append}
 use Rattle.gi_pairs.specs.declared.side.Side.{Side}
 use Rattle.gi_office.specs.Keeping.{IsFull, SeatState}
 use Rattle.gi_office.specs.Working.{AreRooms, served_of, session_of}
-use Rattle.gi_office.specs.Serving.{AreServed, AreSubmitted, IsServed, SessionState, Submits}
+use Rattle.gi_office.specs.Serving.{AreLetGo, AreServed, AreSubmitted, IsServed, SessionState, Submits}
 use Rattle.gi_office.specs.declared.office_fault.OfficeFault.{OfficeFault}
 use Rattle.gi_office.specs.declared.office_fault.OfficeFault.TheVariants.{SeatFull}
 use Rattle.gi_office.specs.declared.receipt.Receipt.{Receipt}
@@ -14,28 +14,33 @@ submitted-so : (side : Side) (first last : SeatState) (bodies : List (List ℕ))
 submitted-so side first last bodies receipts h = subst (λ (rs : List Receipt). AreSubmitted side first bodies rs last) (append-nil receipts) h
 
 pub stopped :
-    (side : Side) (may_end : ℕ → Type 0) (first seat last : SeatState) (body : List ℕ) (bodies rest : List (List ℕ)) (receipts : List Receipt) (end : Option OfficeFault)
+    (side : Side) (may_go may_end : ℕ → Type 0) (first seat last : SeatState) (body : List ℕ) (bodies rest : List (List ℕ)) (receipts : List Receipt) (end : Option OfficeFault)
     → ((more : List Receipt) (e : SeatState) → AreSubmitted side seat (body ∷ rest) more e → AreSubmitted side first bodies (receipts ++ more) e)
     → length receipts + length (body ∷ rest) ≡ length bodies
-    → Submits side (may_end (length receipts + 1)) seat body (Err end) last
-    → IsServed side may_end (record { seat = first; bodies = bodies }) (record { seat = last; receipts = receipts; fault = end })
-stopped side may_end first seat last body bodies rest receipts None submitted counted ends = record {
+    → AreLetGo may_go (length receipts)
+    → Submits side (may_go (length receipts + 1)) (may_end (length receipts + 1)) seat body (Err end) last
+    → IsServed side may_go may_end (record { seat = first; bodies = bodies }) (record { seat = last; receipts = receipts; fault = end })
+stopped side may_go may_end first seat last body bodies rest receipts None submitted counted let_go ends = record {
   submitted = submitted-so side first last bodies receipts (submitted [] last ends.1);
+  let_go = let_go;
   ends = inr (omega (arith, counted), ends.0);
 }
-stopped side may_end first seat last body bodies rest receipts (Some fault) submitted counted ends = record {
-  submitted = submitted-so side first last bodies receipts (submitted [] last ends.0);
-  ends = (omega (arith, counted), subst (λ (s : SeatState). (fault ≡ SeatFull) ↔ IsFull s) (sym ends.0) ends.1);
+stopped side may_go may_end first seat last body bodies rest receipts (Some fault) submitted counted let_go ends = record {
+  submitted = submitted-so side first last bodies receipts (submitted [] last ends.1.0);
+  let_go = let_go;
+  ends = (omega (arith, counted), ends.0, subst (λ (s : SeatState). (fault ≡ SeatFull) ↔ IsFull s) (sym ends.1.0) ends.1.1);
 }
 
 pub finished :
-    (side : Side) (may_end : ℕ → Type 0) (first seat : SeatState) (bodies rest : List (List ℕ)) (receipts : List Receipt)
+    (side : Side) (may_go may_end : ℕ → Type 0) (first seat : SeatState) (bodies rest : List (List ℕ)) (receipts : List Receipt)
     → ((more : List Receipt) (e : SeatState) → AreSubmitted side seat rest more e → AreSubmitted side first bodies (receipts ++ more) e)
     → length receipts + length rest ≡ length bodies
     → length rest ≡ 0
-    → IsServed side may_end (record { seat = first; bodies = bodies }) (record { seat = seat; receipts = receipts; fault = None })
-finished side may_end first seat bodies rest receipts submitted counted none = record {
+    → AreLetGo may_go (length receipts)
+    → IsServed side may_go may_end (record { seat = first; bodies = bodies }) (record { seat = seat; receipts = receipts; fault = None })
+finished side may_go may_end first seat bodies rest receipts submitted counted none let_go = record {
   submitted = submitted-so side first seat bodies receipts (submitted [] seat refl);
+  let_go = let_go;
   ends = inl (omega (arith, counted, none));
 }
 
@@ -65,28 +70,28 @@ one-begun {L = L} works pushed work session left rest all push same next h =
     ∙ h
 
 pub served-there :
-    {L : Type 0} (side : Side) (may_end : ℕ → ℕ → Type 0) (i : ℕ) (old new argument after : Work L) → argument ≡ old → after ≡ new
-    → IsServed side (may_end (i + 1)) (session_of argument) (served_of after) → IsServed side (may_end (1 + i)) (session_of old) (served_of new)
-served-there {L = L} side may_end i old new argument after first second h =
+    {L : Type 0} (side : Side) (may_go may_end : ℕ → ℕ → Type 0) (i : ℕ) (old new argument after : Work L) → argument ≡ old → after ≡ new
+    → IsServed side (may_go (i + 1)) (may_end (i + 1)) (session_of argument) (served_of after) → IsServed side (may_go (1 + i)) (may_end (1 + i)) (session_of old) (served_of new)
+served-there {L = L} side may_go may_end i old new argument after first second h =
     let e : i + 1 ≡ 1 + i = omega arith in
-    subst (λ (n : ℕ). IsServed side (may_end n) (session_of old) (served_of new)) e
-    (subst (λ (w : Work L). IsServed side (may_end (i + 1)) (session_of old) (served_of w)) second
-    (subst (λ (w : Work L). IsServed side (may_end (i + 1)) (session_of w) (served_of after)) first h))
+    subst (λ (n : ℕ). IsServed side (may_go n) (may_end n) (session_of old) (served_of new)) e
+    (subst (λ (w : Work L). IsServed side (may_go (i + 1)) (may_end (i + 1)) (session_of old) (served_of w)) second
+    (subst (λ (w : Work L). IsServed side (may_go (i + 1)) (may_end (i + 1)) (session_of w) (served_of after)) first h))
 
 pub each-served :
-    {L : Type 0} (side : Side) (may_end : ℕ → ℕ → Type 0) (number : ℕ) (old new : List (Work L)) → length old ≡ length new
-    → ((i : ℕ) (d : Work L) → i < length old → IsServed side (may_end (number + i)) (session_of (slice_index_or old i d)) (served_of (slice_index_or new i d)))
-    → AreServed side may_end number (map session_of old) (map served_of new)
-each-served side may_end number [] [] long each = tt
-each-served side may_end number [] (y ∷ ys) long each = absurd (omega (arith, long))
-each-served side may_end number (x ∷ xs) [] long each = absurd (omega (arith, long))
-each-served {L = L} side may_end number (x ∷ xs) (y ∷ ys) long each = (
+    {L : Type 0} (side : Side) (may_go may_end : ℕ → ℕ → Type 0) (number : ℕ) (old new : List (Work L)) → length old ≡ length new
+    → ((i : ℕ) (d : Work L) → i < length old → IsServed side (may_go (number + i)) (may_end (number + i)) (session_of (slice_index_or old i d)) (served_of (slice_index_or new i d)))
+    → AreServed side may_go may_end number (map session_of old) (map served_of new)
+each-served side may_go may_end number [] [] long each = tt
+each-served side may_go may_end number [] (y ∷ ys) long each = absurd (omega (arith, long))
+each-served side may_go may_end number (x ∷ xs) [] long each = absurd (omega (arith, long))
+each-served {L = L} side may_go may_end number (x ∷ xs) (y ∷ ys) long each = (
   let e : number + 0 ≡ number = omega arith in
-      subst (λ (n : ℕ). IsServed side (may_end n) (session_of x) (served_of y)) e (each 0 x (omega arith)),
-  each-served side may_end (number + 1) xs ys (omega (arith, long))
+      subst (λ (n : ℕ). IsServed side (may_go n) (may_end n) (session_of x) (served_of y)) e (each 0 x (omega arith)),
+  each-served side may_go may_end (number + 1) xs ys (omega (arith, long))
       (λ i d below. let e : number + (1 + i) ≡ number + 1 + i = omega arith in
-      subst (λ (n : ℕ). IsServed side (may_end n) (session_of (slice_index_or xs i d)) (served_of (slice_index_or ys i d))) e
-      (subst (λ (w : Work L). IsServed side (may_end (number + (1 + i))) (session_of (slice_index_or xs i d)) (served_of w)) (sym (get_or-drop 1 (y ∷ ys) i d))
-      (subst (λ (w : Work L). IsServed side (may_end (number + (1 + i))) (session_of w) (served_of (slice_index_or (y ∷ ys) (1 + i) d))) (sym (get_or-drop 1 (x ∷ xs) i d))
+      subst (λ (n : ℕ). IsServed side (may_go n) (may_end n) (session_of (slice_index_or xs i d)) (served_of (slice_index_or ys i d))) e
+      (subst (λ (w : Work L). IsServed side (may_go (number + (1 + i))) (may_end (number + (1 + i))) (session_of (slice_index_or xs i d)) (served_of w)) (sym (get_or-drop 1 (y ∷ ys) i d))
+      (subst (λ (w : Work L). IsServed side (may_go (number + (1 + i))) (may_end (number + (1 + i))) (session_of w) (served_of (slice_index_or (y ∷ ys) (1 + i) d))) (sym (get_or-drop 1 (x ∷ xs) i d))
       (each (1 + i) d (omega (arith, below)))))),
 )

@@ -1,9 +1,9 @@
-ghost use Rattle.std.specs.Prelude.{◌≡◌, ◌≢◌, ◌≤◌, ◌↔◌, IfOk, None, false, length};
+ghost use Rattle.std.specs.Prelude.{◌≡◌, ◌≢◌, ◌≤◌, ◌↔◌, IfOk, IfSome, None, false, length};
 ghost use Rattle.gi_office.specs.Entering.{IsAnswered};
 ghost use Rattle.gi_office.specs.Limits.{most_seats};
 ghost use Rattle.gi_office.specs.Opening.{new_seats};
 ghost use Rattle.gi_office.specs.Settling.{SettlesKept};
-ghost use Rattle.gi_office.specs.Waiting.{number_in};
+ghost use Rattle.gi_office.specs.Waiting.{IsWaited, number_in};
 ghost use Rattle.gi_desk.specs.declared.call.Call.TheVariants as calls;
 
 mod saving;
@@ -62,6 +62,15 @@ fn asked<R: Role, L: Ledger>(
 {
     held.known();
     held.enter(seat, call)
+}
+
+/// As in `asked`.
+fn became_of<R: Role, L: Ledger>(held: &Held<R, L>, n: u32) -> Option<Waited>
+    ensures fact { IfSome result (IsWaited R.SIDE n) }
+    ensures known { IfSome result (λ waited. waited ≢ Waited.NoFact) }
+{
+    held.known();
+    held.waited(n)
 }
 
 impl<R: Role, L: Ledger> Office<R, L> {
@@ -213,11 +222,12 @@ impl<R: Role, L: Ledger> Office<R, L> {
 
     /// Waits until fact number `n` is saved or the desk is halted.
     fn wait_for<W: Wait>(&self, rt: &W, n: u32) -> Waited
-        ensures { result ≢ Waited.NoFact }
+        ensures fact { IsWaited R.SIDE n result }
+        ensures known { result ≢ Waited.NoFact }
     {
         let mut held = self.held.lock(rt);
         for _ in rt.forever() {
-            if let Some(waited) = held.waited(n) {
+            if let Some(waited) = became_of(&*held, n) {
                 return waited;
             }
             held = self.changed.wait(rt, held);
@@ -229,7 +239,8 @@ impl<R: Role, L: Ledger> Office<R, L> {
     /// `NoFact` at once where the receipt's answer is neither `Recorded` nor `Repeat`. It looks at
     /// the fact's number alone, whichever office gave the receipt.
     pub fn wait_saved<W: Wait>(&self, rt: &W, receipt: &Receipt) -> Waited
-        ensures { (result ≡ Waited.NoFact) ↔ (number_in receipt.now.reply.answer ≡ None) }
+        ensures none { (result ≡ Waited.NoFact) ↔ (number_in receipt.now.reply.answer ≡ None) }
+        ensures fact { IfSome (number_in receipt.now.reply.answer) (λ n. IsWaited R.SIDE n result) }
     {
         match number_of(&receipt.reply.answer) {
             Some(n) => self.wait_for(rt, n),

@@ -33,6 +33,8 @@ impl Waker {
 }
 
 impl Gate for Waker {
+    ghost may_go = { λ _ session call. Unit {0} };
+
     ghost may_end = { λ _ session call. ⊥ };
 
     fn hold<W: Wait>(&self, _rt: &W, _session: usize, _call: usize) -> bool {

@@ -1,8 +1,8 @@
 -- What `clap` says in place of a command: memory ran out, or the words ask for none.
-use Rattle.std.proofs.Common.{◌≡◌, ◌≢◌, ◌⊎◌, inl, inr, ℕ, List, [], Option, None, Some, Result, Err, refl, sym, subst}
-use Rattle.std.specs.Prelude.{IfErr, IfSome, IsErrAnd}
+use Rattle.std.proofs.Common.{◌≡◌, ◌≢◌, ◌⊎◌, inl, inr, ℕ, List, Option, None, Some, Result, Err, refl, sym, subst}
+use Rattle.std.specs.Prelude.{IsErrAnd}
 use Rattle.std.specs.Io.KnownBytes.{Keeps}
-use Rattle.clap.specs.Words.{HasKind, IsAmong, Kinds, kind_of}
+use Rattle.clap.specs.Words.{HasKind, IsAmong, kind_of}
 use Rattle.clap.specs.declared.error.Error.{Error}
 use Rattle.clap.specs.declared.error.kind.ErrorKind.TheVariants as kind
 use Rattle.gi_command_line.specs.Asked.{Wanted, at_once, audit, explain, hours, match_tables, mistaken, report, serve, simulate}
@@ -14,23 +14,24 @@ use Rattle.gi_commands.specs.Fault.{OfTables}
 use Rattle.gi_commands.specs.Simulating.{CutsShort, HasReport, HasScript, IsFirstScriptFault}
 use Rattle.gi_commands.specs.declared.desk_report.DeskReport.TheVariants.{Listed}
 use Rattle.gi_commands.specs.declared.fault.Fault.TheVariants as fault
+use Rattle.gi_store.specs.Source.{Source}
 use Rattle.gi_service.specs.Serving.{IsFirstServeFault}
 use Rattle.gi_service.specs.Tasks.{IsTaskFault, LeavesTask, MayReadTask}
 use Rattle.gi_service.specs.declared.program_fault.ProgramFault.{ProgramFault}
 use Rattle.gi_service.specs.declared.program_fault.ProgramFault.TheVariants.{Command}
 
 -- memory may run out of each command
-pub may_want : (wanted : Wanted) (remaining : Option (List ℕ)) → IsTaskFault wanted remaining (Command fault.OutOfMemory)
-may_want (at_once match_tables) remaining = if_some remaining (λ input. OfTables (IsFirstFault input) fault.OutOfMemory) (λ input. (table.OutOfMemory, refl, tt))
-may_want (at_once (hours day)) remaining = (table.OutOfMemory, refl, tt)
-may_want (at_once (simulate trace)) remaining = if_some remaining (λ input. IsFirstScriptFault HasScript input fault.OutOfMemory) (λ input. tt)
-may_want (at_once (report kind format side None)) remaining =
+pub may_want : (from : Source) (wanted : Wanted) (remaining : Option (List ℕ)) → IsTaskFault from wanted remaining (Command fault.OutOfMemory)
+may_want from (at_once match_tables) remaining = if_some remaining (λ input. OfTables (IsFirstFault input) fault.OutOfMemory) (λ input. (table.OutOfMemory, refl, tt))
+may_want from (at_once (hours day)) remaining = (table.OutOfMemory, refl, tt)
+may_want from (at_once (simulate trace)) remaining = if_some remaining (λ input. IsFirstScriptFault HasScript input fault.OutOfMemory) (λ input. tt)
+may_want from (at_once (report kind format side None)) remaining =
     if_some remaining (λ input. IsFirstScriptFault (HasReport (Listed kind format) side) input fault.OutOfMemory) (λ input. tt)
-may_want (at_once (report kind format side (Some book))) remaining = tt
-may_want (at_once (explain side words book)) remaining = inl refl
-may_want (at_once (audit initiating matching point)) remaining = inl tt
-may_want (at_once mistaken) remaining = inr refl
-may_want (serve sessions books) remaining = if_some remaining (λ input. IsFirstServeFault sessions input (Command fault.OutOfMemory)) (λ input. inl tt)
+may_want from (at_once (report kind format side (Some book))) remaining = tt
+may_want from (at_once (explain side words book)) remaining = inl refl
+may_want from (at_once (audit initiating matching point)) remaining = tt
+may_want from (at_once mistaken) remaining = inr refl
+may_want from (serve sessions books) remaining = if_some remaining (λ input. IsFirstServeFault sessions input (Command fault.OutOfMemory)) (λ input. inl tt)
 
 -- each command may have read nothing
 pub may_leave : (wanted : Wanted) (remaining : Option (List ℕ)) → MayReadTask wanted remaining remaining
@@ -46,15 +47,15 @@ may_leave (at_once mistaken) remaining = keeps_same remaining
 may_leave (serve sessions books) remaining = tt
 
 -- and where memory ran out, each command may have written nothing
-pub may_keep : (wanted : Wanted) (remaining old new : Option (List ℕ)) → Keeps old new → LeavesTask wanted remaining old new (Command fault.OutOfMemory)
-may_keep (at_once match_tables) remaining old new kept = kept
-may_keep (at_once (hours day)) remaining old new kept = kept
-may_keep (at_once (simulate trace)) remaining old new kept = if_some remaining (λ input. CutsShort trace input old new) (λ input. inl kept)
-may_keep (at_once (report kind format side book)) remaining old new kept = kept
-may_keep (at_once (explain side words book)) remaining old new kept = kept
-may_keep (at_once (audit initiating matching point)) remaining old new kept = kept
-may_keep (at_once mistaken) remaining old new kept = kept
-may_keep (serve sessions books) remaining old new kept = kept
+pub may_keep : (from : Source) (wanted : Wanted) (remaining old new : Option (List ℕ)) → Keeps old new → LeavesTask from wanted remaining old new (Command fault.OutOfMemory)
+may_keep from (at_once match_tables) remaining old new kept = kept
+may_keep from (at_once (hours day)) remaining old new kept = kept
+may_keep from (at_once (simulate trace)) remaining old new kept = if_some remaining (λ input. CutsShort trace input old new) (λ input. inl kept)
+may_keep from (at_once (report kind format side book)) remaining old new kept = kept
+may_keep from (at_once (explain side words book)) remaining old new kept = kept
+may_keep from (at_once (audit initiating matching point)) remaining old new kept = kept
+may_keep from (at_once mistaken) remaining old new kept = kept
+may_keep from (serve sessions books) remaining old new kept = kept
 
 -- words that ask for no command are told as that, or memory ran out
 abbrev pub IsNoCommand : ProgramFault → Type 0

@@ -1,10 +1,13 @@
 -- What both running offices write of a script, and the faults of that in their order.
 use Rattle.std.specs.Prelude.{◌≡◌, ◌<◌, ◌≤◌, ◌⊎◌, ℕ, List, length, Option, Some, IfSome, Result, Ok, Err}
 use Rattle.std.specs.Io.KnownBytes.{Appends, Keeps}
+use Rattle.gi_pairs.specs.declared.side.Side.{Side}
 use Rattle.gi_pairs.specs.declared.side.Side.TheVariants.{I, M}
 use Rattle.gi_script.specs.Script.{IsOfficeFault, IsOfficeScript, ScriptContents}
 use Rattle.gi_table_commands.specs.Input.{most_input}
-use Rattle.gi_commands.specs.Reporting.{IsBookFault}
+use Rattle.gi_facts.specs.declared.fact.Fact.{Fact}
+use Rattle.gi_desk.specs.Machine.{bad_fact}
+use Rattle.gi_store.specs.declared.store_fault.StoreFault.TheVariants as store
 use Rattle.gi_commands.specs.declared.fault.Fault.{Fault}
 use Rattle.gi_commands.specs.declared.fault.Fault.TheVariants as fault
 use Rattle.gi_serving.specs.Ending.{IsOver}
@@ -42,9 +45,17 @@ IsScriptFault input fault.TooLarge = most_input < length input
 IsScriptFault input (fault.Script why) = (length input ≤ most_input) × IsOfficeFault input why
 IsScriptFault input _ = ⊥
 
--- one of the two books makes no desk of its side
+-- why a side has no desk: some facts make none, or the store failed or memory ran out
+abbrev pub IsStationFault : Side → List ℕ → Fault → Type 0
+IsStationFault side point (fault.BadFact n) = (facts : List Fact) × (bad_fact side point facts ≡ Some n)
+IsStationFault side point (fault.Store store.OutOfMemory) = ⊥
+IsStationFault side point (fault.Store why) = Unit {0}
+IsStationFault side point fault.OutOfMemory = Unit {0}
+IsStationFault side point _ = ⊥
+
+-- one of the two sides has none
 abbrev pub IsBooksFault : List ℕ → Fault → Type 0
-IsBooksFault point why = IsBookFault I point why ⊎ IsBookFault M point why
+IsBooksFault point why = IsStationFault I point why ⊎ IsStationFault M point why
 
 -- a script is read, and one of the books is not
 abbrev pub HasBooksFault : List ℕ → Fault → Type 0

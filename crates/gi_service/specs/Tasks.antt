@@ -4,26 +4,29 @@ use Rattle.gi_command_line.specs.Asked.{Wanted, at_once, serve}
 use Rattle.gi_commands.specs.Commands.{Does, HasNoCode, IsFaultOf, Leaves, MayRead}
 use Rattle.gi_commands.specs.Fault.{no_code}
 use Rattle.gi_commands.specs.Leaving.{LeavesNothing}
+use Rattle.gi_store.specs.Source.{Source}
 use Rattle.gi_service.specs.Serving.{IsFirstServeFault, LeavesServed, Serves}
 use Rattle.gi_service.specs.declared.program_fault.ProgramFault.{ProgramFault}
 use Rattle.gi_service.specs.declared.program_fault.ProgramFault.TheVariants.{Command, Served}
 
+-- `from` says what may come of reading a book, by its file's name; `serve` opens its books by itself.
+
 -- what is asked for is what the output gains; of what the reader has left, where it tells that
-abbrev pub DoesTask : Wanted → Option (List ℕ) → Option (List ℕ) → Option (List ℕ) → Type 0
-DoesTask (at_once asked) remaining old new = Does asked remaining old new
-DoesTask (serve sessions books) remaining old new = IfSome remaining (λ input. Serves sessions input old new)
+abbrev pub DoesTask : Source → Wanted → Option (List ℕ) → Option (List ℕ) → Option (List ℕ) → Type 0
+DoesTask from (at_once asked) remaining old new = Does from asked remaining old new
+DoesTask from (serve sessions books) remaining old new = IfSome remaining (λ input. Serves sessions input old new)
 
 -- the first fault
-abbrev pub IsTaskFault : Wanted → Option (List ℕ) → ProgramFault → Type 0
-IsTaskFault (at_once asked) remaining (Command why) = IsFaultOf asked remaining why
-IsTaskFault (at_once asked) remaining (Served why) = ⊥
-IsTaskFault (serve sessions books) remaining why = IfSome remaining (λ input. IsFirstServeFault sessions input why)
+abbrev pub IsTaskFault : Source → Wanted → Option (List ℕ) → ProgramFault → Type 0
+IsTaskFault from (at_once asked) remaining (Command why) = IsFaultOf from asked remaining why
+IsTaskFault from (at_once asked) remaining (Served why) = ⊥
+IsTaskFault from (serve sessions books) remaining why = IfSome remaining (λ input. IsFirstServeFault sessions input why)
 
 -- what stands on the output after it
-abbrev pub LeavesTask : Wanted → Option (List ℕ) → Option (List ℕ) → Option (List ℕ) → ProgramFault → Type 0
-LeavesTask (at_once asked) remaining old new (Command why) = Leaves asked remaining old new why
-LeavesTask (at_once asked) remaining old new (Served why) = ⊥
-LeavesTask (serve sessions books) remaining old new why = LeavesServed sessions remaining old new why
+abbrev pub LeavesTask : Source → Wanted → Option (List ℕ) → Option (List ℕ) → Option (List ℕ) → ProgramFault → Type 0
+LeavesTask from (at_once asked) remaining old new (Command why) = Leaves from asked remaining old new why
+LeavesTask from (at_once asked) remaining old new (Served why) = ⊥
+LeavesTask from (serve sessions books) remaining old new why = LeavesServed sessions remaining old new why
 
 -- after a fault of a command nothing is written, but where a writer failed
 abbrev pub LeavesNothingBut : Option (List ℕ) → Option (List ℕ) → ProgramFault → Type 0

@@ -13,6 +13,7 @@ use clap::error::ErrorKind;
 use gi_command_line::{Mistake, Request, Task, requested};
 use gi_commands::Fault;
 use gi_serving::Watch;
+use gi_store::BookSource;
 use gi_table_commands::reported;
 use std::convert::AsStr;
 use std::io::{Read, Write};
@@ -53,24 +54,34 @@ fn point_out<E: Write>(mistake: Mistake<'_>, errors: &mut E) -> Result<(), Progr
 
 /// Does what the words ask for, the first being the program's own name, and answers the fault, if
 /// any. Words in which `clap` objects to nothing ask for the command that they name, or else for
-/// `match`. A fault is one line on `errors` (a wrong command line has more words there) and nothing
+/// `match`. Books are read from `books`, by the names in the words, and those of `serve` are files. A
+/// fault is one line on `errors` (a wrong command line has more words there) and nothing
 /// on `output`, unless memory runs out in a script's step, a running office gives up, books differ, or
 /// a writer fails: that is `Write`, after all other faults but those three.
-pub fn dispatch<S: AsStr, R: Read, W: Write, E: Write, T: Threads + Wait + Sync, V: Watch>(
+pub fn dispatch<
+    B: BookSource,
+    S: AsStr,
+    R: Read,
+    W: Write,
+    E: Write,
+    T: Threads + Wait + Sync,
+    V: Watch,
+>(
     rt: &HostRuntime,
     threads: &T,
     watch: &mut V,
+    books: &B,
     words: &[S],
     input: &mut R,
     output: &mut W,
     errors: &mut E,
 ) -> Result<(), ProgramFault>
     ensures done { objections (map S.text words.now) ≡ [] → OnOk result (
-        DoesTask (asked (map S.text words.now)) (R.remaining input.old) (W.contents output.old) (W.contents output.new)) }
+        DoesTask (B.gives books.now) (asked (map S.text words.now)) (R.remaining input.old) (W.contents output.old) (W.contents output.new)) }
     ensures first { objections (map S.text words.now) ≡ []
-        → IfErr result (IsTaskFault (asked (map S.text words.now)) (R.remaining input.old)) }
+        → IfErr result (IsTaskFault (B.gives books.now) (asked (map S.text words.now)) (R.remaining input.old)) }
     ensures leaves { objections (map S.text words.now) ≡ [] → IfErr result (
-        LeavesTask (asked (map S.text words.now)) (R.remaining input.old) (W.contents output.old) (W.contents output.new)) }
+        LeavesTask (B.gives books.now) (asked (map S.text words.now)) (R.remaining input.old) (W.contents output.old) (W.contents output.new)) }
     ensures unread { objections (map S.text words.now) ≡ []
         → MayReadTask (asked (map S.text words.now)) (R.remaining input.old) (R.remaining input.new) }
     // A point that is no code is told whatever the file is.
@@ -89,7 +100,7 @@ pub fn dispatch<S: AsStr, R: Read, W: Write, E: Write, T: Threads + Wait + Sync,
     match requested(rt.alloc(), words) {
         Ok(Task::AtOnce(Request::Mistaken(mistake))) => point_out(mistake, errors),
         Ok(task) => reported(
-            perform_task(rt, threads, watch, &task, input, output),
+            perform_task(rt, threads, watch, books, &task, input, output),
             errors,
         ),
         Err(said) => explain(&said, output, errors),

@@ -1,7 +1,5 @@
 //! Where the books of two running offices stand.
 
-ghost use Rattle.std.specs.Prelude.{◌≡◌, None, IfOk};
-
 use gi_pairs::Side;
 use gi_store::{BookStore, StoreFault, book_of_file};
 use sqlite::{Alter, Connection, File, FileStore, MemStore};
@@ -25,9 +23,13 @@ impl Place for InMemory {
     type Store = MemStore;
 
     fn book(&self, _side: Side) -> Result<BookStore<MemStore>, StoreFault> {
-        match Connection::open_in_memory(self.alloc) {
-            Ok(connection) => BookStore::open(self.alloc, connection),
-            Err(error) => Err(StoreFault::from(error)),
+        let connection = Connection::open_in_memory(self.alloc)?;
+        match BookStore::open(self.alloc, connection) {
+            Ok(book) => Ok(book),
+            Err((connection, fault)) => {
+                drop(connection);
+                Err(fault)
+            }
         }
     }
 }

@@ -15,38 +15,44 @@ pub struct Progress {
     is_told: bool,
     /// How many lines it was last told are made.
     lines: usize,
+    /// How many it was last told the script has.
+    all: usize,
     hundredths: usize,
 }
 
 impl Model for Progress {
     ghost use Rattle.std.specs.Prelude.{ℕ};
 
-    /// How many lines it was last told are made.
-    ghost Value = { ℕ };
+    /// How many lines it was last told are made, and how many the script has.
+    ghost Value = { ℕ × ℕ };
 
-    ghost view = { λ progress. progress.lines };
+    ghost view = { λ progress. (progress.lines, progress.all) };
 }
 
 impl Progress {
     /// Nothing is told yet.
     pub fn new(errors: Stderr) -> Progress
-        ensures { result ≡ 0 }
+        ensures { result ≡ (0, 0) }
     {
         let is_told = errors.is_terminal();
         Progress {
             errors,
             is_told,
             lines: 0,
+            all: 0,
             hundredths: 0,
         }
     }
 }
 
 impl Watch for Progress {
-    ghost told = { λ progress. progress };
+    ghost told = { λ progress. progress.0 };
+
+    ghost whole = { λ progress. progress.1 };
 
     fn made(&mut self, lines: usize, all: usize) {
         self.lines = lines;
+        self.all = all;
         let hundredths = lines / (all / 100 + 1);
         if self.is_told && all >= LONG && hundredths > self.hundredths {
             self.hundredths = hundredths;

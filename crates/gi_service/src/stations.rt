@@ -1,8 +1,10 @@
 //! What each side of two running offices begins with: its desk, replayed from its book.
 
 ghost use Rattle.std.specs.Prelude.{◌≡◌, IfErr, IfOk, false, length, string_bytes};
-ghost use Rattle.gi_commands.specs.Reporting.{IsBookFault};
-ghost use Rattle.gi_service.specs.Serving.{IsBooksFault, IsServedFrom};
+ghost use Rattle.sqlite.specs.Held.{state};
+ghost use Rattle.gi_store.specs.Book.{IsRead, counted};
+ghost use Rattle.gi_store.specs.Clean.{IsClean};
+ghost use Rattle.gi_service.specs.Serving.{IsBooksFault, IsServedFrom, IsStationFault};
 
 use crate::places::Place;
 use gi_command_line::Sessions;
@@ -27,7 +29,9 @@ fn station<R: Role, P: Place>(
     ensures point { IfOk result (λ it. it.0.point ≡ point) }
     ensures saved { IfOk result (λ it. it.0.saved ≡ length it.0.facts) }
     ensures runs { IfOk result (λ it. it.0.halted ≡ false) }
-    ensures fault { IfErr result (IsBookFault R.SIDE point) }
+    ensures loaded { IfOk result (λ it. it.1.loaded ≡ counted (length it.0.facts)) }
+    ensures facts { IfOk result (λ it. IsClean P.Store.Store it.1.connection → IsRead (state P.Store.Store it.1.connection) it.0.facts) }
+    ensures fault { IfErr result (IsStationFault R.SIDE point) }
 {
     let mut book = place.book(R::SIDE)?;
     let facts = book.load()?;

@@ -7,28 +7,37 @@ use crate::service::serve_script;
 use gi_command_line::Task;
 use gi_commands::perform;
 use gi_serving::Watch;
+use gi_store::BookSource;
 use std::io::{Read, Write};
 use std::sync::Wait;
 use std::thread::Threads;
 
 /// Does what a command line asks for, and answers the fault, if any: see `perform` and
-/// `serve_script`.
-pub fn perform_task<R: Read, W: Write, T: Threads + Wait + Sync, V: Watch>(
+/// `serve_script`. All but `serve` read books from `books`.
+pub fn perform_task<B: BookSource, R: Read, W: Write, T: Threads + Wait + Sync, V: Watch>(
     rt: &HostRuntime,
     threads: &T,
     watch: &mut V,
+    books: &B,
     task: &Task<'_>,
     input: &mut R,
     output: &mut W,
 ) -> Result<(), ProgramFault>
-    ensures done { OnOk result (DoesTask (task_meaning task.now) (R.remaining input.old) (W.contents output.old) (W.contents output.new)) }
-    ensures first { IfErr result (IsTaskFault (task_meaning task.now) (R.remaining input.old)) }
-    ensures leaves { IfErr result (LeavesTask (task_meaning task.now) (R.remaining input.old) (W.contents output.old) (W.contents output.new)) }
+    ensures done { OnOk result (DoesTask (B.gives books.now) (task_meaning task.now) (R.remaining input.old) (W.contents output.old) (W.contents output.new)) }
+    ensures first { IfErr result (IsTaskFault (B.gives books.now) (task_meaning task.now) (R.remaining input.old)) }
+    ensures leaves { IfErr result (LeavesTask (B.gives books.now) (task_meaning task.now) (R.remaining input.old) (W.contents output.old) (W.contents output.new)) }
     ensures unread { MayReadTask (task_meaning task.now) (R.remaining input.old) (R.remaining input.new) }
     ensures code { NamesNoCode (task_meaning task.now) → result ≡ Err no_task_code }
 {
     match task {
-        Task::AtOnce(request) => match perform(rt, threads, *request, input, output) {
+        Task::AtOnce(request) => match perform(
+            rt.alloc(),
+            threads,
+            books,
+            *request,
+            input,
+            output,
+        ) {
             Ok(()) => Ok(()),
             Err(fault) => Err(ProgramFault::Command(fault)),
         },

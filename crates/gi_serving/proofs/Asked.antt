@@ -2,7 +2,7 @@
 use Rattle.std.proofs.Common.{◌≡◌, ◌≤◌, ◌<◌, ℕ, ◌+◌, ◌-◌, min, length, take, drop, get_or, ap, sym, ◌∙◌, inl, inr, refl, subst, ◌++◌, ◌∷◌, [], List, true, false, is_some, Option, None, Some, Result, Ok, Err, rules}
 use Rattle.std.proofs.lemmas.List.{drop_min, flat_map_more, take_all, take_more, take_rest}
 use Rattle.std.specs.List.{flat_map}
-use Rattle.std.specs.Prelude.{IfOk, OnOk}
+use Rattle.std.specs.Prelude.{IfErr, IfOk, IsOk, OnOk}
 use Rattle.gi_desk.specs.declared.call.Call.{Call}
 use Rattle.gi_desk.specs.declared.packet.Packet.{Packet}
 use Rattle.gi_office.specs.Keeping.{SeatState}
@@ -39,6 +39,11 @@ of_value {T} {E} r x P same p = subst (λ (s : Result T E). IfOk s P) same p
 pub known_too : {T E : Type 0} (r : Result T E) (P R : T → Type 0) (Q : Type 0) → ((x : T) → P x → Q → R x) → IfOk r P → OnOk r Q → IfOk r R
 known_too (Ok x) P R Q of p q = of x p q
 known_too (Err e) P R Q of p q = tt
+
+-- what is no fault has none
+pub no_fault : {T E : Type 0} (r : Result T E) (P : E → Type 0) → IsOk r → IfErr r P
+no_fault (Ok x) P h = tt
+no_fault (Err e) P h = let same : false ≡ true = h in absurd cc
 
 -- ---- what was let out
 

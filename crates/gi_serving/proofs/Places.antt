@@ -22,7 +22,7 @@ use Rattle.gi_office.specs.declared.save_fault.SaveFault.TheVariants as savings
 use Rattle.gi_office.specs.declared.turn.Turn.{Turn}
 use Rattle.gi_office.specs.declared.turn.Turn.TheVariants as turns
 use Rattle.gi_serving.specs.Ending.{AreSamePlaces, place_of}
-use Rattle.gi_serving.specs.Submitting.{HasMain, begun_by, goes_on, seat_in, seat_of}
+use Rattle.gi_serving.specs.Submitting.{HasMain, begun_by, goes_on, lets_go, seat_in, seat_of}
 use Rattle.gi_serving.specs.declared.word.Word.{Word}
 
 -- ---- one seat
@@ -92,19 +92,19 @@ submitted side old bodies [] new h = ap place_of h
 submitted side old [] (receipt ∷ receipts) new h = absurd h
 submitted side old (body ∷ bodies) (receipt ∷ receipts) new h = submitted side (noted old (Submit body) receipt) bodies receipts new h.1
 
-served : (side : Side) (may_end : ℕ → ℕ → Type 0) (number : ℕ) (sessions : List SessionState) (all : List ServedState) → AreServed side may_end number sessions all → AreSamePlaces (map seat_of sessions) (map seat_in all)
-served side may_end number [] [] h = refl
-served side may_end number [] (one ∷ others) h = absurd h
-served side may_end number (session ∷ sessions) [] h = absurd h
-served side may_end number (session ∷ sessions) (one ∷ others) h =
+served : (side : Side) (may_go may_end : ℕ → ℕ → Type 0) (number : ℕ) (sessions : List SessionState) (all : List ServedState) → AreServed side may_go may_end number sessions all → AreSamePlaces (map seat_of sessions) (map seat_in all)
+served side may_go may_end number [] [] h = refl
+served side may_go may_end number [] (one ∷ others) h = absurd h
+served side may_go may_end number (session ∷ sessions) [] h = absurd h
+served side may_go may_end number (session ∷ sessions) (one ∷ others) h =
     ap (λ (place : ℕ × ℕ). place ∷ map place_of (map seat_in others)) (submitted side session.seat session.bodies one.receipts one.seat h.0.submitted)
-    ∙ ap (λ (places : List (ℕ × ℕ)). place_of session.seat ∷ places) (served side may_end (number + 1) sessions others h.1)
+    ∙ ap (λ (places : List (ℕ × ℕ)). place_of session.seat ∷ places) (served side may_go may_end (number + 1) sessions others h.1)
 
-served_length : (side : Side) (may_end : ℕ → ℕ → Type 0) (number : ℕ) (sessions : List SessionState) (all : List ServedState) → AreServed side may_end number sessions all → length all ≡ length sessions
-served_length side may_end number [] [] h = refl
-served_length side may_end number [] (one ∷ others) h = absurd h
-served_length side may_end number (session ∷ sessions) [] h = absurd h
-served_length side may_end number (session ∷ sessions) (one ∷ others) h = ap (λ (n : ℕ). suc n) (served_length side may_end (number + 1) sessions others h.1)
+served_length : (side : Side) (may_go may_end : ℕ → ℕ → Type 0) (number : ℕ) (sessions : List SessionState) (all : List ServedState) → AreServed side may_go may_end number sessions all → length all ≡ length sessions
+served_length side may_go may_end number [] [] h = refl
+served_length side may_go may_end number [] (one ∷ others) h = absurd h
+served_length side may_go may_end number (session ∷ sessions) [] h = absurd h
+served_length side may_go may_end number (session ∷ sessions) (one ∷ others) h = ap (λ (n : ℕ). suc n) (served_length side may_go may_end (number + 1) sessions others h.1)
 
 -- ---- sessions that begin
 
@@ -114,14 +114,14 @@ seats_begun (seat ∷ seats) [] same = absurd (omega (arith, same))
 seats_begun (seat ∷ seats) (bodies ∷ given) same = ap (λ (ss : List SeatState). seat ∷ ss) (seats_begun seats given (omega (arith, same)))
 
 pub served_all : (side : Side) (old : List SeatState) (given : List (List (List ℕ))) (sessions : List SessionState) (all : List ServedState)
-    → length old ≡ length given → sessions ≡ begun_by old given → AreServed side goes_on 1 sessions all → length all ≡ length given
+    → length old ≡ length given → sessions ≡ begun_by old given → AreServed side lets_go goes_on 1 sessions all → length all ≡ length given
 served_all side old given sessions all many begun h =
     let seats : map seat_of (begun_by old given) ≡ old = seats_begun old given many in
-    omega (arith, served_length side goes_on 1 sessions all h, ap length begun, length-map (begun_by old given) seat_of, ap length seats, many)
+    omega (arith, served_length side lets_go goes_on 1 sessions all h, ap length begun, length-map (begun_by old given) seat_of, ap length seats, many)
 
 pub served_places : (side : Side) (old new : List SeatState) (given : List (List (List ℕ))) (sessions : List SessionState) (all : List ServedState)
-    → length old ≡ length given → sessions ≡ begun_by old given → AreServed side goes_on 1 sessions all → new ≡ map seat_in all → AreSamePlaces old new
-served_places side old new given sessions all many begun h back = ap (map place_of) back ∙ (served side goes_on 1 sessions all h ∙ ap (map place_of) seats)
+    → length old ≡ length given → sessions ≡ begun_by old given → AreServed side lets_go goes_on 1 sessions all → new ≡ map seat_in all → AreSamePlaces old new
+served_places side old new given sessions all many begun h back = ap (map place_of) back ∙ (served side lets_go goes_on 1 sessions all h ∙ ap (map place_of) seats)
   where
     seats : map seat_of sessions ≡ old
     seats = ap (map seat_of) begun ∙ seats_begun old given many

@@ -1,5 +1,5 @@
 -- A seat whose turns all went well noted marks alone.
-use Rattle.std.proofs.Common.{◌≡◌, ◌⊎◌, ℕ, ◌+◌, List, [], ◌∷◌, ◌++◌, All, take, append-nil, append_assoc, length, Result, Ok, Err, OnOk, inl, inr, refl, ap, ◌∙◌, sym, subst, arith}
+use Rattle.std.proofs.Common.{◌≡◌, ◌⊎◌, Bool, ℕ, ◌+◌, List, [], ◌∷◌, ◌++◌, All, take, append-nil, append_assoc, length, Result, Ok, Err, OnOk, inl, inr, refl, ap, ◌∙◌, sym, subst, arith}
 use Rattle.std.proofs.lemmas.List.{length-append}
 use Rattle.std.proofs.lemmas.List.Elements.{All-append, All-cons, All-nil}
 use Rattle.sqlite_trees.specs.declared.store.Store.{Ghosts}
@@ -20,7 +20,7 @@ use Rattle.gi_pairs.specs.declared.side.Side.{Side}
 use Rattle.gi_pairs.specs.declared.side.Side.TheVariants.{I, M}
 use Rattle.gi_store.specs.Book.{BookState}
 use Rattle.gi_store.specs.declared.store_fault.StoreFault.{StoreFault}
-use Rattle.gi_serving.specs.Asking.{IsMark, NotesMarks, OtherIs, saved_of}
+use Rattle.gi_serving.specs.Asking.{EndsTurns, IsMark, IsTurned, NotesMarks, OtherIs, saved_of}
 
 noted_so : (old new : SeatState) (marks : List Note) → All IsMark marks → new ≡ record old { notes = old.notes ++ marks; amount = old.amount + length marks } → NotesMarks old new
 noted_so old new marks are is = record { marks = marks; are_marks = are; new_is = is }
@@ -100,8 +100,23 @@ turn_marks side store before after old result new (inr h) = followed side store 
 pub kept_so : {A E : Type 0} (r : Result A E) (seat : SeatState) → OnOk r (NotesMarks seat seat)
 kept_so r seat = whatever (NotesMarks seat seat) r (none_marked seat)
 
-pub other_at_I : {X : Type 0} (side : Side) (old new peer : X) → side ≡ I → OtherIs side old new peer peer
-other_at_I {X} side old new peer is = subst (λ (s : Side). OtherIs s old new peer peer) (sym is) refl
+pub other_at_I : {X Y : Type 0} (side : Side) (old new : X) (peer : Y) → side ≡ I → OtherIs side old new peer peer
+other_at_I {X} {Y} side old new peer is = subst (λ (s : Side). OtherIs s old new peer peer) (sym is) refl
 
-pub other_at_M : {X : Type 0} (side : Side) (one peer_old peer_new : X) → side ≡ M → OtherIs side one one peer_old peer_new
-other_at_M {X} side one peer_old peer_new is = subst (λ (s : Side). OtherIs s one one peer_old peer_new) (sym is) refl
+pub other_at_M : {X Y : Type 0} (side : Side) (one : X) (peer_old peer_new : Y) → side ≡ M → OtherIs side one one peer_old peer_new
+other_at_M {X} {Y} side one peer_old peer_new is = subst (λ (s : Side). OtherIs s one one peer_old peer_new) (sym is) refl
+
+-- ---- the turn that ends
+
+pub ended_at :
+    {B C : Type 0} (side : Side) (told : Result Bool SaveFault) (fault : SaveFault)
+    (takes : B → B → SeatState → Result Turn SaveFault → SeatState → Type 0) (peer_takes : C → C → SeatState → Result Turn SaveFault → SeatState → Type 0)
+    (book book_new : B) (peer_book peer_new : C) (main main_new peer_main peer_main_new : SeatState)
+    → told ≡ Err fault
+    → (side ≡ I → IsTurned (takes book book_new) main told main_new)
+    → (side ≡ M → IsTurned (peer_takes peer_book peer_new) peer_main told peer_main_new)
+    → EndsTurns takes book_new (Err fault) main_new ⊎ EndsTurns peer_takes peer_new (Err fault) peer_main_new
+ended_at {B} {C} I told fault takes peer_takes book book_new peer_book peer_new main main_new peer_main peer_main_new is ours theirs =
+    inl (record { before = book; between = main; last = subst (λ (r : Result Bool SaveFault). IsTurned (takes book book_new) main r main_new) is (ours refl) })
+ended_at {B} {C} M told fault takes peer_takes book book_new peer_book peer_new main main_new peer_main peer_main_new is ours theirs =
+    inr (record { before = peer_book; between = peer_main; last = subst (λ (r : Result Bool SaveFault). IsTurned (peer_takes peer_book peer_new) peer_main r peer_main_new) is (theirs refl) })

@@ -114,8 +114,25 @@ pub record NotesMarks (old new : SeatState) : Type 0 where
   pub are_marks : All IsMark marks
   pub new_is : new ≡ record old { notes = old.notes ++ marks; amount = old.amount + length marks }
 
+-- A turn was made, and this is told of it: whether it saved a fact, or its fault. `takes` says what a turn may make of a seat.
+pub record IsTurned (takes : SeatState → Result Turn SaveFault → SeatState → Type 0) (old : SeatState) (told : Result Bool SaveFault) (new : SeatState) : Type 0 where
+  pub turn : Result Turn SaveFault
+  pub took : takes old turn new
+  pub told_is : told ≡ saved_of turn
+
+-- what is told of the turn that ends others: it saved nothing, or it is the fault
+abbrev pub last_told : Result (Unit {0}) SaveFault → Result Bool SaveFault
+last_told (Ok done) = Ok false
+last_told (Err fault) = Err fault
+
+-- Turns that save into a book ended with one that saved nothing, as where all is saved or the desk is halted, or with this fault.
+pub record EndsTurns {B : Type 0} (takes : B → B → SeatState → Result Turn SaveFault → SeatState → Type 0) (book : B) (end : Result (Unit {0}) SaveFault) (seat : SeatState) : Type 0 where
+  pub before : B
+  pub between : SeatState
+  pub last : IsTurned (takes before book) between (last_told end) seat
+
 -- of what both sides have, that of the other side is as it was
-abbrev pub OtherIs : {X : Type 0} → Side → X → X → X → X → Type 0
+abbrev pub OtherIs : {X Y : Type 0} → Side → X → X → Y → Y → Type 0
 OtherIs I old new peer_old peer_new = peer_new ≡ peer_old
 OtherIs M old new peer_old peer_new = new ≡ old
 
@@ -127,6 +144,13 @@ pub record MarksLast (old new : List SeatState) : Type 0 where
   pub old_is : old ≡ others ++ main ∷ []
   pub new_is : new ≡ others ++ after ∷ []
   pub notes : NotesMarks main after
+
+-- they were made from the last seat
+pub record EndsAtLast {B : Type 0} (takes : B → B → SeatState → Result Turn SaveFault → SeatState → Type 0) (book : B) (end : Result (Unit {0}) SaveFault) (seats : List SeatState) : Type 0 where
+  pub others : List SeatState
+  pub main : SeatState
+  pub seats_are : seats ≡ others ++ main ∷ []
+  pub ends : EndsTurns takes book end main
 
 -- ---- what was let out
 

@@ -30,6 +30,12 @@ IsTurnFault (savings.Store fault) = Unit {0}
 IsTurnFault (savings.Office fault) = Unit {0}
 IsTurnFault (savings.Marked refusal) = Unit {0}
 
+-- A fault of a turn is one that ended the turns of the initiating office, or those of the matching office; memory can run out at any time.
+abbrev pub EndsTurnsOf : (SaveFault → Type 0) → (SaveFault → Type 0) → ServeFault → Type 0
+EndsTurnsOf ours theirs (faults.Turn fault) = ours fault ⊎ theirs fault
+EndsTurnsOf ours theirs faults.OutOfMemory = Unit {0}
+EndsTurnsOf ours theirs _ = ⊥
+
 -- it is cut off before both offices are closed: it is told that memory ran out, or a fault of a turn that saves
 abbrev pub IsCut : Result (Unit {0}) ServeFault → Type 0
 IsCut (Ok done) = ⊥

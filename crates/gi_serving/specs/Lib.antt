@@ -1,6 +1,7 @@
 pub mod Asking
 pub mod Assigning
 pub mod Batches
+pub mod Books
 pub mod Closing
 pub mod Ending
 pub mod FaultText

@@ -105,5 +105,5 @@ pub record AddsFirst (sessions : ℕ) (lines : List Line) (count : ℕ) (old : O
 abbrev pub state_of : {R L S : Type 0} → Running R L S → SideState
 state_of running = record { seats = running.seats.items; sent = running.sent; way = running.way }
 
-abbrev pub offices_of : {R L S P K : Type 0} → Running R L S → Running P K S → OfficesState
+abbrev pub offices_of : {R L S P K T : Type 0} → Running R L S → Running P K T → OfficesState
 offices_of initiating matching = record { initiating = state_of initiating; matching = state_of matching }

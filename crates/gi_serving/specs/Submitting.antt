@@ -73,6 +73,10 @@ abbrev pub short_of : Bool → List ServedState → Bool
 short_of short [] = short
 short_of short (one ∷ others) = short_of (short || is_short one.fault) others
 
+-- each call may be made
+abbrev pub lets_go : ℕ → ℕ → Type 0
+lets_go session call = Unit {0}
+
 -- no gate ends a session before its last call
 abbrev pub goes_on : ℕ → ℕ → Type 0
 goes_on session call = ⊥
@@ -82,7 +86,7 @@ goes_on session call = ⊥
 pub record SessionsSubmit (side : Side) (given : List (List (List ℕ))) (old : List SeatState) (receipts : List (List Receipt)) (new : List SeatState) : Type 0 where
   pub served : List ServedState
   pub new_is : new ≡ map seat_in served
-  pub submitted : AreServed side goes_on 1 (begun_by old given) served
+  pub submitted : AreServed side lets_go goes_on 1 (begun_by old given) served
   pub receipts_are : receipts ≡ map receipts_in served
   pub memory : short_of false served ≡ false
 

@@ -1,12 +1,12 @@
 //! A batch at both offices at once, and the turns that save meanwhile.
 
-ghost use Rattle.std.specs.Prelude.{◌≡◌, ◌≤◌, ◌<◌, ◌+◌, ◌++◌, ◌∷◌, [], Err, IfErr, IfOk, IsOk, Ok, OnOk, length};
+ghost use Rattle.std.specs.Prelude.{◌≡◌, ◌⊎◌, ◌≤◌, ◌<◌, ◌+◌, ◌++◌, ◌∷◌, [], Err, IfErr, IfOk, IsOk, Ok, OnOk, length};
 ghost use Rattle.std.specs.Thread.{IsSync};
 ghost use Rattle.gi_pairs.specs.declared.side.Side.TheVariants.{I, M};
-ghost use Rattle.gi_serving.specs.Asking.{NotesMarks, OtherIs};
+ghost use Rattle.gi_serving.specs.Asking.{EndsTurns, IsTurned, NotesMarks, OtherIs};
 ghost use Rattle.gi_serving.specs.Ending.{AreSamePlaces, IsCut, IsTurnFault, place_of};
 ghost use Rattle.gi_serving.specs.Submitting.{HasMain, SessionsMake, SubmitsBatch};
-ghost use Rattle.gi_serving.specs.declared.serve_fault.ServeFault.TheVariants.{OutOfMemory};
+ghost use Rattle.gi_serving.specs.declared.serve_fault.ServeFault.TheVariants.{OutOfMemory, Turn};
 
 use crate::batch::submitted;
 use crate::paired::both_of;
@@ -43,14 +43,14 @@ fn wakers(alloc: Global) -> Result<(Waker, Waker, Receiver<Side>), AllocError>
     ))
 }
 
-fn turned_at<L: Ledger, K: Ledger, B: Turns, W: Wait>(
+fn turned_at<L: Ledger, K: Ledger, B: Turns, C: Turns, W: Wait>(
     rt: &W,
     side: Side,
     office: &Office<Initiating, L>,
     book: &mut B,
     main: Seat<L>,
     peer: &Office<Matching, K>,
-    peer_book: &mut B,
+    peer_book: &mut C,
     peer_main: Seat<K>,
 ) -> (Seat<L>, Seat<K>, Result<bool, SaveFault>)
     ensures place { place_of result.0 ≡ place_of main }
@@ -60,6 +60,8 @@ fn turned_at<L: Ledger, K: Ledger, B: Turns, W: Wait>(
     ensures other { OtherIs side main result.0 peer_main result.1 }
     ensures books { OtherIs side book.old book.new peer_book.old peer_book.new }
     ensures fault { IfErr result.2 IsTurnFault }
+    ensures turn { side ≡ I → IsTurned (B.takes I book.old book.new) main result.2 result.0 }
+    ensures peer_turn { side ≡ M → IsTurned (C.takes M peer_book.old peer_book.new) peer_main result.2 result.1 }
 {
     match side {
         Side::I => {
@@ -75,14 +77,14 @@ fn turned_at<L: Ledger, K: Ledger, B: Turns, W: Wait>(
 
 /// Ends when nobody is left to send a notice, or at a fault: after that nobody takes notices, so that no
 /// session waits for it.
-fn saved_meanwhile<L: Ledger, K: Ledger, B: Turns, W: Wait>(
+fn saved_meanwhile<L: Ledger, K: Ledger, B: Turns, C: Turns, W: Wait>(
     rt: &W,
     notices: Receiver<Side>,
     office: &Office<Initiating, L>,
     book: &mut B,
     main: Seat<L>,
     peer: &Office<Matching, K>,
-    peer_book: &mut B,
+    peer_book: &mut C,
     peer_main: Seat<K>,
 ) -> (Seat<L>, Seat<K>, Result<(), SaveFault>)
     ensures place { place_of result.0 ≡ place_of main }
@@ -90,6 +92,7 @@ fn saved_meanwhile<L: Ledger, K: Ledger, B: Turns, W: Wait>(
     ensures marks { OnOk result.2 (NotesMarks main result.0) }
     ensures peer_marks { OnOk result.2 (NotesMarks peer_main result.1) }
     ensures fault { IfErr result.2 IsTurnFault }
+    ensures last { IfErr result.2 (λ fault. EndsTurns (B.takes I) book.new (Err fault) result.0 ⊎ EndsTurns (C.takes M) peer_book.new (Err fault) result.1) }
 {
     let mut main = main;
     let mut peer_main = peer_main;
@@ -174,6 +177,7 @@ fn unless_cut<L: Ledger, K: Ledger>(
     ensures saved { OnOk result (IsOk saved) }
     ensures short { IfErr submitted.0 (λ _. result ≡ Err OutOfMemory) }
     ensures peer_short { IfErr submitted.1 (λ _. result ≡ Err OutOfMemory) }
+    ensures turn { IfErr saved (λ fault. IsOk submitted.0 → IsOk submitted.1 → result ≡ Err (Turn fault)) }
     ensures cut { IfErr result (λ fault. IsCut (Err fault)) }
 {
     let (ours, theirs) = submitted;
@@ -193,6 +197,7 @@ fn with_main<L: Ledger>(made: Made<L>, main: Seat<L>) -> Submitted<L>
     Ok((seats, words))
 }
 
+#[tactic(auto, using(crate::proofs::Asked::no_fault))]
 fn whole<L: Ledger, K: Ledger>(
     saved: (Seat<L>, Seat<K>, Result<(), SaveFault>),
     submitted: (Submitted<L>, Submitted<K>),
@@ -201,6 +206,7 @@ fn whole<L: Ledger, K: Ledger>(
     ensures ours { IfOk result (λ both. HasMain submitted.0 saved.0 both.0.0.items both.0.1.items) }
     ensures theirs { IfOk result (λ both. HasMain submitted.1 saved.1 both.1.0.items both.1.1.items) }
     ensures saved { OnOk result (IsOk saved.2) }
+    ensures turn { IfErr saved.2 (λ fault. IsOk submitted.0 → IsOk submitted.1 → result ≡ Err (Turn fault)) }
     ensures cut { IfErr result (λ fault. IsCut (Err fault)) }
 {
     let (main, peer_main, saved) = saved;
@@ -220,6 +226,7 @@ pub(crate) fn at_once<
     L: Ledger + Send + Sync,
     K: Ledger + Send + Sync,
     B: Turns + Send,
+    C: Turns + Send,
     T: Threads + Wait + Sync,
 >(
     rt: &T,
@@ -230,7 +237,7 @@ pub(crate) fn at_once<
     seats: Vec<Seat<L>>,
     bodies: Vec<Body>,
     peer: &Office<Matching, K>,
-    peer_book: &mut B,
+    peer_book: &mut C,
     peer_seats: Vec<Seat<K>>,
     peer_bodies: Vec<Body>,
 ) -> Result<(Made<L>, Made<K>), ServeFault>

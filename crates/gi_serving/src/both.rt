@@ -1,10 +1,10 @@
 //! Both offices under way, and what a line or a batch of a script makes of them.
 
-ghost use Rattle.std.specs.Prelude.{◌≡◌, ◌≤◌, ◌<◌, ◌+◌, IfErr, IfOk, Err, OnOk, false, length, string_bytes};
+ghost use Rattle.std.specs.Prelude.{◌≡◌, ◌⊎◌, ◌≤◌, ◌<◌, ◌+◌, IfErr, IfOk, Err, Ok, OnErr, OnOk, false, length, string_bytes};
 ghost use Rattle.gi_pairs.specs.declared.side.Side.TheVariants.{I, M};
-ghost use Rattle.gi_serving.specs.Asking.{Sends};
+ghost use Rattle.gi_serving.specs.Asking.{EndsAtLast, MarksLast, Sends};
 ghost use Rattle.gi_serving.specs.Closing.{IsClosed};
-ghost use Rattle.gi_serving.specs.Ending.{AreSamePlaces, IsCut};
+ghost use Rattle.gi_serving.specs.Ending.{AreSamePlaces, EndsTurnsOf, IsCut};
 ghost use Rattle.gi_serving.specs.Making.{MakesBatch, MakesLine, SavesAndSends, new_offices, offices_of};
 ghost use Rattle.gi_serving.specs.Runs.{side_in};
 ghost use Rattle.gi_serving.specs.Submitting.{SubmitsBatch};
@@ -32,11 +32,11 @@ use std::sync::ledger::Ledger;
 use std::thread::Threads;
 
 #[derive(Drop)]
-pub(crate) struct Both<L: Ledger, K: Ledger, B: Drop> {
+pub(crate) struct Both<L: Ledger, K: Ledger, B: Drop, C: Drop> {
     pub(crate) alloc: Global,
     pub(crate) sessions: u8,
     pub(crate) initiating: Running<Initiating, L, B>,
-    pub(crate) matching: Running<Matching, K, B>,
+    pub(crate) matching: Running<Matching, K, C>,
     ghost some: { 1 ≤ sessions },
     ghost few: { sessions < 16 },
     ghost ours: { initiating.office.seats ≡ sessions + 1 },
@@ -67,6 +67,7 @@ fn submit_from<
     L: Ledger + Send + Sync,
     K: Ledger + Send + Sync,
     B: Turns + Send,
+    C: Turns + Send,
     T: Threads + Wait + Sync,
 >(
     rt: &T,
@@ -77,7 +78,7 @@ fn submit_from<
     seats: &mut Vec<Seat<L>>,
     bodies: Vec<Body>,
     peer: &Office<Matching, K>,
-    peer_book: &mut B,
+    peer_book: &mut C,
     peer_seats: &mut Vec<Seat<K>>,
     peer_bodies: Vec<Body>,
 ) -> Result<(Vec<Word>, Vec<Word>), ServeFault>
@@ -111,12 +112,12 @@ fn submit_from<
     Ok((words, peer_words))
 }
 
-impl<L: Ledger, K: Ledger, B: Turns + Drop> Both<L, K, B> {
+impl<L: Ledger, K: Ledger, B: Turns + Drop, C: Turns + Drop> Both<L, K, B, C> {
     pub(crate) fn open(
         sessions: u8,
         initiating: Station<Initiating, B>,
-        matching: Station<Matching, B>,
-    ) -> Result<Both<L, K, B>, AllocError>
+        matching: Station<Matching, C>,
+    ) -> Result<Both<L, K, B, C>, AllocError>
         requires some { 1 ≤ sessions }
         requires few { sessions < 16 }
         requires name { initiating.blank.name ≡ L.name }
@@ -124,17 +125,19 @@ impl<L: Ledger, K: Ledger, B: Turns + Drop> Both<L, K, B> {
         requires parts { initiating.blank.parts ≡ 16 }
         requires saved { initiating.desk.saved ≡ length initiating.desk.facts }
         requires runs { initiating.desk.halted ≡ false }
+        requires book { B.holds initiating.book initiating.desk.facts }
         requires peer_name { matching.blank.name ≡ K.name }
         requires peer_whole { matching.blank.parts ≡ K.parts }
         requires peer_parts { matching.blank.parts ≡ 16 }
         requires peer_saved { matching.desk.saved ≡ length matching.desk.facts }
         requires peer_runs { matching.desk.halted ≡ false }
+        requires peer_book { C.holds matching.book matching.desk.facts }
         ensures sessions { IfOk result (λ both. both.sessions ≡ sessions) }
         ensures new { IfOk result (λ both. offices_of both.initiating both.matching ≡ new_offices sessions) }
     {
         let alloc = initiating.alloc;
         let initiating = Running::<Initiating, L, B>::open(initiating, sessions);
-        let matching = Running::<Matching, K, B>::open(matching, sessions);
+        let matching = Running::<Matching, K, C>::open(matching, sessions);
         let (initiating, matching) = both_of(initiating, matching)?;
         Ok(Both {
             alloc,
@@ -170,6 +173,8 @@ impl<L: Ledger, K: Ledger, B: Turns + Drop> Both<L, K, B> {
         ensures sessions { self.new.sessions ≡ self.old.sessions }
         ensures ours { self.new.initiating.seats ≡ self.old.initiating.seats }
         ensures theirs { self.new.matching.seats ≡ self.old.matching.seats }
+        ensures book { self.new.initiating.book ≡ self.old.initiating.book }
+        ensures peer_book { self.new.matching.book ≡ self.old.matching.book }
         ensures orders { OnOk result (Sends self.old.initiating.sent self.old.initiating.seats.items self.new.initiating.sent self.old.matching.way self.new.matching.way) }
         ensures answers { OnOk result (Sends self.old.matching.sent self.old.matching.seats.items self.new.matching.sent self.old.initiating.way self.new.initiating.way) }
     {
@@ -185,6 +190,16 @@ impl<L: Ledger, K: Ledger, B: Turns + Drop> Both<L, K, B> {
         ensures theirs { AreSamePlaces self.old.matching.seats.items self.new.matching.seats.items }
         ensures saves { OnOk result (SavesAndSends (offices_of self.old.initiating self.old.matching) (offices_of self.new.initiating self.new.matching)) }
         ensures cut { IfErr result (λ fault. IsCut (Err fault)) }
+
+        // Each office's turns ended with one that saved nothing; or the fault is of one that ended them.
+        ensures ends { OnOk result (EndsAtLast (B.takes I) self.new.initiating.book (Ok tt) self.new.initiating.seats.items) }
+        ensures peer_ends { OnOk result (EndsAtLast (C.takes M) self.new.matching.book (Ok tt) self.new.matching.seats.items) }
+        ensures fault { IfErr result (EndsTurnsOf
+            (λ why. EndsAtLast (B.takes I) self.new.initiating.book (Err why) self.new.initiating.seats.items)
+            (λ why. EndsAtLast (C.takes M) self.new.matching.book (Err why) self.new.matching.seats.items)) }
+
+        // The turns of the initiating office end, and end well, before those of the matching office begin.
+        ensures first { OnErr result ((self.new.matching ≡ self.old.matching) ⊎ MarksLast self.old.initiating.seats.items self.new.initiating.seats.items) }
     {
         if let Err(fault) = self.initiating.save_all(rt) {
             return Err(ServeFault::Turn(fault));
@@ -213,7 +228,12 @@ impl<L: Ledger, K: Ledger, B: Turns + Drop> Both<L, K, B> {
     }
 }
 
-impl<L: Ledger + Send + Sync, K: Ledger + Send + Sync, B: Turns + Drop + Send> Both<L, K, B> {
+impl<
+    L: Ledger + Send + Sync,
+    K: Ledger + Send + Sync,
+    B: Turns + Drop + Send,
+    C: Turns + Drop + Send,
+> Both<L, K, B, C> {
     fn submit<T: Threads + Wait + Sync>(
         &mut self,
         rt: &T,

@@ -1,6 +1,6 @@
 //! What came of a call at each side, where both may be refused.
 
-ghost use Rattle.std.specs.Prelude.{◌≡◌, IfOk, Ok};
+ghost use Rattle.std.specs.Prelude.{◌≡◌, IfOk, IsOk, Ok};
 
 use std::alloc::AllocError;
 
@@ -11,6 +11,7 @@ pub(crate) fn both_of<A: Drop, B: Drop>(
 ) -> Result<(A, B), AllocError>
     ensures ours { IfOk result (λ both. ours ≡ Ok both.0) }
     ensures theirs { IfOk result (λ both. theirs ≡ Ok both.1) }
+    ensures both { IsOk ours → IsOk theirs → IsOk result }
 {
     let ours = ours?;
     let theirs = theirs?;

@@ -6,7 +6,7 @@ ghost use Rattle.gi_carrier.specs.Carrier.{given};
 ghost use Rattle.gi_carrier.specs.Kept.{bytes_of};
 ghost use Rattle.gi_office.specs.Opening.{new_seats};
 ghost use Rattle.gi_simulation.specs.Simulation.{moved_on, new_link};
-ghost use Rattle.gi_serving.specs.Asking.{Answers, AsksLast, Carries, LetsOut, MakesAt, MakesSeats, MarksLast, NotesMarks, Sends, out_behind, saved_of, way_after};
+ghost use Rattle.gi_serving.specs.Asking.{Answers, AsksLast, Carries, EndsAtLast, EndsTurns, LetsOut, MakesAt, MakesSeats, MarksLast, NotesMarks, Sends, out_behind, way_after};
 ghost use Rattle.gi_serving.specs.Ending.{AreSamePlaces, IsTurnFault, place_of};
 ghost use Rattle.gi_serving.specs.Making.{state_of};
 ghost use Rattle.gi_serving.specs.Runs.{is_made, is_told, side_in};
@@ -79,7 +79,7 @@ fn word_of(answer: Option<Result<Receipt, OfficeFault>>) -> Result<Option<Word>,
     }
 }
 
-/// `Ok` only where there is nothing to save or the desk is halted; the contract does not say so.
+/// Turns, until one saves nothing, as where all is saved or the desk is halted, or answers a fault.
 fn saved_all<R: Role, L: Ledger, B: Turns, W: Wait>(
     rt: &W,
     office: &Office<R, L>,
@@ -89,6 +89,7 @@ fn saved_all<R: Role, L: Ledger, B: Turns, W: Wait>(
     ensures place { place_of result.0 ≡ place_of seat }
     ensures marks { OnOk result.1 (NotesMarks seat result.0) }
     ensures fault { IfErr result.1 IsTurnFault }
+    ensures last { EndsTurns (B.takes R.SIDE) book.new result.1 result.0 }
 {
     let mut main = seat;
     for _ in rt.forever() {
@@ -174,6 +175,7 @@ impl<R: Role, L: Ledger, B: Turns + Drop> Running<R, L, B> {
         requires few { sessions < 16 }
         requires saved { station.desk.saved ≡ length station.desk.facts }
         requires runs { station.desk.halted ≡ false }
+        requires book { B.holds station.book station.desk.facts }
         ensures office { IfOk result (λ running. running.office.seats ≡ sessions + 1) }
         ensures seats { IfOk result (λ running. running.seats.items ≡ new_seats (sessions + 1)) }
         ensures sent { IfOk result (λ running. running.sent ≡ 0) }
@@ -311,6 +313,7 @@ impl<R: Role, L: Ledger, B: Turns + Drop> Running<R, L, B> {
         ensures way { self.new.way ≡ self.old.way }
         ensures marks { OnOk result (MarksLast self.old.seats.items self.new.seats.items) }
         ensures fault { IfErr result IsTurnFault }
+        ensures last { EndsAtLast (B.takes R.SIDE) self.new.book result self.new.seats.items }
     {
         let main = self.seats.pop().unwrap();
         let (main, saved) = saved_all(rt, &self.office, &mut self.book, main);
@@ -321,6 +324,7 @@ impl<R: Role, L: Ledger, B: Turns + Drop> Running<R, L, B> {
     fn let_out(&mut self) -> Result<Vec<Packet>, AllocError>
         requires { 0 < length self.old.seats.items }
         ensures office { self.new.office ≡ self.old.office }
+        ensures book { self.new.book ≡ self.old.book }
         ensures seats { self.new.seats ≡ self.old.seats }
         ensures way { self.new.way ≡ self.old.way }
         ensures out { IfOk result (λ packets. LetsOut self.old.sent self.old.seats.items packets.items self.new.sent) }
@@ -335,6 +339,7 @@ impl<R: Role, L: Ledger, B: Turns + Drop> Running<R, L, B> {
     pub(crate) fn send(&mut self, way: &mut Link) -> Result<(), AllocError>
         requires { 0 < length self.old.seats.items }
         ensures office { self.new.office ≡ self.old.office }
+        ensures book { self.new.book ≡ self.old.book }
         ensures seats { self.new.seats ≡ self.old.seats }
         ensures way { self.new.way ≡ self.old.way }
         ensures sent { OnOk result (Sends self.old.sent self.old.seats.items self.new.sent way.old way.new) }

@@ -1,6 +1,9 @@
 //! A script, served by both offices.
 
 ghost use Rattle.std.specs.Prelude.{◌≡◌, ◌≤◌, ◌<◌, ◌+◌, Err, IfErr, IfOk, OnErr, OnOk, [], false, is_none, length, max, string_bytes};
+ghost use Rattle.sqlite.specs.Held.{state};
+ghost use Rattle.gi_store.specs.Book.{IsRead, counted};
+ghost use Rattle.gi_store.specs.Clean.{IsClean};
 ghost use Rattle.gi_serving.specs.Batches.{submission as submission_in};
 ghost use Rattle.gi_serving.specs.Ending.{AreSamePlaces, Closes, IsCut, IsOver, IsTold};
 ghost use Rattle.gi_serving.specs.Making.{AddsFirst, MakesFirst, Runs, RunsSome, new_offices, offices_of};
@@ -55,8 +58,9 @@ fn made<
     L: Ledger + Send + Sync,
     K: Ledger + Send + Sync,
     B: Turns + Drop + Send,
+    C: Turns + Drop + Send,
     T: Threads + Wait + Sync,
->(rt: &T, both: &mut Both<L, K, B>, lines: &[Line], batch: usize) -> Result<String, ServeFault>
+>(rt: &T, both: &mut Both<L, K, B, C>, lines: &[Line], batch: usize) -> Result<String, ServeFault>
     requires some { 0 < length lines.now }
     requires batch { batch ≡ lead lines.now }
     requires within { batch ≤ length lines.now }
@@ -81,8 +85,9 @@ fn made_and_saved<
     L: Ledger + Send + Sync,
     K: Ledger + Send + Sync,
     B: Turns + Drop + Send,
+    C: Turns + Drop + Send,
     T: Threads + Wait + Sync,
->(rt: &T, both: &mut Both<L, K, B>, lines: &[Line], batch: usize) -> Result<String, ServeFault>
+>(rt: &T, both: &mut Both<L, K, B, C>, lines: &[Line], batch: usize) -> Result<String, ServeFault>
     requires some { 0 < length lines.now }
     requires batch { batch ≡ lead lines.now }
     requires within { batch ≤ length lines.now }
@@ -109,10 +114,11 @@ fn step<
     L: Ledger + Send + Sync,
     K: Ledger + Send + Sync,
     B: Turns + Drop + Send,
+    C: Turns + Drop + Send,
     T: Threads + Wait + Sync,
 >(
     rt: &T,
-    both: &mut Both<L, K, B>,
+    both: &mut Both<L, K, B, C>,
     lines: &[Line],
     batch: usize,
     text: &mut String,
@@ -144,17 +150,19 @@ fn run<
     L: Ledger + Send + Sync,
     K: Ledger + Send + Sync,
     B: Turns + Drop + Send,
+    C: Turns + Drop + Send,
     T: Threads + Wait + Sync,
     V: Watch,
 >(
     rt: &T,
-    both: &mut Both<L, K, B>,
+    both: &mut Both<L, K, B, C>,
     lines: &[Line],
     text: &mut String,
     watch: &mut V,
 ) -> Result<(), ServeFault>
     requires none { string_bytes text.old ≡ [] }
     requires begun { V.told watch.old ≡ 0 }
+    requires counted { V.whole watch.old ≡ length lines.now }
     requires ours { length both.old.initiating.seats.items ≡ both.old.sessions + 1 }
     requires theirs { length both.old.matching.seats.items ≡ both.old.sessions + 1 }
     ensures sessions { both.new.sessions ≡ both.old.sessions }
@@ -165,6 +173,8 @@ fn run<
         (offices_of both.old.initiating both.old.matching) (string_bytes text.new) (offices_of both.new.initiating both.new.matching)) }
     ensures cut { IfErr result (λ fault. IsCut (Err fault)) }
     ensures left { IfErr result (λ fault. V.told watch.new < length lines.now) }
+    ensures over { OnOk result (V.told watch.new ≡ length lines.now) }
+    ensures counted { V.whole watch.new ≡ length lines.now }
 {
     let mut at = 0;
     while at < lines.len() {
@@ -189,8 +199,8 @@ fn told(text: &mut String, closed: Closed) -> Result<(), ServeFault>
     }
 }
 
-fn closed<L: Ledger, K: Ledger, B: Turns + Drop>(
-    both: Both<L, K, B>,
+fn closed<L: Ledger, K: Ledger, B: Turns + Drop, C: Turns + Drop>(
+    both: Both<L, K, B, C>,
     text: &mut String,
 ) -> Result<(), ServeFault>
     ensures { Closes L.parts K.parts both.sessions (offices_of both.initiating both.matching) (string_bytes text.old) (string_bytes text.new) result }
@@ -205,22 +215,26 @@ fn end_of<
     L: Ledger + Send + Sync,
     K: Ledger + Send + Sync,
     B: Turns + Drop + Send,
+    C: Turns + Drop + Send,
     T: Threads + Wait + Sync,
     V: Watch,
 >(
     rt: &T,
-    both: Both<L, K, B>,
+    both: Both<L, K, B, C>,
     lines: &[Line],
     text: &mut String,
     watch: &mut V,
 ) -> Result<(), ServeFault>
     requires none { string_bytes text.old ≡ [] }
     requires begun { V.told watch.old ≡ 0 }
+    requires counted { V.whole watch.old ≡ length lines.now }
     requires parts { L.parts ≡ 16 }
     requires peer_parts { K.parts ≡ 16 }
     requires new { offices_of both.initiating both.matching ≡ new_offices both.sessions }
     ensures over { IsOver both.sessions lines.now (string_bytes text.new) result }
     ensures told { IsCut result → RunsSome both.sessions lines.now (V.told watch.new) (new_offices both.sessions) (string_bytes text.new) }
+    ensures all { ¬ IsCut result → V.told watch.new ≡ length lines.now }
+    ensures counted { V.whole watch.new ≡ length lines.now }
 {
     let mut both = both;
     match run(rt, &mut both, lines, text, watch) {
@@ -233,25 +247,28 @@ fn end_of<
     }
 }
 
-/// Over two ledgers, so that here and below a seat of one office is of another type than the other's.
+/// Over two ledgers and two types of book, so that here and below a seat or a book of one office is of
+/// another type than the other's.
 #[tactic(auto, using(crate::proofs::Walking::none_made))]
 fn serve_by<
     L: Ledger + Send + Sync,
     K: Ledger + Send + Sync,
     B: Turns + Drop + Send,
+    C: Turns + Drop + Send,
     T: Threads + Wait + Sync,
     V: Watch,
 >(
     rt: &T,
     sessions: u8,
     initiating: Station<Initiating, B>,
-    matching: Station<Matching, B>,
+    matching: Station<Matching, C>,
     lines: &[Line],
     text: &mut String,
     watch: &mut V,
 ) -> Result<(), ServeFault>
     requires none { string_bytes text.old ≡ [] }
     requires begun { V.told watch.old ≡ 0 }
+    requires counted { V.whole watch.old ≡ length lines.now }
     requires some { 1 ≤ sessions }
     requires few { sessions < 16 }
     requires name { initiating.blank.name ≡ L.name }
@@ -259,25 +276,30 @@ fn serve_by<
     requires parts { initiating.blank.parts ≡ 16 }
     requires saved { initiating.desk.saved ≡ length initiating.desk.facts }
     requires runs { initiating.desk.halted ≡ false }
+    requires book { B.holds initiating.book initiating.desk.facts }
     requires peer_name { matching.blank.name ≡ K.name }
     requires peer_whole { matching.blank.parts ≡ K.parts }
     requires peer_parts { matching.blank.parts ≡ 16 }
     requires peer_saved { matching.desk.saved ≡ length matching.desk.facts }
     requires peer_runs { matching.desk.halted ≡ false }
+    requires peer_book { C.holds matching.book matching.desk.facts }
     ensures over { IsOver sessions lines.now (string_bytes text.new) result }
     ensures told { IsCut result → RunsSome sessions lines.now (V.told watch.new) (new_offices sessions) (string_bytes text.new) }
+    ensures all { ¬ IsCut result → V.told watch.new ≡ length lines.now }
+    ensures counted { V.whole watch.new ≡ length lines.now }
 {
-    match Both::<L, K, B>::open(sessions, initiating, matching) {
+    match Both::<L, K, B, C>::open(sessions, initiating, matching) {
         Ok(both) => end_of(rt, both, lines, text, watch),
         Err(_) => Err(ServeFault::OutOfMemory),
     }
 }
 
-/// Serves a script by both offices, each with so many sessions, from 1 to 15, from desks that are not
-/// halted and whose facts are all saved, and their books, which are loaded. The text has a line of each
+/// Serves a script by both offices, each with so many sessions, from 1 to 15, from desks of its point that
+/// are not halted and whose facts are all saved, and their books, which are loaded and have these facts. The text has a line of each
 /// step, and then the last lines of both offices, handed all their seats. Where memory runs out, or a turn
 /// that saves answers a fault, that is the end, and the text has the lines of what was done before. The
-/// watch is told after each batch and each other line how many lines are made and told of.
+/// watch is told after each batch and each other line how many lines are made and told of, of how many:
+/// of a run that was not cut off, all.
 pub fn serve<S: Alter + Drop + Send, T: Threads + Wait + Sync, V: Watch>(
     rt: &T,
     alloc: Global,
@@ -289,12 +311,20 @@ pub fn serve<S: Alter + Drop + Send, T: Threads + Wait + Sync, V: Watch>(
 ) -> Served
     requires some { 1 ≤ sessions }
     requires few { sessions < 16 }
+    requires point { initiating.0.point ≡ script.now.point }
     requires saved { initiating.0.saved ≡ length initiating.0.facts }
     requires runs { initiating.0.halted ≡ false }
+    requires loaded { initiating.1.loaded ≡ counted (length initiating.0.facts) }
+    requires facts { IsClean S.Store initiating.1.connection → IsRead (state S.Store initiating.1.connection) initiating.0.facts }
+    requires peer_point { matching.0.point ≡ script.now.point }
     requires peer_saved { matching.0.saved ≡ length matching.0.facts }
     requires peer_runs { matching.0.halted ≡ false }
+    requires peer_loaded { matching.1.loaded ≡ counted (length matching.0.facts) }
+    requires peer_facts { IsClean S.Store matching.1.connection → IsRead (state S.Store matching.1.connection) matching.0.facts }
     ensures over { IsOver sessions script.now.lines (string_bytes result.text) result.end }
     ensures told { IsCut result.end → RunsSome sessions script.now.lines (V.told watch.new) (new_offices sessions) (string_bytes result.text) }
+    ensures all { ¬ IsCut result.end → V.told watch.new ≡ length script.now.lines }
+    ensures counted { V.whole watch.new ≡ length script.now.lines }
 {
     let lines = script.lines();
     watch.made(0, lines.len());
@@ -313,7 +343,7 @@ pub fn serve<S: Alter + Drop + Send, T: Threads + Wait + Sync, V: Watch>(
         book,
     };
     let mut text = String::new(alloc);
-    let end = serve_by::<Brand, Brand, BookStore<S>, T, V>(
+    let end = serve_by::<Brand, Brand, BookStore<S>, BookStore<S>, T, V>(
         rt, sessions, initiating, matching, lines, &mut text, watch,
     );
     watch.ended();

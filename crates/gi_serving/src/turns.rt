@@ -11,11 +11,23 @@ use sqlite::Alter;
 use std::sync::Wait;
 use std::sync::ledger::Ledger;
 
-/// A book, of which nothing else is known here: no contract of this crate says what is in it.
+/// A book, of which no contract of this crate says what is in it, but with which facts it was loaded.
+/// The books of both offices are of two types here, so that none stands in the other's place.
 pub(crate) trait Turns {
-    ghost use Rattle.std.specs.Prelude.{◌≡◌, IfErr, OnOk};
-    ghost use Rattle.gi_serving.specs.Asking.{NotesMarks};
+    ghost use Rattle.std.specs.Prelude.{◌≡◌, IfErr, List, OnOk, Result};
+    ghost use Rattle.gi_facts.specs.declared.fact.Fact.{Fact};
+    ghost use Rattle.gi_office.specs.Keeping.{SeatState};
+    ghost use Rattle.gi_office.specs.declared.save_fault.SaveFault.{SaveFault};
+    ghost use Rattle.gi_office.specs.declared.turn.Turn.{Turn};
+    ghost use Rattle.gi_pairs.specs.declared.side.Side.{Side};
+    ghost use Rattle.gi_serving.specs.Asking.{IsTurned, NotesMarks};
     ghost use Rattle.gi_serving.specs.Ending.{IsTurnFault, place_of};
+
+    /// It is loaded, and these are its facts.
+    ghost holds: { Self → List Fact → Type 0 };
+
+    /// What a turn at a side makes of the book and of a seat, and comes to.
+    ghost takes: { Side → Self → Self → SeatState → Result Turn SaveFault → SeatState → Type 0 };
 
     /// A turn of the office that saves into this book, and whether it saved a fact.
     fn turned<R: Role, L: Ledger, W: Wait>(
@@ -26,7 +38,8 @@ pub(crate) trait Turns {
     ) -> (Seat<L>, Result<bool, SaveFault>)
         ensures place { place_of result.0 ≡ place_of seat }
         ensures marks { OnOk result.1 (NotesMarks seat result.0) }
-        ensures fault { IfErr result.1 IsTurnFault };
+        ensures fault { IfErr result.1 IsTurnFault }
+        ensures turn { IsTurned (takes R.SIDE self.old self.new) seat result.1 result.0 };
 }
 
 fn saved(turn: Result<Turn, SaveFault>) -> Result<bool, SaveFault>
@@ -45,6 +58,13 @@ fn saved(turn: Result<Turn, SaveFault>) -> Result<bool, SaveFault>
 }
 
 impl<S: Alter> Turns for BookStore<S> {
+    ghost use Rattle.gi_office.specs.Saving.{TakesTurn};
+    ghost use Rattle.gi_serving.specs.Books.{HasFacts};
+
+    ghost holds = { λ book facts. HasFacts S.Store book facts };
+
+    ghost takes = { λ side old new. TakesTurn side S.Store old new };
+
     fn turned<R: Role, L: Ledger, W: Wait>(
         &mut self,
         rt: &W,

@@ -5,11 +5,16 @@ pub trait Watch {
     /// How many lines it was last told are made.
     ghost told: { Self → ℕ };
 
+    /// How many lines it was last told the script has.
+    ghost whole: { Self → ℕ };
+
     /// So many of all lines of the script are made.
     fn made(&mut self, lines: usize, all: usize)
-        ensures { told self.new ≡ lines };
+        ensures lines { told self.new ≡ lines }
+        ensures all { whole self.new ≡ all };
 
     /// The run is over, or was cut off.
     fn ended(&mut self)
-        ensures { told self.new ≡ told self.old };
+        ensures lines { told self.new ≡ told self.old }
+        ensures all { whole self.new ≡ whole self.old };
 }

@@ -1,6 +1,8 @@
-ghost use Rattle.std.specs.Prelude.{◌≡◌, IfOk, OnErr, OnOk, length, option_map, string_bytes};
+ghost use Rattle.std.specs.Prelude.{◌≡◌, ◌<◌, IfOk, OnErr, OnOk, length, option_map, string_bytes, true};
 ghost use Rattle.gi_carrier.specs.Carrier.{IsPlan, given};
 ghost use Rattle.gi_carrier.specs.Kept.{bytes_of};
+ghost use Rattle.gi_carrier.specs.Limits.{most_waiting};
+ghost use Rattle.gi_desk.specs.Machine.{is_for_peer};
 ghost use Rattle.gi_simulation.specs.OnItsWay.{WaitedOrCame};
 ghost use Rattle.gi_simulation.specs.Simulation.{LinkState, moved_on, new_link, with_message, with_packet, with_packets};
 ghost use Rattle.gi_simulation.specs.Trace.{carried_line as carried_line_of, packet_lines as packet_lines_of};
@@ -70,6 +72,7 @@ impl Link {
     fn send(&mut self, message: Vec<u8>) -> Result<(), AllocError>
         ensures kept { OnErr result (self.new ≡ self.old) }
         ensures sent { OnOk result (self.new ≡ with_message self.old message.items) }
+        ensures room { OnErr result (length self.old.carrier.waiting < most_waiting) }
     {
         match self.carrier.send(message) {
             Err((_, SendFault::OutOfMemory)) => Err(AllocError),
@@ -80,6 +83,8 @@ impl Link {
     fn send_packet(&mut self, packet: Packet) -> Result<(), AllocError>
         ensures kept { OnErr result (self.new ≡ self.old) }
         ensures sent { OnOk result (self.new ≡ with_packet self.old packet) }
+        ensures room { OnErr result (length self.old.carrier.waiting < most_waiting) }
+        ensures for_peer { OnErr result (is_for_peer packet ≡ true) }
     {
         match packet.to {
             Recipient::Peer => self.send(packet.body.into_vec()),
@@ -88,9 +93,10 @@ impl Link {
     }
 
     /// Sends those of the packets that are for the peer; one that finds the carrier full is lost. Where memory
-    /// runs out, some are sent.
+    /// runs out, some are sent; it never does where the carrier was full.
     pub fn send_packets(&mut self, packets: Vec<Packet>) -> Result<(), AllocError>
         ensures sent { OnOk result (self.new ≡ with_packets self.old packets.items) }
+        ensures room { OnErr result (length self.old.carrier.waiting < most_waiting) }
         ensures came { WaitedOrCame self.old packets.items self.new }
     {
         for packet in packets {

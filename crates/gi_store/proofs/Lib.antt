@@ -4,6 +4,7 @@ pub mod Failures
 pub mod Meanings
 pub mod FirstBook
 pub mod Readings
+pub mod Causes
 pub mod Walk
 pub mod Numbering
 pub mod Fronts

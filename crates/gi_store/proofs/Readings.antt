@@ -60,15 +60,15 @@ version_rows old new tree names rows asked h =
     let shown : rows ≡ map (λ (o : Output). o.1) a.ordered = a.shown ∙ whole _ in
     subst (λ l. IsPermutation (map both_columns (old.now.trees tree)) l) (sym shown) (subst (λ l. IsPermutation l (map (λ (o : Output). o.1) a.ordered)) kept same)
 
-version_place : (s : State) → HasTables s.now.schema → MayAsk s.now.schema read_version (version_query (book_tree s.now.schema)) (codes "id" ∷ codes "version" ∷ [])
+pub version_place : (s : State) → HasTables s.now.schema → MayAsk s.now.schema read_version (version_query (book_tree s.now.schema)) (codes "id" ∷ codes "version" ∷ [])
 version_place s has = version_asked s.now.schema (book_tree s.now.schema) (is_at s.now.schema (codes "book") (book_table (book_tree s.now.schema)) has.book)
 
-facts_place : (s : State) → HasTables s.now.schema → MayAsk s.now.schema read_facts (facts_query (facts_tree s.now.schema)) (codes "n" ∷ codes "body" ∷ [])
+pub facts_place : (s : State) → HasTables s.now.schema → MayAsk s.now.schema read_facts (facts_query (facts_tree s.now.schema)) (codes "n" ∷ codes "body" ∷ [])
 facts_place s has = facts_asked s.now.schema (facts_tree s.now.schema) (is_at s.now.schema (codes "facts") (facts_table (facts_tree s.now.schema)) has.facts)
 
 reads_version : (old new : State) (rows : List Row) → HasTables old.now.schema → Shown read_version [] old new rows → IsPermutation (versions_in old.now) rows
 reads_version old new rows has h = elim (version_place old has) [
-  | inl refused ↦ absurd (not_shown read_version old new rows refused h)
+  | inl refused ↦ absurd (not_shown read_version old new rows refused.0 h)
   | inr asked ↦ version_rows old new (book_tree old.now.schema) _ rows asked h
 ]
 
@@ -124,17 +124,17 @@ fact_list old new tree names rows asked h =
 
 reads_facts : (old new : State) (rows : List Row) → HasTables old.now.schema → Shown read_facts [] old new rows → ArePutInOrder (facts_in old.now) rows
 reads_facts old new rows has h = elim (facts_place old has) [
-  | inl refused ↦ absurd (not_shown read_facts old new rows refused h)
+  | inl refused ↦ absurd (not_shown read_facts old new rows refused.0 h)
   | inr asked ↦ fact_list old new (facts_tree old.now.schema) _ rows asked h
 ]
 
 -- ---- the answers
 
 pub plain_version : (s : State) → HasTables s.now.schema → MayRun s.now.schema read_version
-plain_version s has = elim (version_place s has) [ inl refused ↦ inl refused | inr asked ↦ inr asked.plain ]
+plain_version s has = elim (version_place s has) [ inl refused ↦ inl refused.0 | inr asked ↦ inr asked.plain ]
 
 pub plain_facts : (s : State) → HasTables s.now.schema → MayRun s.now.schema read_facts
-plain_facts s has = elim (facts_place s has) [ inl refused ↦ inl refused | inr asked ↦ inr asked.plain ]
+plain_facts s has = elim (facts_place s has) [ inl refused ↦ inl refused.0 | inr asked ↦ inr asked.plain ]
 
 pub version_answer : (old new : State) {X : Type 0} (items : X → List Row) (r : Result X Error) → HasTables old.now.schema → IfOk r (λ x. Shown read_version [] old new (items x)) → IfOk r (λ x. IsPermutation (versions_in new.now) (items x))
 version_answer old new items (Ok x) has h =

@@ -1,5 +1,5 @@
 -- What the SQL texts of the book are, as they are understood, whatever other tables are listed.
-use Rattle.std.proofs.Common.{◌≡◌, ◌⊎◌, inl, inr, ℕ, ◌+◌, pos, negsuc, List, [], ◌∷◌, codes, slice_range, slice_get, length, ◌==◌, Ok, Err, Option, None, Some, true, false, refl, ap, ◌∙◌}
+use Rattle.std.proofs.Common.{◌≡◌, ◌⊎◌, inl, inr, lit≤, ℕ, ◌≤◌, Result, ◌+◌, pos, negsuc, List, [], ◌∷◌, codes, slice_range, slice_get, length, ◌==◌, Ok, Err, Option, None, Some, true, false, refl, ap, ◌∙◌}
 use Rattle.std.proofs.lemmas.Bool.{cases_Bool}
 use Rattle.sqlite_value.specs.declared.value.Value.TheVariants.{Null, Int}
 use Rattle.sqlite_value.specs.declared.keys.Collation.{Collation}
@@ -20,6 +20,8 @@ use Rattle.sqlite_draft.specs.declared.join.Step.TheVariants.{Inner}
 use Rattle.sqlite_draft.specs.Join.{chain}
 use Rattle.sqlite_draft.specs.Query.{query_of}
 use Rattle.sqlite_typing.specs.Types.{accepts_program}
+use Rattle.sqlite_resolve.specs.declared.compiled.Compiled.{Compiled}
+use Rattle.sqlite_resolve.specs.declared.error.CompileError.{CompileError}
 use Rattle.sqlite_resolve.specs.declared.error.CompileError.TheVariants.{Mismatch}
 use Rattle.sqlite_resolve.specs.Compile.{first, small, planned, meaning, command, returning, shows, timed, insert_or_abort, insert, new_rows, compiled, with_command, read, create_table, creates, is_attached, is_reserved, table_defined_by, table_in}
 use Rattle.sqlite_resolve.specs.Define as define
@@ -179,14 +181,16 @@ record Asks (text name : List ℕ) : Type 0 where
   no_offset : (ast.out-Select select).offset ≡ None
   one : (core.out-Core (ast.out-Select select).first).from ≡ from ∷ []
   table : (source.out-Source from).origin ≡ origin.Table name
+  whole : length text ≤ parsed.tail
+  given : length parsed.names ≡ 0
 
 unfoldable asks_version : Asks read_version (codes "book")
 unfolding everything
-asks_version = record { parsed = _; select = _; from = _; reads = refl; is = refl; untimed = refl; no_with = refl; no_others = refl; no_limit = refl; no_offset = refl; one = refl; table = refl }
+asks_version = record { parsed = _; select = _; from = _; reads = refl; is = refl; untimed = refl; no_with = refl; no_others = refl; no_limit = refl; no_offset = refl; one = refl; table = refl; whole = lit≤ tt; given = refl }
 
 unfoldable asks_facts : Asks read_facts (codes "facts")
 unfolding everything
-asks_facts = record { parsed = _; select = _; from = _; reads = refl; is = refl; untimed = refl; no_with = refl; no_others = refl; no_limit = refl; no_offset = refl; one = refl; table = refl }
+asks_facts = record { parsed = _; select = _; from = _; reads = refl; is = refl; untimed = refl; no_with = refl; no_others = refl; no_limit = refl; no_offset = refl; one = refl; table = refl; whole = lit≤ tt; given = refl }
 
 version_named : (schema : Schema) (at tree : ℕ) → table_named schema (codes "book") ≡ Some at → slice_get schema.tables at ≡ Some (book_table tree)
     → select.named schema (ast.out-Select asks_version.select).first (ast.out-Select asks_version.select).order page ≡ Ok (version_draft tree, codes "id" ∷ codes "version" ∷ [], None ∷ Some Binary ∷ [])
@@ -218,18 +222,26 @@ refused_by : (schema : Schema) (text : List ℕ) (p : Parsed) (s : ast.Select) (
 unfolding compiled planned meaning command returning timed read
 refused_by schema text p s d names how a b c e f = rw (a, b, c, e, f)
 
+-- the text is one statement, which takes no parameter
+abbrev pub IsWhole : List ℕ → Result Compiled CompileError → Type 0
+IsWhole text (Ok c) = (length text ≤ c.tail) × (length c.names ≡ 0)
+IsWhole text (Err e) = ⊥
+
 -- The text asks this, and else it is refused, as where another table has the same tree.
 pub record IsQuery (schema : Schema) (text : List ℕ) (q : Query) (names : List (List ℕ)) : Type 0 where
   pub command : command_of (understood schema text) ≡ Select (record { lets = []; body = q }) names
   pub unlisted : reads_listing schema text ≡ false
   pub plain : IsPlain (understood schema text)
+  pub whole : IsWhole text (understood schema text)
+  pub typed : accepts_program schema [] q [] ≡ true
 
 abbrev pub MayAsk : Schema → List ℕ → Query → List (List ℕ) → Type 0
-MayAsk schema text q names = (understood schema text ≡ Err Mismatch) ⊎ IsQuery schema text q names
+MayAsk schema text q names = ((understood schema text ≡ Err Mismatch) × (accepts_program schema [] q [] ≡ false)) ⊎ IsQuery schema text q names
 
-is_query : (schema : Schema) (text : List ℕ) (q : Query) (names : List (List ℕ)) (p : Parsed) → compiled schema text ≡ Ok (with_command p ([], (Select (record { lets = []; body = q }) names, None))) → IsQuery schema text q names
+is_query : (schema : Schema) (text : List ℕ) (q : Query) (names : List (List ℕ)) (p : Parsed) → compiled schema text ≡ Ok (with_command p ([], (Select (record { lets = []; body = q }) names, None)))
+    → (length text ≤ p.tail) × (length p.names ≡ 0) → accepts_program schema [] q [] ≡ true → IsQuery schema text q names
 unfolding understood
-is_query schema text q names p is = record { command = rw is; unlisted = rw is; plain = rw is (refl, refl) }
+is_query schema text q names p is whole typed = record { command = rw is; unlisted = rw is; plain = rw is (refl, refl); whole = rw is whole; typed = typed }
 
 is_refused : (schema : Schema) (text : List ℕ) → compiled schema text ≡ Err Mismatch → understood schema text ≡ Err Mismatch
 unfolding understood
@@ -241,8 +253,8 @@ unfolding program
 asks schema text name k d names how is =
     let queried = queried_by schema k.select k.from name d names how k.no_with k.no_others k.no_limit k.no_offset k.one k.table is in
     elim (cases_Bool (accepts_program schema [] (query_of d) [])) [
-      | inl typed ↦ inr (is_query schema text (query_of d) names k.parsed (reads_by schema text k.parsed k.select d names how _ k.reads k.is k.untimed queried (rw typed)))
-      | inr mistyped ↦ inl (is_refused schema text (refused_by schema text k.parsed k.select d names how k.reads k.is k.untimed queried (rw mistyped)))
+      | inl typed ↦ inr (is_query schema text (query_of d) names k.parsed (reads_by schema text k.parsed k.select d names how _ k.reads k.is k.untimed queried (rw typed)) (k.whole, k.given) typed)
+      | inr mistyped ↦ inl (is_refused schema text (refused_by schema text k.parsed k.select d names how k.reads k.is k.untimed queried (rw mistyped)), mistyped)
     ]
 
 pub version_asked : (schema : Schema) (tree : ℕ) → IsAt schema (codes "book") (book_table tree) → MayAsk schema read_version (version_query tree) (codes "id" ∷ codes "version" ∷ [])

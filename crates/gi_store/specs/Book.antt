@@ -18,6 +18,7 @@ use Rattle.gi_store.specs.Rows.{fact_rows, facts_in, row_of}
 use Rattle.gi_store.specs.Order.{ArePutInOrder}
 use Rattle.gi_store.specs.Facts.{AreFacts, StopsIn}
 use Rattle.gi_store.specs.Batches.{is_batch}
+use Rattle.gi_store.specs.Failing.{FailsToRead}
 use Rattle.gi_store.specs.Keeping.{IsFirstBook, IsIdle}
 
 -- the connection, and how many facts are known since the last `load`
@@ -63,7 +64,7 @@ pub record Stops (s : State) (fault : StoreFault) : Type 0 where
   pub order : ArePutInOrder (facts_in s.now) ordered
   pub stops : StopsIn ordered fault
 
--- why a book is not loaded; the failures of the database and want of memory have no cause here
+-- why a book is not loaded; want of memory has no cause, and that of the database is told by `IsLoadCaused`
 abbrev pub IsLoadFault : State → StoreFault → Type 0
 IsLoadFault s Version = ¬ IsFirstBook s.now
 IsLoadFault s (Gap n) = Stops s (Gap n)
@@ -71,6 +72,11 @@ IsLoadFault s (Damaged n) = Stops s (Damaged n)
 IsLoadFault s Store = ⊤
 IsLoadFault s OutOfMemory = ⊤
 IsLoadFault s _ = ⊥
+
+-- Why a load tells that the database failed: it did, or a row has no whole number, which no table's row lacks.
+abbrev pub IsLoadCaused : State → State → StoreFault → Type 0
+IsLoadCaused old new Store = FailsToRead old new ⊎ Stops old Store
+IsLoadCaused old new _ = ⊤
 
 -- ---- save_next
 

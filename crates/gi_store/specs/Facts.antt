@@ -1,5 +1,5 @@
 -- The facts that rows are, and where rows stop to be facts.
-use Rattle.std.specs.Prelude.{◌≡◌, ◌⊎◌, ℕ, ◌+◌, ℤ, pos, ◌<ℤ◌, List, [], ◌∷◌, ◌++◌, length, ⊤, Some, IsPermutation}
+use Rattle.std.specs.Prelude.{◌≡◌, ◌⊎◌, ℕ, ◌+◌, ◌≤◌, ℤ, pos, ◌<ℤ◌, List, [], ◌∷◌, ◌++◌, length, ⊤, Some, IsPermutation}
 use Rattle.sqlite_value.specs.declared.value.Value.TheVariants.{Int, Text as Words}
 use Rattle.sqlite_value.specs.Order.{Row, column}
 use Rattle.gi_facts.specs.declared.fact.Fact.{Fact}
@@ -37,15 +37,15 @@ IsDamaged n row m = (column row 0 ≡ Int m) × ((m <ℤ pos n) ⊎ ((m ≡ pos 
 -- what the body of the row with this number is refused for
 abbrev pub IsBodyFault : Row → ℤ → StoreFault → Type 0
 IsBodyFault row number (Damaged m) = (m ≡ number) × ((facts : List Fact) → ¬ HasBody row facts)
-IsBodyFault row number Store = ⊤
+IsBodyFault row number Store = length row ≤ 1
 IsBodyFault row number OutOfMemory = ⊤
 IsBodyFault row number _ = ⊥
 
--- what a row is refused for, where n comes next
+-- what a row is refused for, where n comes next: `Store` where it has no whole number or no body, which no row of the table lacks
 abbrev pub IsRowFault : ℕ → Row → StoreFault → Type 0
 IsRowFault n row (Gap m) = (m ≡ n) × IsAbove n row
 IsRowFault n row (Damaged m) = IsDamaged n row m
-IsRowFault n row Store = ⊤
+IsRowFault n row Store = ((m : ℤ) → ¬ (column row 0 ≡ Int m)) ⊎ (length row ≤ 1)
 IsRowFault n row OutOfMemory = ⊤
 IsRowFault n row _ = ⊥
 
@@ -59,10 +59,10 @@ pub record StopsIn (rows : List Row) (fault : StoreFault) : Type 0 where
   pub good : AreFactsFrom 1 before facts
   pub refused : IsRowFault (length facts + 1) row fault
 
--- why rows are not all facts: want of memory and the database's failures aside, it is told of one of them
+-- why rows are not all facts: want of memory aside, it is told of one of them
 abbrev pub IsReadFault : List Row → StoreFault → Type 0
 IsReadFault rows (Gap n) = StopsIn rows (Gap n)
 IsReadFault rows (Damaged n) = StopsIn rows (Damaged n)
-IsReadFault rows Store = ⊤
+IsReadFault rows Store = StopsIn rows Store
 IsReadFault rows OutOfMemory = ⊤
 IsReadFault rows _ = ⊥

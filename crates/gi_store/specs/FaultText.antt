@@ -1,5 +1,5 @@
 -- Which fault an error of the database is, and how a fault is printed: its name, and its value after one space.
-use Rattle.std.specs.Prelude.{◌≡◌, ◌⊎◌, ℕ, List, ◌++◌, codes}
+use Rattle.std.specs.Prelude.{◌≡◌, ◌⊎◌, ⊤, ℕ, List, ◌++◌, codes}
 use Rattle.std.specs.Fmt.{decimal, signed_decimal}
 use Rattle.sqlite.specs.declared.error.ErrorCode.TheVariants as code
 use Rattle.sqlite.specs.declared.error.Error.{Error}
@@ -19,6 +19,13 @@ IsFailure fault = (fault ≡ Store) ⊎ (fault ≡ OutOfMemory)
 -- why a database is not taken as a book, where nothing is known of it
 abbrev pub IsRefusal : StoreFault → Type 0
 IsRefusal fault = (fault ≡ Version) ⊎ IsFailure fault
+
+-- why a book's facts are not read, where nothing is known of it: no fault of a save
+abbrev pub IsLoadRefusal : StoreFault → Type 0
+IsLoadRefusal BatchSize = ⊥
+IsLoadRefusal NotLoaded = ⊥
+IsLoadRefusal (NotNext n) = ⊥
+IsLoadRefusal _ = ⊤
 
 abbrev pub fault_text : StoreFault → List ℕ
 fault_text Version = codes "Version"

@@ -5,7 +5,9 @@ pub mod Order
 pub mod Facts
 pub mod Keeping
 pub mod FaultText
+pub mod Source
 pub mod Batches
 pub mod Opening
+pub mod Failing
 pub mod Book
 pub mod Laws

@@ -1,16 +1,19 @@
 //! A book of facts, a row for each batch of them.
 
-ghost use Rattle.std.specs.Prelude.{◌≡◌, ◌⊎◌, ◌+◌, ◌-◌, ◌++◌, ◌∷◌, [], length, None, IfOk, IfErr, OnOk, OnErr};
+ghost use Rattle.std.specs.Prelude.{◌≡◌, ◌⊎◌, ◌+◌, ◌-◌, ◌++◌, ◌∷◌, [], length, false, None, Err, IfOk, IfErr, IsErrAnd, OnOk, OnErr, IsTrue};
 ghost use Rattle.std.specs.List.{AllByRecursion};
 ghost use Rattle.gi_store.specs.Clean.{IsClean};
-ghost use Rattle.sqlite.specs.Held.{Held, state};
+ghost use Rattle.sqlite.specs.Held.{state};
 ghost use Rattle.gi_facts.specs.Grammar.{IsWritable};
 ghost use Rattle.gi_store.specs.Facts.{AreFacts};
 ghost use Rattle.gi_store.specs.Rows.{facts_in};
-ghost use Rattle.gi_store.specs.FaultText.{IsFailure, IsRefusal};
+ghost use Rattle.gi_store.specs.Failing.{Endures, IsCaused};
+ghost use Rattle.gi_store.specs.FaultText.{IsFailure, IsLoadRefusal, IsRefusal};
 ghost use Rattle.gi_store.specs.Opening.{IsOpenFault};
-ghost use Rattle.gi_store.specs.Book.{AnswersBatch, AnswersSave, AreSaved, IsLoadFault, IsRead, IsSaved, SavesAllOrLeaves, SavesAllOrNone, SavesOrLeaves, SavesOrNot, counted};
+ghost use Rattle.gi_store.specs.Book.{AnswersBatch, AnswersSave, AreSaved, IsLoadCaused, IsLoadFault, IsRead, IsSaved, SavesAllOrLeaves, SavesAllOrNone, SavesOrLeaves, SavesOrNot, counted};
 ghost use Rattle.gi_store.specs.Keeping.{AddsNoOutcome, IsReady, Keeps, KeepsOrMakes, LeavesOrMakes};
+ghost use Rattle.gi_store.specs.Tables.{HasTables, IsFree};
+ghost use Rattle.gi_store.specs.declared.store_fault.StoreFault.TheVariants.{Store, Version};
 
 use crate::loading::read_book;
 use crate::preparing::prepare;
@@ -65,23 +68,43 @@ fn counted(facts: usize) -> Option<u32>
 
 impl<S: Alter + Drop> BookStore<S> {
     /// Opens the book that the database has, or makes one where its tables are missing: see
-    /// `prepare`. It is not loaded.
-    pub fn open(alloc: Global, mut connection: Connection<S>) -> Result<BookStore<S>, StoreFault>
+    /// `prepare`. It is not loaded. A refusal gives the connection back, and leaves what can be read
+    /// as it was.
+    pub fn open(
+        alloc: Global,
+        mut connection: Connection<S>,
+    ) -> Result<BookStore<S>, (Connection<S>, StoreFault)>
         ensures ready { IfOk result (λ book. IsClean S.Store book.connection → IsReady (state S.Store book.connection)) }
         ensures kept { IfOk result (λ book. IsClean S.Store book.connection → KeepsOrMakes (state S.Store connection) (state S.Store book.connection)) }
         ensures crash { IfOk result (λ book. IsClean S.Store book.connection → LeavesOrMakes (state S.Store connection) (state S.Store book.connection)) }
         ensures not_loaded { IfOk result (λ book. book.loaded ≡ None) }
-        ensures named { IfErr result IsRefusal }
+        ensures named { IfErr result (λ back. IsRefusal back.1) }
 
-        // Where no disk lies, as in memory, `Version` means that no book was there or could be made.
-        ensures refused { ((c : Held S) → IsClean S.Store c) → IfErr result (IsOpenFault (state S.Store connection)) }
+        // Where a transaction is under way nothing is looked at; else other tables of these names are
+        // `Version`, whatever the disk does.
+        ensures busy { IsTrue (state S.Store connection).in_transaction → IsErrAnd result (λ back. back.1 ≡ Store) }
+        ensures other { (state S.Store connection).in_transaction ≡ false → ¬ (IsFree (state S.Store connection).now.schema) → ¬ (HasTables (state S.Store connection).now.schema) → IsErrAnd result (λ back. back.1 ≡ Version) }
+
+        // `Version` means that no book was there or could be made.
+        ensures refused { IfErr result (λ back. IsClean S.Store back.0 → IsOpenFault (state S.Store connection) back.1) }
+
+        // Where no tables can be made `Store` has its cause, as in a load.
+        ensures failed { (state S.Store connection).in_transaction ≡ false → ¬ (IsFree (state S.Store connection).now.schema)
+            → IfErr result (λ back. IsClean S.Store back.0 → IsCaused (state S.Store connection) (state S.Store back.0) back.1) }
+
+        // A refusal leaves what can be read as it was, and no crash then leaves anything but that or
+        // what was there with a new book.
+        ensures unmade { IfErr result (λ back. IsClean S.Store back.0 → Keeps (state S.Store connection) (state S.Store back.0)) }
+        ensures unmade_crash { IfErr result (λ back. IsClean S.Store back.0 → LeavesOrMakes (state S.Store connection) (state S.Store back.0)) }
     {
-        prepare(&mut connection)?;
-        Ok(BookStore {
-            connection,
-            loaded: None,
-            alloc,
-        })
+        match prepare(&mut connection) {
+            Ok(()) => Ok(BookStore {
+                connection,
+                loaded: None,
+                alloc,
+            }),
+            Err(fault) => Err((connection, fault)),
+        }
     }
 }
 
@@ -106,6 +129,15 @@ impl<S: Alter> BookStore<S> {
 
         // A refusal has its cause, and is the first by number.
         ensures refused { IsClean S.Store self.new.connection → IfErr result (IsLoadFault (state S.Store self.old.connection)) }
+        ensures named { IfErr result IsLoadRefusal }
+
+        // A database without a book's tables is told whatever the disk does.
+        ensures other { ¬ (HasTables (state S.Store self.old.connection).now.schema) → result ≡ Err Version }
+
+        // `Store` is told where the disk failed, the connection was shut, queries have a limit on their
+        // steps, or another table has the tree of one of the book's. The disk alone shuts a connection.
+        ensures failed { IsClean S.Store self.new.connection → IfErr result (IsLoadCaused (state S.Store self.old.connection) (state S.Store self.new.connection)) }
+        ensures endures { IsClean S.Store self.new.connection → Endures (state S.Store self.old.connection) (state S.Store self.new.connection) }
 
         // No row is changed, and a crash leaves nothing that it could not leave before.
         ensures kept { IsClean S.Store self.new.connection → Keeps (state S.Store self.old.connection) (state S.Store self.new.connection) }

@@ -1,8 +1,10 @@
 //! Books in files.
 
-ghost use Rattle.std.specs.Prelude.{◌≡◌, None, IfOk};
+ghost use Rattle.std.specs.Prelude.{◌≡◌, None, IfErr, IfOk};
+ghost use Rattle.gi_store.specs.FaultText.{IsLoadRefusal, IsRefusal};
 
 use crate::book_store::BookStore;
+use crate::source::BookSource;
 use crate::store_fault::StoreFault;
 use gi_facts::Fact;
 use sqlite::{Alter, Connection, Error, File, FileStore};
@@ -14,17 +16,25 @@ fn opened<S: Alter + Drop>(
     alloc: Global,
     connection: Result<Connection<S>, Error>,
 ) -> Result<BookStore<S>, StoreFault>
-    ensures { IfOk result (λ book. book.loaded ≡ None) }
+    ensures not_loaded { IfOk result (λ book. book.loaded ≡ None) }
+    ensures named { IfErr result IsRefusal }
 {
-    match connection {
-        Ok(connection) => BookStore::open(alloc, connection),
-        Err(error) => Err(StoreFault::from(error)),
+    match BookStore::open(alloc, connection?) {
+        Ok(book) => Ok(book),
+        Err((connection, fault)) => {
+            // (handed to drop, by one call: going out of scope here would be checked field by field)
+            drop(connection);
+            Err(fault)
+        }
     }
 }
 
 fn facts_in<S: Alter + Drop>(
     book: Result<BookStore<S>, StoreFault>,
-) -> Result<Vec<Fact>, StoreFault> {
+) -> Result<Vec<Fact>, StoreFault>
+    requires { IfErr book IsRefusal }
+    ensures { IfErr result IsLoadRefusal }
+{
     let mut book = book?;
     book.load()
 }
@@ -33,16 +43,34 @@ fn facts_in<S: Alter + Drop>(
 /// of a book in a database without them. `Store` where the file is no database or fails, and the
 /// faults of `BookStore::open`. Nothing is said of what the file holds: no clause can name it.
 pub fn book_of_file(rt: &HostRuntime, file: &str) -> Result<BookStore<FileStore<File>>, StoreFault>
-    ensures { IfOk result (λ book. book.loaded ≡ None) }
+    ensures not_loaded { IfOk result (λ book. book.loaded ≡ None) }
+    ensures named { IfErr result IsRefusal }
 {
     opened(rt.alloc(), Connection::open(rt, file))
 }
 
-/// The facts of the book in a file, from the first on. A file that is not there is `Store`, and is
-/// not made; then come the faults of `BookStore::open` and of `load`.
-pub fn facts_of_file(rt: &HostRuntime, file: &str) -> Result<Vec<Fact>, StoreFault> {
-    if !fs::exists(rt, file).unwrap_or(true) {
-        return Err(StoreFault::Store);
+/// Books in files, each under the name of its file. Of a file that is not there `Store` is told, and
+/// none is made; then come the faults of `BookStore::open` and of `load`.
+#[derive(Clone, Copy)]
+pub struct FileSource<'a> {
+    rt: &'a HostRuntime,
+}
+
+impl<'a> FileSource<'a> {
+    /// The files that this process can open.
+    pub fn new(rt: &'a HostRuntime) -> FileSource<'a> {
+        FileSource { rt }
     }
-    facts_in(book_of_file(rt, file))
+}
+
+impl BookSource for FileSource<'_> {
+    // What a file holds no clause can say.
+    ghost gives = { λ _ name read. IfErr read IsLoadRefusal };
+
+    fn facts(&self, name: &str) -> Result<Vec<Fact>, StoreFault> {
+        if !fs::exists(self.rt, name).unwrap_or(true) {
+            return Err(StoreFault::Store);
+        }
+        facts_in(book_of_file(self.rt, name))
+    }
 }

@@ -5,14 +5,15 @@
 //! the row that comes next, which covers its number and those after it, one for each fact:
 //!
 //! ```text
-//! let mut book = BookStore::open(alloc, Connection::open(rt, file)?)?;
+//! let mut book = BookStore::open(alloc, connection).map_err(|back| back.1)?; // `back.0` is the connection
 //! let facts = book.load()?;                  // all of them, or the first gap or damaged row
 //! book.save_next(n, &fact)?;                 // row n, for good once this is `Ok`
 //! book.save_batch(n + 1, &facts)?;           // up to 64 facts in one row, by one insert
 //! ```
 //!
-//! The book in a file is opened by the file's name ([`book_of_file`]), and its facts are read so
-//! ([`facts_of_file`]); nothing is said of what a file holds.
+//! The book in a file is opened by the file's name ([`book_of_file`]). Who only reads books takes them
+//! from a [`BookSource`], by name, and of files that is [`FileSource`]; nothing is said of what a file
+//! holds.
 //!
 //! A crash at any moment of a save leaves the rows as before or with that one. After a refused save
 //! the row may be there or not, so the book has to be loaded again. What is said of a database
@@ -29,6 +30,7 @@ mod making;
 mod preparing;
 mod reading;
 mod saving;
+mod source;
 mod statements;
 mod store_fault;
 mod tables;
@@ -36,7 +38,8 @@ mod version;
 
 pub use batches::{MOST_BYTES, fitting};
 pub use book_store::BookStore;
-pub use files::{book_of_file, facts_of_file};
-pub use laws::memory_is_clean;
+pub use files::{FileSource, book_of_file};
+pub use laws::{memory_is_clean, memory_never_fails};
 pub use preparing::prepare;
+pub use source::BookSource;
 pub use store_fault::StoreFault;

@@ -1,11 +1,14 @@
 //! A database is made ready to hold a book.
 
-ghost use Rattle.std.specs.Prelude.{IfErr, OnErr, OnOk, IsTrue};
+ghost use Rattle.std.specs.Prelude.{◌≡◌, false, Err, IfErr, OnErr, OnOk, IsTrue};
 ghost use Rattle.gi_store.specs.Clean.{IsClean};
 ghost use Rattle.sqlite.specs.Held.{state};
 ghost use Rattle.gi_store.specs.Keeping.{IsReady, Keeps, KeepsOrMakes, LeavesOrMakes};
+ghost use Rattle.gi_store.specs.Failing.{IsCaused};
 ghost use Rattle.gi_store.specs.FaultText.{IsRefusal};
 ghost use Rattle.gi_store.specs.Opening.{IsOpenFault};
+ghost use Rattle.gi_store.specs.Tables.{HasTables, IsFree};
+ghost use Rattle.gi_store.specs.declared.store_fault.StoreFault.TheVariants.{Store, Version};
 
 use crate::making::make_tables;
 use crate::store_fault::StoreFault;
@@ -28,6 +31,14 @@ pub fn prepare<S: Alter>(connection: &mut Connection<S>) -> Result<(), StoreFaul
     ensures refused { IsClean S.Store connection.new → IfErr result (IsOpenFault (state S.Store connection.old)) }
 
     ensures named { IfErr result IsRefusal }
+
+    // Where a transaction is under way nothing is looked at; else other tables of these names are
+    // `Version`, whatever the disk does.
+    ensures busy { IsTrue (state S.Store connection.old).in_transaction → result ≡ Err Store }
+    ensures other { (state S.Store connection.old).in_transaction ≡ false → ¬ (IsFree (state S.Store connection.old).now.schema) → ¬ (HasTables (state S.Store connection.old).now.schema) → result ≡ Err Version }
+
+    // Where the tables cannot be made `Store` has its cause, as in a load.
+    ensures failed { IsClean S.Store connection.new → (state S.Store connection.old).in_transaction ≡ false → ¬ (IsFree (state S.Store connection.old).now.schema) → IfErr result (IsCaused (state S.Store connection.old) (state S.Store connection.new)) }
 
     // A refusal leaves what can be read as it was.
     ensures unmade { IsClean S.Store connection.new → OnErr result (Keeps (state S.Store connection.old) (state S.Store connection.new)) }

@@ -1,6 +1,6 @@
 //! Rows are read as facts.
 
-ghost use Rattle.std.specs.Prelude.{◌≡◌, ◌≤◌, ◌+◌, ◌++◌, length, IfOk, IfErr, OnOk};
+ghost use Rattle.std.specs.Prelude.{ℤ, ◌≡◌, ◌≤◌, ◌+◌, ◌++◌, length, IfOk, IfErr, OnOk};
 ghost use Rattle.sqlite_value.specs.Order.{column};
 ghost use Rattle.sqlite_value.specs.declared.value.Value.TheVariants.{Int};
 ghost use Rattle.gi_store.specs.Facts.{AreFactsFrom, Covers, HasBody, IsBodyFault, IsReadFault, IsRowFault};
@@ -14,7 +14,7 @@ use std::alloc::Global;
 /// Each row of a table has a whole number here, so anything else is a failure of the database.
 fn number_of(row: &Row) -> Result<i64, StoreFault>
     ensures number { IfOk result (λ m. column row.now 0 ≡ Int m) }
-    ensures refused { IfErr result (λ fault. fault ≡ StoreFault.Store) }
+    ensures refused { IfErr result (λ fault. (fault ≡ StoreFault.Store) × ((m : ℤ) → ¬ (column row.now 0 ≡ Int m))) }
 {
     match row.get_ref(0) {
         Ok(ValueRef::Int(number)) => Ok(number),

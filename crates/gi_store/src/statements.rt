@@ -1,8 +1,10 @@
 //! The statements of a book, one function each.
 
-ghost use Rattle.std.specs.Prelude.{◌≡◌, IsTrue, IfOk, OnOk, OnErr, IsPermutation};
+ghost use Rattle.std.specs.Prelude.{◌≡◌, IsTrue, IfErr, IfOk, OnOk, OnErr, IsPermutation};
 ghost use Rattle.gi_store.specs.Clean.{IsClean};
 ghost use Rattle.sqlite.specs.Held.{state};
+ghost use Rattle.gi_store.specs.Failing.{Endures, IsCaused};
+ghost use Rattle.gi_store.specs.FaultText.{fault_of};
 ghost use Rattle.gi_store.specs.Keeping.{IsIdle, Keeps, AddsNoOutcome, PutsRow, MayPutRow};
 ghost use Rattle.gi_store.specs.Order.{ArePutInOrder};
 ghost use Rattle.gi_store.specs.Rows.{facts_in, versions_in};
@@ -20,6 +22,8 @@ pub fn book_rows<S: Alter>(connection: &mut Connection<S>) -> Result<Vec<Row>, E
     ensures idle { IsClean S.Store connection.new → IsIdle (state S.Store connection.new) }
     ensures kept { IsClean S.Store connection.new → Keeps (state S.Store connection.old) (state S.Store connection.new) }
     ensures crash { IsClean S.Store connection.new → AddsNoOutcome (state S.Store connection.old) (state S.Store connection.new) }
+    ensures endures { IsClean S.Store connection.new → Endures (state S.Store connection.old) (state S.Store connection.new) }
+    ensures failed { IsClean S.Store connection.new → IfErr result (λ e. IsCaused (state S.Store connection.old) (state S.Store connection.new) (fault_of e)) }
 {
     connection.query_all("SELECT * FROM book", &[])
 }
@@ -33,6 +37,8 @@ pub fn fact_rows<S: Alter>(connection: &mut Connection<S>) -> Result<Vec<Row>, E
     ensures idle { IsClean S.Store connection.new → IsIdle (state S.Store connection.new) }
     ensures kept { IsClean S.Store connection.new → Keeps (state S.Store connection.old) (state S.Store connection.new) }
     ensures crash { IsClean S.Store connection.new → AddsNoOutcome (state S.Store connection.old) (state S.Store connection.new) }
+    ensures endures { IsClean S.Store connection.new → Endures (state S.Store connection.old) (state S.Store connection.new) }
+    ensures failed { IsClean S.Store connection.new → IfErr result (λ e. IsCaused (state S.Store connection.old) (state S.Store connection.new) (fault_of e)) }
 {
     connection.query_all("SELECT * FROM facts ORDER BY 1", &[])
 }

@@ -1,9 +1,10 @@
-ghost use Rattle.std.specs.Prelude.{◌≡◌, ◌+◌, ◌<◌, ◌≤◌, true, false, IfOk, IfErr, IfSome, OnErr, OnOk, length};
+ghost use Rattle.std.specs.Prelude.{◌≡◌, ◌≢◌, ◌+◌, ◌<◌, ◌≤◌, ℕ, true, false, Err, IfOk, IfErr, IfSome, None, Ok, OnErr, OnOk, Some, length};
+ghost use Rattle.std.specs.IoError.{error_kind};
 ghost use Rattle.gi_table_commands.specs.Input.{IsChunk, IsInputFault, most_input, most_reads};
 
 use crate::fault::Fault;
 use std::alloc::Global;
-use std::io::{ErrorKind, Read};
+use std::io::{self, ErrorKind, Read};
 
 /// The most bytes of input that a command takes.
 pub const MOST_INPUT: usize = 67_108_864;
@@ -33,6 +34,22 @@ impl Calls {
     }
 }
 
+/// What comes of a call: an interrupted one is made again, and any other that failed is `Read`.
+fn judged(read: io::Result<usize>, calls: &mut Calls) -> Result<Option<usize>, Fault>
+    ensures given { (count : ℕ) → read ≡ Ok count → (result ≡ Ok (Some count)) × (calls.new ≡ calls.old) }
+    ensures again { IfErr read (λ error. error_kind error ≡ ErrorKind.Interrupted → (result ≡ Ok None) × (calls.new ≡ calls.old)) }
+    ensures failed { IfErr read (λ error. error_kind error ≢ ErrorKind.Interrupted → (result ≡ Err Fault.Read) × (calls.new ≡ record calls.old { failed = true })) }
+{
+    match read {
+        Ok(count) => Ok(Some(count)),
+        Err(error) if error.kind() == ErrorKind::Interrupted => Ok(None),
+        Err(_) => {
+            calls.failed = true;
+            Err(Fault::Read)
+        }
+    }
+}
+
 fn read_chunk<R: Read>(
     input: &mut R,
     chunk: &mut [u8],
@@ -46,14 +63,7 @@ fn read_chunk<R: Read>(
     ensures read { IfOk result (IsChunk (R.remaining input.old) (R.remaining input.new) chunk.new) }
 {
     calls.made += 1;
-    match input.read(chunk) {
-        Ok(count) => Ok(Some(count)),
-        Err(error) if error.kind() == ErrorKind::Interrupted => Ok(None),
-        Err(_) => {
-            calls.failed = true;
-            Err(Fault::Read)
-        }
-    }
+    judged(input.read(chunk), calls)
 }
 
 /// All that the reader has left: `TooLarge` for more than `MOST_INPUT` bytes, and `Read` where the

@@ -47,7 +47,7 @@ impl<R: Role, L: Ledger> Office<R, L> {
         seat: &mut Seat<L>,
         body: Body,
     ) -> Result<Receipt, Option<OfficeFault>>
-        ensures { Submits R.SIDE (G.may_end gate.now number call) seat.old body result seat.new }
+        ensures { Submits R.SIDE (G.may_go gate.now number call) (G.may_end gate.now number call) seat.old body result seat.new }
     {
         if !gate.hold(rt, number, call) {
             // (handed to drop, by one call: going out of scope here would be checked field by field on each way out)
@@ -71,7 +71,7 @@ impl<R: Role, L: Ledger> Office<R, L> {
     ) -> Option<OfficeFault>
         requires none { receipts.old.items ≡ [] }
         requires room { length bodies.items ≤ vec_capacity receipts.old }
-        ensures { IsServed R.SIDE (G.may_end gate.now number) (record { seat = seat.old; bodies = bodies.items }) (record { seat = seat.new; receipts = receipts.new.items; fault = result }) }
+        ensures { IsServed R.SIDE (G.may_go gate.now number) (G.may_end gate.now number) (record { seat = seat.old; bodies = bodies.items }) (record { seat = seat.new; receipts = receipts.new.items; fault = result }) }
     {
         for body in bodies {
             match self.submit_next(rt, gate, number, receipts.len() + 1, seat, body) {
@@ -84,7 +84,7 @@ impl<R: Role, L: Ledger> Office<R, L> {
 
     fn run<W: Wait, G: Gate>(&self, rt: &W, gate: &G, number: usize, work: &mut Work<L>)
         requires { IsReady work.old }
-        ensures { IsServed R.SIDE (G.may_end gate.now number) (session_of work.old) (served_of work.new) }
+        ensures { IsServed R.SIDE (G.may_go gate.now number) (G.may_end gate.now number) (session_of work.old) (served_of work.new) }
     {
         let none = Vec::new(*work.bodies.allocator());
         let bodies = mem::replace(&mut work.bodies, none);
@@ -100,7 +100,7 @@ impl<R: Role + Send, L: Ledger + Send> Office<R, L> {
         works: &mut [Work<L>],
     )
         requires { All IsReady works.old }
-        ensures { AreServed R.SIDE (G.may_end gate.now) 1 (map session_of works.old) (map served_of works.new) }
+        ensures { AreServed R.SIDE (G.may_go gate.now) (G.may_end gate.now) 1 (map session_of works.old) (map served_of works.new) }
     {
         let threads = works.len().max(1);
         thread::for_each_mut(
@@ -109,7 +109,7 @@ impl<R: Role + Send, L: Ledger + Send> Office<R, L> {
             threads,
             &|i: usize, work: &mut Work<L>|
                 requires { (i + 1 < 2 ^ 64) × IsReady work.old }
-                ensures { IsServed R.SIDE (G.may_end gate.entry.now (i + 1)) (session_of work.old) (served_of work.new) }
+                ensures { IsServed R.SIDE (G.may_go gate.entry.now (i + 1)) (G.may_end gate.entry.now (i + 1)) (session_of work.old) (served_of work.new) }
             { self.run(rt, gate, i + 1, work) },
         );
     }
@@ -126,7 +126,7 @@ impl<R: Role + Send, L: Ledger + Send> Office<R, L> {
         requires rooms { AreRooms sessions.items rooms.items }
         requires works { (works.items ≡ []) × (length sessions.items ≤ vec_capacity works) }
         requires served { (served.items ≡ []) × (length sessions.items ≤ vec_capacity served) }
-        ensures { AreServed R.SIDE (G.may_end gate.now) 1 sessions.items result.items }
+        ensures { AreServed R.SIDE (G.may_go gate.now) (G.may_end gate.now) 1 sessions.items result.items }
     {
         let mut works = begun(sessions, rooms, works);
         self.run_all(rt, gate, &mut works);
@@ -145,7 +145,7 @@ impl<R: Role + Send, L: Ledger + Send> Office<R, L> {
         gate: &G,
         sessions: Vec<Session<L>>,
     ) -> Result<Vec<Served<L>>, (Vec<Session<L>>, OfficeFault)>
-        ensures served { IfOk result (λ served. AreServed R.SIDE (G.may_end gate.now) 1 sessions.items served.items) }
+        ensures served { IfOk result (λ served. AreServed R.SIDE (G.may_go gate.now) (G.may_end gate.now) 1 sessions.items served.items) }
         ensures back { IfErr result (λ back. back.0.items ≡ sessions.items) }
         ensures fault { IfErr result (λ back. back.1 ≡ OfficeFault.OutOfMemory) }
     {

@@ -208,7 +208,10 @@ impl<S: Alter + Drop> Opened<S> {
                 let _none = unsafe { ManuallyDrop::new_unchecked(self.book.replace(book)) };
                 text.add("ok");
             }
-            Err(fault) => text.show(fault),
+            Err((connection, fault)) => {
+                drop(connection);
+                text.show(fault);
+            }
         }
         true
     }

@@ -38,6 +38,8 @@ impl<'a, C: Clock> SecondFirst<'a, C> {
 }
 
 impl<'a, C: Clock> Gate for SecondFirst<'a, C> {
+    ghost may_go = { λ _ session call. Unit {0} };
+
     ghost may_end = { λ _ session call. (session ≡ 1) × (call ≡ 1) };
 
     fn hold<W: Wait>(&self, _rt: &W, session: usize, call: usize) -> bool {
@@ -60,6 +62,8 @@ impl<'a, C: Clock> Gate for SecondFirst<'a, C> {
 pub struct FirstOnce;
 
 impl Gate for FirstOnce {
+    ghost may_go = { λ _ session call. ¬ ((session ≡ 1) × (call ≡ 2)) };
+
     ghost may_end = { λ _ session call. (session ≡ 1) × (call ≡ 2) };
 
     fn hold<W: Wait>(&self, _rt: &W, session: usize, call: usize) -> bool {

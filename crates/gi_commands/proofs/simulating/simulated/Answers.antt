@@ -1,5 +1,5 @@
-use Rattle.std.proofs.Common.{◌≡◌, ◌∙◌, ◌++◌, ap₂, rules, subst, true, false, List, ℕ}
-use Rattle.gi_script.specs.Script.{IsScript}
+use Rattle.std.proofs.Common.{◌≡◌, ◌∙◌, ◌++◌, ap₂, rules, subst, sym, true, false, List, ℕ}
+use Rattle.gi_script.specs.Script.{HasNoPoint, IsScript}
 use Rattle.gi_simulation.specs.Simulation.{SimulationState}
 use Rattle.gi_commands.specs.Simulating.{counts_of}
 use Rattle.gi_commands.proofs.SimulatingLemmas.{cut_after, cut_run}
@@ -25,3 +25,9 @@ returns-clause-cut c =
     let whole : c.in_ok-made.made.complete ≡ true = search rules in
     let spelled = subst (λ (input : List ℕ). IsScript input c.in_ok-script.script) c.deref.ensures.value c.in_ok-script.ensures.found in
     λ is. cut_after c.args.trace _ _ c.in_ok-script.script spelled (c.with_counts-written.ensures.short is ∙ c.in_ok-made.ensures.text whole)
+
+pub returns-then-not-made-clause-point : goal.returns-then-not-made-clause-point
+returns-then-not-made-clause-point c = λ none. absurd (cc (c.in_ok-script.ensures.point (subst HasNoPoint (sym c.deref.ensures.value) none)))
+
+pub returns-clause-point : goal.returns-clause-point
+returns-clause-point c = λ none. absurd (cc (c.in_ok-script.ensures.point (subst HasNoPoint (sym c.deref.ensures.value) none)))

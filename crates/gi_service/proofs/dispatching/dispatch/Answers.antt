@@ -10,18 +10,20 @@ use Rattle.gi_service.proofs.dispatching.dispatch.Goals as goal
 pub returns-in-Err-clause-first : goal.returns-in-Err-clause-first
 returns-in-Err-clause-first g c = λ none.
     let wanted = asked (map g.S.AsStr.text c.args.words.now) in
+    let books = g.B.BookSource.gives c.args.books.now in
     let remaining = g.R.Read.remaining c.args.input.now in
     let is = c.explain.ensures.memory (memory_alone _ c.in-Err.said c.in-Err.ensures.refused none) in
-    subst (λ (r : Result (Unit {0}) ProgramFault). IfErr r (IsTaskFault wanted remaining)) (sym is) (may_want wanted remaining)
+    subst (λ (r : Result (Unit {0}) ProgramFault). IfErr r (IsTaskFault books wanted remaining)) (sym is) (may_want books wanted remaining)
 
 pub returns-in-Err-clause-leaves : goal.returns-in-Err-clause-leaves
 returns-in-Err-clause-leaves g c = λ none.
     let wanted = asked (map g.S.AsStr.text c.args.words.now) in
+    let books = g.B.BookSource.gives c.args.books.now in
     let remaining = g.R.Read.remaining c.args.input.now in
     let old = g.W.Write.contents c.args.output.now in
     let new = g.W.Write.contents c.explain.new.output in
     let is = c.explain.ensures.memory (memory_alone _ c.in-Err.said c.in-Err.ensures.refused none) in
-    subst (λ (r : Result (Unit {0}) ProgramFault). IfErr r (LeavesTask wanted remaining old new)) (sym is) (may_keep wanted remaining old new (rw is at c.explain.ensures.leaves))
+    subst (λ (r : Result (Unit {0}) ProgramFault). IfErr r (LeavesTask books wanted remaining old new)) (sym is) (may_keep books wanted remaining old new (rw is at c.explain.ensures.leaves))
 
 pub returns-in-Err-clause-unread : goal.returns-in-Err-clause-unread
 returns-in-Err-clause-unread g c = λ none. may_leave (asked (map g.S.AsStr.text c.args.words.now)) (g.R.Read.remaining c.args.input.now)

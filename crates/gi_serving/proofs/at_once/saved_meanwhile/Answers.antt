@@ -1,5 +1,6 @@
 use Rattle.std.proofs.Common.{◌∙◌, refl}
-use Rattle.gi_serving.proofs.Turning.{marks_more, none_marked}
+use Rattle.gi_pairs.specs.declared.side.Side.TheVariants.{I, M}
+use Rattle.gi_serving.proofs.Turning.{ended_at, marks_more, none_marked}
 use Rattle.gi_serving.proofs.at_once.saved_meanwhile.Goals as goal
 
 pub loop-side-init : goal.loop-side-init
@@ -17,3 +18,8 @@ loop-side-preserved g c = record {
   marks = marks_more c.args.main c.loop-side.main c.turned_at-back.result.0 c.loop-side.invariant.marks (rw c.in_default.is at c.turned_at-back.ensures.marks);
   peer_marks = marks_more c.args.peer_main c.loop-side.peer_main c.turned_at-back.result.1 c.loop-side.invariant.peer_marks (rw c.in_default.is at c.turned_at-back.ensures.peer_marks);
 }
+
+pub returns-in-Err-clause-last : goal.returns-in-Err-clause-last
+returns-in-Err-clause-last g c =
+    ended_at c.in-Some.side c.turned_at-back.result.2 c.in-Err.fault (g.B.Turns.takes I) (g.C.Turns.takes M) c.loop-side.book c.turned_at-back.new.book c.loop-side.peer_book c.turned_at-back.new.peer_book
+    c.loop-side.main c.turned_at-back.result.0 c.loop-side.peer_main c.turned_at-back.result.1 c.in-Err.is c.turned_at-back.ensures.turn c.turned_at-back.ensures.peer_turn

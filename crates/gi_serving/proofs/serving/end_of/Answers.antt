@@ -34,3 +34,6 @@ returns-in-Err-clause-over g c =
     cut sessions told c.args.lines.now text (Err c.in-Err.fault)
     (subst (λ (s : OfficesState). RunsSome sessions c.args.lines.now told s text) c.requires.new c.in-Err.ensures.told) c.in-Err.ensures.cut
     (λ of_turn. c.in-Err.ensures.left)
+
+pub returns-in-Err-clause-all : goal.returns-in-Err-clause-all
+returns-in-Err-clause-all g c = λ no. absurd (no c.in-Err.ensures.cut)

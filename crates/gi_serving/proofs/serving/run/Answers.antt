@@ -14,6 +14,7 @@ loop-at-init g c =
       ours = refl;
       theirs = refl;
       watched = c.requires.begun;
+      counted = c.requires.counted;
       made = begun c.args.both.now.sessions c.args.lines.now start (string_bytes c.args.text.now) c.requires.none;
     }
 
@@ -57,12 +58,14 @@ loop-at-preserved g c =
     let count : c.max-at.result ≡ max c.batch_length-batch.result 1 = search rules in
     let adds : AddsFirst c.loop-at.both.sessions left (max c.batch_length-batch.result 1) now old new next = c.in_default.ensures.made in
     let within : c.loop-at.at + c.max-at.result ≤ length c.args.lines.now = search rules in
+    let whole : g.V.Watch.whole c.made.new.self ≡ length c.args.lines.now = search rules in
     record {
       within = within;
       sessions = c.in_default.ensures.sessions ∙ c.loop-at.invariant.sessions;
       ours = same_again _ _ _ c.loop-at.invariant.ours c.in_default.ensures.ours;
       theirs = same_again _ _ _ c.loop-at.invariant.theirs c.in_default.ensures.theirs;
-      watched = c.made.ensures;
+      watched = c.made.ensures.lines;
+      counted = whole;
       made =
           next_made sessions lines left at c.max-at.result start now next old new same c.loop-at.invariant.made
           (subst (λ (n : ℕ). AddsFirst sessions left n now old new next) (sym count)
@@ -81,3 +84,6 @@ returns-clause-whole g c =
     let start = offices_of c.args.both.now.initiating c.args.both.now.matching in
     let reached = offices_of c.loop-at.both.initiating c.loop-at.both.matching in
     to_the_end c.args.both.now.sessions c.args.lines.now c.loop-at.at start reached (string_bytes c.loop-at.text) (omega (arith, c.loop-at-test.false)) c.loop-at.invariant.made
+
+pub returns-clause-over : goal.returns-clause-over
+returns-clause-over g c = omega (arith, c.loop-at-test.false, c.loop-at.invariant.within, c.loop-at.invariant.watched)

@@ -10,6 +10,7 @@ invariant-loop-at g l = record {
   ours : AreSamePlaces l.initial.both.initiating.seats.items l.both.initiating.seats.items;
   theirs : AreSamePlaces l.initial.both.matching.seats.items l.both.matching.seats.items;
   watched : g.V.Watch.told l.watch ≡ l.at;
+  counted : g.V.Watch.whole l.watch ≡ length l.fn.lines;
   made : RunsTo l.initial.both.sessions l.fn.lines l.at (offices_of l.initial.both.initiating l.initial.both.matching) (string_bytes l.text) (offices_of l.both.initiating l.both.matching);
 }
 

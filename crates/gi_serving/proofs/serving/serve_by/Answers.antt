@@ -18,3 +18,6 @@ returns-in-Ok-clause-over g c =
 pub returns-in-Ok-clause-told : goal.returns-in-Ok-clause-told
 returns-in-Ok-clause-told g c =
     subst (λ (n : ℕ). IsCut c.end_of.result → RunsSome n c.args.lines.now (g.V.Watch.told c.end_of.new.watch) (new_offices n) (string_bytes c.end_of.new.text)) c.in-Ok.ensures.sessions c.end_of.ensures.told
+
+pub returns-in-Err-clause-all : goal.returns-in-Err-clause-all
+returns-in-Err-clause-all g c = λ no. absurd (no tt)

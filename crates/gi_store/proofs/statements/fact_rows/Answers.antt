@@ -4,6 +4,7 @@ use Rattle.sqlite.specs.Held.{state}
 use Rattle.gi_store.proofs.Texts.{read_facts}
 use Rattle.gi_store.proofs.Failures.{queried, query_opened, undone_idle, undone_keeps}
 use Rattle.gi_store.proofs.Readings.{facts_answer, plain_facts, adds_nothing}
+use Rattle.gi_store.proofs.Causes.{endures, facts_failed}
 use Rattle.gi_store.proofs.statements.fact_rows.Goals as goal
 
 pub returns-clause-rows : goal.returns-clause-rows
@@ -39,3 +40,12 @@ returns-clause-crash g c clean =
     let old = state g.S.Store c.args.connection.now in
     let early : HasCleanDisk old = omega (arith, c.query_all.ensures.survives.clean) in
     adds_nothing read_facts [] old (state g.S.Store c.query_all.new.self) (plain_facts old (c.requires.tables early)) c.query_all.ensures.survives clean
+
+pub returns-clause-endures : goal.returns-clause-endures
+returns-clause-endures g c clean = endures _ _ _ c.query_all.ensures.survives clean
+
+pub returns-clause-failed : goal.returns-clause-failed
+returns-clause-failed g c clean =
+    let old = state g.S.Store c.args.connection.now in
+    let early : HasCleanDisk old = omega (arith, c.query_all.ensures.survives.clean) in
+    facts_failed old (state g.S.Store c.query_all.new.self) c.query_all.result (c.requires.tables early) (c.query_all.ensures.err clean)

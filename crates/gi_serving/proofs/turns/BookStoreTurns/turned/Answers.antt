@@ -12,3 +12,6 @@ pub returns-clause-marks : goal.returns-clause-marks
 returns-clause-marks g c =
     subst (λ (r : Result Bool SaveFault). OnOk r (NotesMarks c.args.seat c.save_turn-seat.result.0)) (sym c.saved.ensures.value)
     (turn_marks g.R.Role.SIDE _ _ _ c.args.seat c.save_turn-seat.result.1 c.save_turn-seat.result.0 c.save_turn-seat.ensures)
+
+pub returns-clause-turn : goal.returns-clause-turn
+returns-clause-turn g c = record { turn = c.save_turn-seat.result.1; took = c.save_turn-seat.ensures; told_is = c.saved.ensures.value }

@@ -1,10 +1,11 @@
-use Rattle.std.proofs.Common.{◌≡◌, List, [], ◌∷◌, filter, length, arith, rules, ap, subst, sym, ◌∙◌}
+use Rattle.gi_carrier.specs.Limits.{most_waiting}
+use Rattle.std.proofs.Common.{◌≡◌, ◌<◌, List, [], ◌∷◌, filter, length, arith, rules, ap, subst, sym, ◌∙◌}
 use Rattle.std.specs.Vec.Iter.{into_iter_items}
 use Rattle.gi_desk.specs.Machine.{is_for_peer}
 use Rattle.gi_desk.specs.declared.packet.Packet.{Packet}
 use Rattle.gi_simulation.specs.OnItsWay.{WaitedOrCame}
 use Rattle.gi_simulation.proofs.OnItsWay.{Bodies}
-use Rattle.gi_simulation.proofs.SimulationLaws.{no_packet, nothing_left, one_packet}
+use Rattle.gi_simulation.proofs.SimulationLaws.{no_packet, failed_too, nothing_left, one_packet, waits_more}
 use Rattle.gi_simulation.proofs.SoundSimulation.{Came, came_first, came_next}
 use Rattle.gi_simulation.proofs.link.Link.send_packets.Goals as goal
 
@@ -13,7 +14,7 @@ loop-packet-init c =
     let packets = c.args.packets.items in
     let came = came_first c.args.self.now packets in
     let same : into_iter_items c.into_iter-packet-iterator.result ≡ packets = search rules in
-    (search rules, search rules, came.0, subst (λ (left : List Packet). Bodies (Came c.args.self.now packets) (filter is_for_peer left)) (sym same) came.1)
+    (search rules, search rules, came.0, subst (λ (left : List Packet). Bodies (Came c.args.self.now packets) (filter is_for_peer left)) (sym same) came.1, omega arith)
 
 pub loop-packet-preserved : goal.loop-packet-preserved
 loop-packet-preserved c =
@@ -29,6 +30,9 @@ loop-packet-preserved c =
           omega arith,
       came.0,
       came.1,
+      let before = at.invariant.4 in
+          let more = waits_more at.self next x c.in_ok-send_packet.ensures.sent in
+          omega (arith, before, more),
     )
 
 pub returns-clause-sent : goal.returns-clause-sent
@@ -41,3 +45,10 @@ returns-clause-sent c =
 pub returns-in_err-send_packet-clause-came : goal.returns-in_err-send_packet-clause-came
 returns-in_err-send_packet-clause-came c =
     subst (WaitedOrCame c.args.self.now c.args.packets.items) (sym c.in_err-send_packet.ensures.kept) c.loop-packet.invariant.2
+
+pub returns-in_err-send_packet-clause-room : goal.returns-in_err-send_packet-clause-room
+returns-in_err-send_packet-clause-room c =
+    let before = c.loop-packet.invariant.4 in
+    let room = c.in_err-send_packet.ensures.room in
+    let was : length c.args.self.now.carrier.waiting < most_waiting = omega (arith, before, room) in
+    failed_too c.from_residual.result _ was

@@ -1,4 +1,4 @@
-use Rattle.std.proofs.Common.{◌≡◌, length, filter}
+use Rattle.std.proofs.Common.{◌≡◌, ◌≤◌, length, filter}
 use Rattle.std.specs.Vec.Iter.{into_iter_items, into_iter_len}
 use Rattle.gi_desk.specs.Machine.{is_for_peer}
 use Rattle.gi_simulation.specs.OnItsWay.{WaitedOrCame}
@@ -12,3 +12,4 @@ invariant-loop-packet l = (with_packets l.self (into_iter_items l.packet-iterato
     × (into_iter_len l.packet-iterator ≡ length (into_iter_items l.packet-iterator))
     × WaitedOrCame l.fn.self l.fn.packets.items l.self
     × Bodies (Came l.fn.self l.fn.packets.items) (filter is_for_peer (into_iter_items l.packet-iterator))
+    × (length l.fn.self.carrier.waiting ≤ length l.self.carrier.waiting)
