@@ -10,4 +10,5 @@ pub mod Batches
 pub mod Opening
 pub mod Failing
 pub mod Book
+pub mod Copies
 pub mod Laws

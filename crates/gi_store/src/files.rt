@@ -4,12 +4,13 @@ ghost use Rattle.std.specs.Prelude.{◌≡◌, None, IfErr, IfOk};
 ghost use Rattle.gi_store.specs.FaultText.{IsLoadRefusal, IsRefusal};
 
 use crate::book_store::BookStore;
+use crate::copies::facts_of_copy;
+use crate::file_bytes::file_bytes;
 use crate::source::BookSource;
 use crate::store_fault::StoreFault;
 use gi_facts::Fact;
 use sqlite::{Alter, Connection, Error, File, FileStore};
 use std::alloc::Global;
-use std::fs;
 
 /// Of any connection: what `BookStore::open` promises would be dear to check of a file's.
 fn opened<S: Alter + Drop>(
@@ -29,16 +30,6 @@ fn opened<S: Alter + Drop>(
     }
 }
 
-fn facts_in<S: Alter + Drop>(
-    book: Result<BookStore<S>, StoreFault>,
-) -> Result<Vec<Fact>, StoreFault>
-    requires { IfErr book IsRefusal }
-    ensures { IfErr result IsLoadRefusal }
-{
-    let mut book = book?;
-    book.load()
-}
-
 /// The book in a file, which is not loaded. A file that is not there is made, and so are the tables
 /// of a book in a database without them. `Store` where the file is no database or fails, and the
 /// faults of `BookStore::open`. Nothing is said of what the file holds: no clause can name it.
@@ -49,8 +40,9 @@ pub fn book_of_file(rt: &HostRuntime, file: &str) -> Result<BookStore<FileStore<
     opened(rt.alloc(), Connection::open(rt, file))
 }
 
-/// Books in files, each under the name of its file. Of a file that is not there `Store` is told, and
-/// none is made; then come the faults of `BookStore::open` and of `load`.
+/// Books in files, each under the name of its file, read from copies of the file and its log in memory:
+/// nothing is made or changed, whoever has the book open. Of a file that is not there, or that is no
+/// database, `Store` is told; then come the faults of `BookStore::load`.
 #[derive(Clone, Copy)]
 pub struct FileSource<'a> {
     rt: &'a HostRuntime,
@@ -68,9 +60,7 @@ impl BookSource for FileSource<'_> {
     ghost gives = { λ _ name read. IfErr read IsLoadRefusal };
 
     fn facts(&self, name: &str) -> Result<Vec<Fact>, StoreFault> {
-        if !fs::exists(self.rt, name).unwrap_or(true) {
-            return Err(StoreFault::Store);
-        }
-        facts_in(book_of_file(self.rt, name))
+        let bytes = file_bytes(self.rt, name)?;
+        facts_of_copy(self.rt.alloc(), &bytes.file, &bytes.log)
     }
 }

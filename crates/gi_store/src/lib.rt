@@ -23,6 +23,8 @@
 
 mod batches;
 mod book_store;
+mod copies;
+mod file_bytes;
 mod files;
 mod laws;
 mod loading;

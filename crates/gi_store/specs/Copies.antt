@@ -1,0 +1,21 @@
+-- What is read of copies of a book's two files.
+use Rattle.std.specs.Prelude.{◌≡◌, ℕ, List}
+use Rattle.sqlite_disk.specs.Memory.{memory_bytes}
+use Rattle.sqlite_disk.specs.declared.files.Files.{Files}
+use Rattle.sqlite_disk.specs.declared.memory.Memory.{Memory}
+use Rattle.sqlite_disk.specs.contracts.memory.MemoryDisk.TheImpl as memory
+use Rattle.sqlite_store.specs.declared.store.FileStore.{FileStore}
+use Rattle.sqlite.specs.State.{HasCleanDisk}
+use Rattle.sqlite.specs.Held.{Held}
+use Rattle.sqlite.specs.Files.{Finds, file_state}
+use Rattle.gi_facts.specs.declared.fact.Fact.{Fact}
+use Rattle.gi_store.specs.Book.{IsRead}
+
+-- These are the facts of the book in the database that the bytes of a file and of the log beside it hold.
+pub record AreFactsIn (db log : List ℕ) (facts : List Fact) : Type 0 where
+  pub files : Files Memory
+  pub file : memory_bytes files.db ≡ db
+  pub journal : memory_bytes files.log ≡ log
+  pub opened : Held (FileStore Memory memory.ghosts)
+  pub read : Held (FileStore Memory memory.ghosts)
+  pub found : HasCleanDisk (file_state read) → Finds files opened × IsRead (file_state read) facts
