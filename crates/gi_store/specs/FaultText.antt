@@ -5,7 +5,7 @@ use Rattle.sqlite.specs.declared.error.ErrorCode.TheVariants as code
 use Rattle.sqlite.specs.declared.error.Error.{Error}
 use Rattle.sqlite.specs.declared.error.Error.TheVariants.{SqliteFailure}
 use Rattle.gi_store.specs.declared.store_fault.StoreFault.{StoreFault}
-use Rattle.gi_store.specs.declared.store_fault.StoreFault.TheVariants.{Version, Gap, Damaged, BatchSize, NotLoaded, NotNext, Store, OutOfMemory}
+use Rattle.gi_store.specs.declared.store_fault.StoreFault.TheVariants.{Version, Gap, Damaged, BatchSize, NotLoaded, NotNext, Busy, Store, OutOfMemory}
 
 -- want of memory is told apart
 abbrev pub fault_of : Error → StoreFault
@@ -20,11 +20,21 @@ IsFailure fault = (fault ≡ Store) ⊎ (fault ≡ OutOfMemory)
 abbrev pub IsRefusal : StoreFault → Type 0
 IsRefusal fault = (fault ≡ Version) ⊎ IsFailure fault
 
+-- why a file is not opened as a book, where nothing is known of it: another process has it, or one of these
+abbrev pub IsOpenRefusal : StoreFault → Type 0
+IsOpenRefusal fault = (fault ≡ Busy) ⊎ IsRefusal fault
+
+-- what is told where the database was not opened
+abbrev pub opening_fault : Error → StoreFault
+opening_fault (SqliteFailure code.DatabaseBusy) = Busy
+opening_fault error = fault_of error
+
 -- why a book's facts are not read, where nothing is known of it: no fault of a save
 abbrev pub IsLoadRefusal : StoreFault → Type 0
 IsLoadRefusal BatchSize = ⊥
 IsLoadRefusal NotLoaded = ⊥
 IsLoadRefusal (NotNext n) = ⊥
+IsLoadRefusal Busy = ⊥
 IsLoadRefusal _ = ⊤
 
 abbrev pub fault_text : StoreFault → List ℕ
@@ -34,5 +44,6 @@ fault_text (Damaged n) = codes "Damaged " ++ signed_decimal n
 fault_text BatchSize = codes "BatchSize"
 fault_text NotLoaded = codes "NotLoaded"
 fault_text (NotNext n) = codes "NotNext " ++ decimal n
+fault_text Busy = codes "Busy"
 fault_text Store = codes "Store"
 fault_text OutOfMemory = codes "OutOfMemory"

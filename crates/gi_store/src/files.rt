@@ -1,7 +1,7 @@
 //! Books in files.
 
-ghost use Rattle.std.specs.Prelude.{◌≡◌, None, IfErr, IfOk};
-ghost use Rattle.gi_store.specs.FaultText.{IsLoadRefusal, IsRefusal};
+ghost use Rattle.std.specs.Prelude.{◌≡◌, None, Err, IfErr, IfOk};
+ghost use Rattle.gi_store.specs.FaultText.{IsLoadRefusal, IsOpenRefusal, IsRefusal, opening_fault};
 
 use crate::book_store::BookStore;
 use crate::copies::facts_of_copy;
@@ -9,7 +9,7 @@ use crate::file_bytes::file_bytes;
 use crate::source::BookSource;
 use crate::store_fault::StoreFault;
 use gi_facts::Fact;
-use sqlite::{Alter, Connection, Error, File, FileStore};
+use sqlite::{Alter, Connection, Error, ErrorCode, File, FileStore};
 use std::alloc::Global;
 
 /// Of any connection: what `BookStore::open` promises would be dear to check of a file's.
@@ -18,9 +18,15 @@ fn opened<S: Alter + Drop>(
     connection: Result<Connection<S>, Error>,
 ) -> Result<BookStore<S>, StoreFault>
     ensures not_loaded { IfOk result (λ book. book.loaded ≡ None) }
-    ensures named { IfErr result IsRefusal }
+    ensures unopened { IfErr connection (λ error. result ≡ Err (opening_fault error)) }
+    ensures opened { IfOk connection (λ _. IfErr result IsRefusal) }
 {
-    match BookStore::open(alloc, connection?) {
+    let connection = match connection {
+        Ok(connection) => connection,
+        Err(Error::SqliteFailure(ErrorCode::DatabaseBusy)) => return Err(StoreFault::Busy),
+        Err(error) => return Err(StoreFault::from(error)),
+    };
+    match BookStore::open(alloc, connection) {
         Ok(book) => Ok(book),
         Err((connection, fault)) => {
             // (handed to drop, by one call: going out of scope here would be checked field by field)
@@ -31,11 +37,12 @@ fn opened<S: Alter + Drop>(
 }
 
 /// The book in a file, which is not loaded. A file that is not there is made, and so are the tables
-/// of a book in a database without them. `Store` where the file is no database or fails, and the
-/// faults of `BookStore::open`. Nothing is said of what the file holds: no clause can name it.
+/// of a book in a database without them. `Busy` where another process has it open, `Store` where the
+/// file is no database or fails, and the faults of `BookStore::open`. Nothing is said of what the file
+/// holds: no clause can name it.
 pub fn book_of_file(rt: &HostRuntime, file: &str) -> Result<BookStore<FileStore<File>>, StoreFault>
     ensures not_loaded { IfOk result (λ book. book.loaded ≡ None) }
-    ensures named { IfErr result IsRefusal }
+    ensures named { IfErr result IsOpenRefusal }
 {
     opened(rt.alloc(), Connection::open(rt, file))
 }

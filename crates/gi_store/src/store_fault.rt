@@ -21,6 +21,8 @@ pub enum StoreFault {
     NotLoaded,
     /// The fact that comes next has another number, this one.
     NotNext { expected: u32 },
+    /// Another process has the book open.
+    Busy,
     /// The database failed.
     Store,
     /// Memory ran out.
@@ -73,6 +75,7 @@ impl fmt::Display for StoreFault {
             StoreFault::BatchSize => "BatchSize",
             StoreFault::NotLoaded => "NotLoaded",
             StoreFault::NotNext { expected } => return write!(f, "NotNext {expected}"),
+            StoreFault::Busy => "Busy",
             StoreFault::Store => "Store",
             StoreFault::OutOfMemory => "OutOfMemory",
         })
