@@ -75,8 +75,9 @@ input is a script as for `simulate`, whose steps are made and not told. With --b
 side's desk is read from its book instead, standard input is not read, and `refused` has no lines.
 
 Faults: those of `simulate`. With a book, the first of: CodeText (CODE is no code), Version, Gap N,
-Damaged N or Store (the file is not there, is no database, or fails), BadFact N (no desk records
-fact N after those before it), Write.";
+Damaged N or Store (the file is not there, is no database, or cannot be read), BadFact N (no desk
+records fact N after those before it), Write. The book is read from a copy in memory: no file is made
+or changed, and another command may have it open.";
 
 const EXPLAIN_HELP: &str = "\
 What one quantity comes from at SIDE, `I` or `M`: that of the initiating operator's portfolio
@@ -116,8 +117,9 @@ line, the side, and what came of it. Then come two lines with what each side hol
 tell whether each office's records agree with its desk, and the two offices with each other.
 
 Faults, the first of: Read, TooLarge, Point, `line N: Unreadable`, as for `simulate`; for the book
-of I and then for that of M, Version, Gap N, Damaged N, Store or BadFact N, as for `report`; Write;
-and what a running office could not do, told after the lines of what was done before.";
+of I and then for that of M, Busy (another process has it open), Version, Gap N, Damaged N, Store or
+BadFact N, as for `report`; Write; and what a running office could not do, told after the lines of
+what was done before.";
 
 fn word<'a>(alloc: Global, name: &'a str, help: &'a str) -> Arg<'a>
     ensures rule { rule_of result ≡ word_rule name.entry.now }
