@@ -1,5 +1,5 @@
 -- What the two queries of the book answer.
-use Rattle.std.proofs.Common.{◌≡◌, ℕ, suc, ◌+◌, ◌<◌, ◌≤◌, ◌^◌, nat_le, codes, List, [], ◌∷◌, map, length, get_or, All, false, refl, sym, ap, subst, ◌∙◌, arith, drop, inl, inr, Ok, Err, Result, IfOk, IsTrue}
+use Rattle.std.proofs.Common.{◌≡◌, ℕ, suc, ◌+◌, ◌<◌, ◌≤◌, ◌^◌, nat_le, codes, List, [], ◌∷◌, map, length, get_or, All, false, refl, sym, ap, subst, ◌∙◌, arith, drop, inl, inr, Ok, Err, Result, IfOk, IfErr, OnOk, IsTrue}
 use Rattle.std.specs.List.{flat_map, AllByRecursion}
 use Rattle.std.specs.List.Sorted.{IsPermutation, IsSorted}
 use Rattle.std.specs.Ordering.{is_lt}
@@ -26,7 +26,10 @@ use Rattle.gi_store.specs.Tables.{HasTables, book_table, facts_table, book_tree,
 use Rattle.gi_store.specs.Rows.{both_columns, facts_in, versions_in, first_version}
 use Rattle.gi_store.specs.Keeping.{AddsNoOutcome, IsFirstBook, Keeps}
 use Rattle.gi_store.proofs.Failures.{MayRun, not_both, shown_same}
+use Rattle.gi_store.specs.Opening.{IsVersionFault}
 use Rattle.gi_store.specs.Order.{InOrder, ArePutInOrder}
+use Rattle.gi_store.specs.declared.store_fault.StoreFault.{StoreFault}
+use Rattle.gi_store.specs.declared.store_fault.StoreFault.TheVariants.{Version}
 use Rattle.gi_store.proofs.Texts.{read_version, read_facts, facts_query, version_query, IsQuery, MayAsk, version_asked, facts_asked}
 use Rattle.gi_store.proofs.Listed.{is_at}
 
@@ -158,14 +161,19 @@ adds_nothing sql params old new plain survives clean db leaves = elim (survives.
 
 -- ---- the one row of the version
 
-pub version_read : {S : Type 0} (g : Ghosts S) (old new : Held S) (rows : List Row) → Keeps (state g old) (state g new) → IsTrue (state g new).is_open → HasTables old.schema → IsPermutation (versions_in (state g new).now) rows
-    → rows ≡ first_version ∷ [] → IsFirstBook (state g new).now
-version_read g old new rows kept up has same is = record {
-  tables = subst (λ (d : Database). HasTables d.schema) (sym (kept.same up)) has;
-  version = one_permutation first_version (versions_in (state g new).now) (IsPermutation-sym _ _ (subst (λ l. IsPermutation (versions_in (state g new).now) l) is same));
-}
+pub version_read : {S : Type 0} (g : Ghosts S) (old new : Held S) (rows : List Row) (r : Result (Unit {0}) StoreFault) → Keeps (state g old) (state g new) → IsTrue (state g new).is_open → HasTables old.schema
+    → IsPermutation (versions_in (state g new).now) rows → OnOk r (rows ≡ first_version ∷ []) → OnOk r (IsTrue (state g new).is_open × IsFirstBook (state g new).now)
+version_read g old new rows (Ok done) kept up has same is = (
+  up,
+  record {
+    tables = subst (λ (d : Database). HasTables d.schema) (sym (kept.same up)) has;
+    version = one_permutation first_version (versions_in (state g new).now) (IsPermutation-sym _ _ (subst (λ l. IsPermutation (versions_in (state g new).now) l) is same));
+  },
+)
+version_read g old new rows (Err fault) kept up has same is = tt
 
-pub version_missed : {S : Type 0} (g : Ghosts S) (old new : Held S) (rows : List Row) → Keeps (state g old) (state g new) → IsTrue (state g new).is_open → IsPermutation (versions_in (state g new).now) rows
-    → IsFirstBook (state g old).now → rows ≡ first_version ∷ []
-version_missed g old new rows kept up same book =
-    one_permutation first_version rows (subst (λ l. IsPermutation l rows) (ap (λ (d : Database). versions_in d) (kept.same up) ∙ book.version) same)
+pub version_missed : {S : Type 0} (g : Ghosts S) (old new : Held S) (rows : List Row) (r : Result (Unit {0}) StoreFault) → Keeps (state g old) (state g new) → IsTrue (state g new).is_open → IsPermutation (versions_in (state g new).now) rows
+    → IfErr r (λ fault. (fault ≡ Version) × ¬ (rows ≡ first_version ∷ [])) → IfErr r (IsVersionFault (state g old))
+version_missed g old new rows (Ok done) kept up same missed = tt
+version_missed g old new rows (Err fault) kept up same missed = subst (IsVersionFault (state g old)) (sym missed.0) (λ book. missed.1
+    (one_permutation first_version rows (subst (λ l. IsPermutation l rows) (ap (λ (d : Database). versions_in d) (kept.same up) ∙ book.version) same)))

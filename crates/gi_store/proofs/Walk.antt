@@ -4,7 +4,7 @@ use Rattle.sqlite_value.specs.Order.{Row}
 use Rattle.gi_facts.specs.declared.fact.Fact.{Fact}
 use Rattle.gi_store.specs.Facts.{Covers, AreFactsFrom, IsRowFault, IsReadFault}
 use Rattle.gi_store.specs.declared.store_fault.StoreFault.{StoreFault}
-use Rattle.gi_store.specs.declared.store_fault.StoreFault.TheVariants.{Gap, Damaged, Store}
+use Rattle.gi_store.specs.declared.store_fault.StoreFault.TheVariants.{Gap, Damaged, Store, OutOfMemory}
 
 pub one_more : (n : ℕ) (rows : List Row) (facts : List Fact) (row : Row) (batch : List Fact) → AreFactsFrom n rows facts → Covers (n + length facts) row batch → AreFactsFrom n (rows ++ row ∷ []) (facts ++ batch)
 one_more n [] facts row batch all one =
@@ -25,4 +25,5 @@ pub refused : (rows before after : List Row) (row : Row) (facts : List Fact) (n 
 refused rows before after row facts n (Gap m) is good count why = record { before = before; row = row; after = after; facts = facts; is = is; good = good; refused = subst (λ k. IsRowFault k row (Gap m)) count why }
 refused rows before after row facts n (Damaged m) is good count why = record { before = before; row = row; after = after; facts = facts; is = is; good = good; refused = subst (λ k. IsRowFault k row (Damaged m)) count why }
 refused rows before after row facts n Store is good count why = record { before = before; row = row; after = after; facts = facts; is = is; good = good; refused = subst (λ k. IsRowFault k row Store) count why }
+refused rows before after row facts n OutOfMemory is good count why = record { before = before; row = row; after = after; facts = facts; is = is; good = good; refused = subst (λ k. IsRowFault k row OutOfMemory) count why }
 refused rows before after row facts n _ is good count why = why

@@ -64,7 +64,8 @@ pub record Stops (s : State) (fault : StoreFault) : Type 0 where
   pub order : ArePutInOrder (facts_in s.now) ordered
   pub stops : StopsIn ordered fault
 
--- why a book is not loaded; want of memory has no cause, and that of the database is told by `IsLoadCaused`
+-- Why a book is not loaded; the cause of a failure of the database is told by `IsLoadCaused`. Want of memory has none here: SQLite may tell it
+-- of any statement, for no cause that its clauses name, and it then leaves the connection as an answer would. What rows are refused for tells more (`IsReadFault`).
 abbrev pub IsLoadFault : State → StoreFault → Type 0
 IsLoadFault s Version = ¬ IsFirstBook s.now
 IsLoadFault s (Gap n) = Stops s (Gap n)

@@ -3,7 +3,7 @@
 ghost use Rattle.std.specs.Prelude.{ℤ, ◌≡◌, ◌≤◌, ◌+◌, ◌++◌, length, IfOk, IfErr, OnOk};
 ghost use Rattle.sqlite_value.specs.Order.{column};
 ghost use Rattle.sqlite_value.specs.declared.value.Value.TheVariants.{Int};
-ghost use Rattle.gi_store.specs.Facts.{AreFactsFrom, Covers, HasBody, IsBodyFault, IsReadFault, IsRowFault};
+ghost use Rattle.gi_store.specs.Facts.{AreFactsFrom, Covers, HasBody, IsBodyFault, IsReadFault, IsRowFault, body_fault as fault_of_body};
 
 use crate::store_fault::StoreFault;
 use gi_facts::{Fact, FactFault, decode_batch};
@@ -22,6 +22,16 @@ fn number_of(row: &Row) -> Result<i64, StoreFault>
     }
 }
 
+/// Which fault it is takes no memory to tell.
+fn body_fault(fault: FactFault, number: i64) -> StoreFault
+    ensures { result ≡ fault_of_body number fault }
+{
+    match fault {
+        FactFault::NotAFact => StoreFault::Damaged(number),
+        FactFault::OutOfMemory => StoreFault::OutOfMemory,
+    }
+}
+
 fn body_of(alloc: Global, row: &Row, number: i64) -> Result<Vec<Fact>, StoreFault>
     ensures body { IfOk result (λ facts. HasBody row.now facts.items) }
     ensures refused { IfErr result (IsBodyFault row.now number) }
@@ -29,8 +39,7 @@ fn body_of(alloc: Global, row: &Row, number: i64) -> Result<Vec<Fact>, StoreFaul
     match row.get_ref(1) {
         Ok(ValueRef::Text(text)) => match decode_batch(alloc, text) {
             Ok(facts) => Ok(facts),
-            Err(FactFault::NotAFact) => Err(StoreFault::Damaged(number)),
-            Err(FactFault::OutOfMemory) => Err(StoreFault::OutOfMemory),
+            Err(fault) => Err(body_fault(fault, number)),
         },
         Ok(_) => Err(StoreFault::Damaged(number)),
         Err(_) => Err(StoreFault::Store),

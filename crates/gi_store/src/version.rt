@@ -34,6 +34,18 @@ fn are_first_version(rows: &[Row]) -> bool
     }
 }
 
+/// Which version the rows are of takes no memory to tell.
+fn require_first_version(rows: &[Row]) -> Result<(), StoreFault>
+    ensures version { OnOk result (rows.now ≡ first_version ∷ []) }
+    ensures refused { IfErr result (λ fault. (fault ≡ Version) × ¬ (rows.now ≡ first_version ∷ [])) }
+{
+    if are_first_version(rows) {
+        Ok(())
+    } else {
+        Err(StoreFault::Version)
+    }
+}
+
 #[tactic(auto, using(crate::proofs::Causes::endures_still))]
 pub fn check_version<S: Alter>(connection: &mut Connection<S>) -> Result<(), StoreFault>
     requires { IsClean S.Store connection.old → IsIdle (state S.Store connection.old) }
@@ -52,9 +64,5 @@ pub fn check_version<S: Alter>(connection: &mut Connection<S>) -> Result<(), Sto
         return Err(StoreFault::Version);
     }
     let rows = book_rows(connection)?;
-    if are_first_version(rows.as_slice()) {
-        Ok(())
-    } else {
-        Err(StoreFault::Version)
-    }
+    require_first_version(rows.as_slice())
 }

@@ -4,18 +4,17 @@ use Rattle.gi_store.specs.Tables.{HasTables}
 use Rattle.gi_store.proofs.Readings.{version_read, version_missed}
 use Rattle.gi_store.proofs.version.check_version.Goals as goal
 
-pub returns-then-are_first_version-clause-version : goal.returns-then-are_first_version-clause-version
-returns-then-are_first_version-clause-version g c clean =
+pub returns-clause-version : goal.returns-clause-version
+returns-clause-version g c clean =
     let old = c.args.connection.now in
     let new = c.book_rows.new.connection in
     let up : IsTrue (state g.S.Store new).is_open = c.in_ok-rows.ensures.opened clean in
     let has : HasTables old.schema = search rules in
-    (up, version_read g.S.Store old new c.in_ok-rows.rows.items (c.book_rows.ensures.kept clean) up has (c.in_ok-rows.ensures.rows clean) (search rules))
+    version_read g.S.Store old new c.in_ok-rows.rows.items c.require_first_version.result (c.book_rows.ensures.kept clean) up has (c.in_ok-rows.ensures.rows clean) (search rules)
 
 pub returns-clause-refused : goal.returns-clause-refused
-returns-clause-refused g c clean book =
+returns-clause-refused g c clean =
     let old = c.args.connection.now in
     let new = c.book_rows.new.connection in
     let up : IsTrue (state g.S.Store new).is_open = c.in_ok-rows.ensures.opened clean in
-    let is = version_missed g.S.Store old new c.in_ok-rows.rows.items (c.book_rows.ensures.kept clean) up (c.in_ok-rows.ensures.rows clean) book in
-    search rules
+    version_missed g.S.Store old new c.in_ok-rows.rows.items c.require_first_version.result (c.book_rows.ensures.kept clean) up (c.in_ok-rows.ensures.rows clean) (search rules)
