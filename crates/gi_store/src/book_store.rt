@@ -96,6 +96,10 @@ impl<S: Alter + Drop> BookStore<S> {
         // what was there with a new book.
         ensures unmade { IfErr result (λ back. IsClean S.Store back.0 → Keeps (state S.Store connection) (state S.Store back.0)) }
         ensures unmade_crash { IfErr result (λ back. IsClean S.Store back.0 → LeavesOrMakes (state S.Store connection) (state S.Store back.0)) }
+
+        // The connection comes back with a transaction under way exactly where one was before, whatever
+        // the disk does.
+        ensures mode { IfErr result (λ back. (state S.Store back.0).in_transaction ≡ (state S.Store connection).in_transaction) }
     {
         match prepare(&mut connection) {
             Ok(()) => Ok(BookStore {

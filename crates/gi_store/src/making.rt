@@ -34,6 +34,7 @@ pub fn make_tables<S: Alter>(connection: &mut Connection<S>) -> Result<(), Error
     requires autocommit { (state S.Store connection.old).in_transaction ≡ false }
     requires free { IsFree (state S.Store connection.old).now.schema }
     ensures early { IsClean S.Store connection.new → IsClean S.Store connection.old }
+    ensures ended { (state S.Store connection.new).in_transaction ≡ false }
     ensures made { IsClean S.Store connection.new → OnOk result (IsMade (state S.Store connection.old) (state S.Store connection.new)) }
     ensures kept { IsClean S.Store connection.new → OnErr result (KeepsCommitted (state S.Store connection.old) (state S.Store connection.new)) }
     ensures crash { IsClean S.Store connection.new → LeavesOrMakes (state S.Store connection.old) (state S.Store connection.new) }

@@ -43,6 +43,9 @@ pub fn prepare<S: Alter>(connection: &mut Connection<S>) -> Result<(), StoreFaul
     // A refusal leaves what can be read as it was.
     ensures unmade { IsClean S.Store connection.new → OnErr result (Keeps (state S.Store connection.old) (state S.Store connection.new)) }
 
+    // Its own transaction is over whatever comes of it, and one that was under way before still is.
+    ensures mode { (state S.Store connection.new).in_transaction ≡ (state S.Store connection.old).in_transaction }
+
     // What was there stays, with a new book beside it or without.
     ensures kept { IsClean S.Store connection.new → IsTrue (state S.Store connection.new).is_open → KeepsOrMakes (state S.Store connection.old) (state S.Store connection.new) }
 

@@ -1,6 +1,6 @@
 //! The statements of a book, one function each.
 
-ghost use Rattle.std.specs.Prelude.{◌≡◌, IsTrue, IfErr, IfOk, OnOk, OnErr, IsPermutation};
+ghost use Rattle.std.specs.Prelude.{◌≡◌, false, IsTrue, IfErr, IfOk, OnOk, OnErr, IsPermutation};
 ghost use Rattle.gi_store.specs.Clean.{IsClean};
 ghost use Rattle.sqlite.specs.Held.{state};
 ghost use Rattle.gi_store.specs.Failing.{Endures, IsCaused};
@@ -17,6 +17,7 @@ pub fn book_rows<S: Alter>(connection: &mut Connection<S>) -> Result<Vec<Row>, E
     requires tables { IsClean S.Store connection.old → HasTables (state S.Store connection.old).now.schema }
     requires idle { IsClean S.Store connection.old → IsIdle (state S.Store connection.old) }
     ensures early { IsClean S.Store connection.new → IsClean S.Store connection.old }
+    ensures mode { (state S.Store connection.old).in_transaction ≡ false → (state S.Store connection.new).in_transaction ≡ false }
     ensures rows { IsClean S.Store connection.new → IfOk result (λ rows. IsPermutation (versions_in (state S.Store connection.new).now) rows.items) }
     ensures opened { IsClean S.Store connection.new → OnOk result (IsTrue (state S.Store connection.new).is_open) }
     ensures idle { IsClean S.Store connection.new → IsIdle (state S.Store connection.new) }

@@ -1,6 +1,6 @@
 //! The version of a book.
 
-ghost use Rattle.std.specs.Prelude.{◌≡◌, ◌↔◌, [], ◌∷◌, IsTrue, Err, IfErr, OnOk};
+ghost use Rattle.std.specs.Prelude.{◌≡◌, ◌↔◌, [], ◌∷◌, false, IsTrue, Err, IfErr, OnOk};
 ghost use Rattle.gi_store.specs.Clean.{IsClean};
 ghost use Rattle.sqlite.specs.Held.{state};
 ghost use Rattle.gi_store.specs.Keeping.{IsFirstBook, IsIdle, Keeps, AddsNoOutcome};
@@ -50,6 +50,7 @@ fn require_first_version(rows: &[Row]) -> Result<(), StoreFault>
 pub fn check_version<S: Alter>(connection: &mut Connection<S>) -> Result<(), StoreFault>
     requires { IsClean S.Store connection.old → IsIdle (state S.Store connection.old) }
     ensures early { IsClean S.Store connection.new → IsClean S.Store connection.old }
+    ensures mode { (state S.Store connection.old).in_transaction ≡ false → (state S.Store connection.new).in_transaction ≡ false }
     ensures version { IsClean S.Store connection.new → OnOk result (IsTrue (state S.Store connection.new).is_open × IsFirstBook (state S.Store connection.new).now) }
     ensures refused { IsClean S.Store connection.new → IfErr result (IsVersionFault (state S.Store connection.old)) }
     ensures named { IfErr result IsRefusal }
