@@ -74,7 +74,7 @@ IsLoadFault s Store = ⊤
 IsLoadFault s OutOfMemory = ⊤
 IsLoadFault s _ = ⊥
 
--- Why a load tells that the database failed: it did, or a row has no whole number, which no table's row lacks.
+-- Why a load tells `Store`: the rows could not be read, or one has no whole number or no body, which no row of a book's tables lacks.
 abbrev pub IsLoadCaused : State → State → StoreFault → Type 0
 IsLoadCaused old new Store = FailsToRead old new ⊎ Stops old Store
 IsLoadCaused old new _ = ⊤

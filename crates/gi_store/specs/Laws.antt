@@ -9,6 +9,6 @@ use Rattle.gi_store.specs.Failing.{HasFailed}
 abbrev pub MemoryIsClean : Type 0
 MemoryIsClean = (c : Held MemStore) → IsClean over_memory c
 
--- from call to call no disk of a database in memory fails
+-- From call to call no disk of a database in memory fails: that cause of a failure (`FailsToRead`) it never has.
 abbrev pub MemoryNeverFails : Type 0
 MemoryNeverFails = (old new : Held MemStore) → ¬ HasFailed (state over_memory old) (state over_memory new)

@@ -44,7 +44,7 @@ impl<S: Alter + Drop> Drop for BookStore<S> {
 
 impl<S: Alter> Model for BookStore<S> {
     ghost use Rattle.gi_store.specs.Clean.{IsClean};
-    ghost use Rattle.sqlite.specs.Held.{Held, state};
+    ghost use Rattle.sqlite.specs.Held.{state};
     ghost use Rattle.gi_store.specs.Book.{BookState, IsCounted, IsKept, book_code};
 
     ghost Value = { BookState S };
@@ -88,7 +88,8 @@ impl<S: Alter + Drop> BookStore<S> {
         // `Version` means that no book was there or could be made.
         ensures refused { IfErr result (λ back. IsClean S.Store back.0 → IsOpenFault (state S.Store connection) back.1) }
 
-        // Where no tables can be made `Store` has its cause, as in a load.
+        // Where no tables can be made `Store` is told where the disk failed, the connection was shut,
+        // queries have a limit on their steps, or another table has the tree of one of the book's.
         ensures failed { (state S.Store connection).in_transaction ≡ false → ¬ (IsFree (state S.Store connection).now.schema)
             → IfErr result (λ back. IsClean S.Store back.0 → IsCaused (state S.Store connection) (state S.Store back.0) back.1) }
 
@@ -131,7 +132,7 @@ impl<S: Alter> BookStore<S> {
         // On `Ok` the rows cover the numbers from 1 on with these facts, and there are no others.
         ensures facts { IsClean S.Store self.new.connection → IfOk result (λ facts. IsRead (state S.Store self.new.connection) facts.items) }
 
-        // A refusal has its cause, and is the first by number.
+        // `Version`, `Gap` and `Damaged` have their cause, and are the first by number.
         ensures refused { IsClean S.Store self.new.connection → IfErr result (IsLoadFault (state S.Store self.old.connection)) }
         ensures named { IfErr result IsLoadRefusal }
 
@@ -139,7 +140,8 @@ impl<S: Alter> BookStore<S> {
         ensures other { ¬ (HasTables (state S.Store self.old.connection).now.schema) → result ≡ Err Version }
 
         // `Store` is told where the disk failed, the connection was shut, queries have a limit on their
-        // steps, or another table has the tree of one of the book's. The disk alone shuts a connection.
+        // steps, another table has the tree of one of the book's, or a row has no whole number or no
+        // body. The disk alone shuts a connection.
         ensures failed { IsClean S.Store self.new.connection → IfErr result (IsLoadCaused (state S.Store self.old.connection) (state S.Store self.new.connection)) }
         ensures endures { IsClean S.Store self.new.connection → Endures (state S.Store self.old.connection) (state S.Store self.new.connection) }
 

@@ -8,8 +8,9 @@ pub fn memory_is_clean()
     ensures { MemoryIsClean }
 {}
 
-/// No disk lies under memory, so none fails there: of what a refusal may come from (`IsLoadCaused`), a
-/// book in memory has a limit on the steps of its queries alone, and what no book made here has.
+/// No disk lies under memory, so none fails there, and none shuts an open connection. Of the causes of
+/// `Store` (`FailsToRead`, `IsLoadCaused`) a limit on the steps of queries is left, and what no table
+/// of SQLite's has: the tree of another one, or a row without a whole number or without a body.
 pub fn memory_never_fails()
     ensures { MemoryNeverFails }
 {}

@@ -37,7 +37,7 @@ pub fn prepare<S: Alter>(connection: &mut Connection<S>) -> Result<(), StoreFaul
     ensures busy { IsTrue (state S.Store connection.old).in_transaction → result ≡ Err Store }
     ensures other { (state S.Store connection.old).in_transaction ≡ false → ¬ (IsFree (state S.Store connection.old).now.schema) → ¬ (HasTables (state S.Store connection.old).now.schema) → result ≡ Err Version }
 
-    // Where the tables cannot be made `Store` has its cause, as in a load.
+    // Where the tables cannot be made `Store` is told where the rows of the version could not be read.
     ensures failed { IsClean S.Store connection.new → (state S.Store connection.old).in_transaction ≡ false → ¬ (IsFree (state S.Store connection.old).now.schema) → IfErr result (IsCaused (state S.Store connection.old) (state S.Store connection.new)) }
 
     // A refusal leaves what can be read as it was.
