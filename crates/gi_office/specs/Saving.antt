@@ -14,7 +14,7 @@ use Rattle.gi_desk.specs.declared.call.Call.TheVariants.{Halt, MarkSaved}
 use Rattle.gi_desk.specs.declared.reply.Answer.{Answer}
 use Rattle.gi_desk.specs.declared.reply.Answer.TheVariants as answers
 use Rattle.gi_store.specs.Batches.{IsLongestFront}
-use Rattle.gi_store.specs.Book.{AddsFacts, AnswersBatch, BookState, IsLoadFault, IsRead, SavesAllOrLeaves, counted}
+use Rattle.gi_store.specs.Book.{AddsFacts, AnswersBatch, BookState, IsLoadCaused, IsLoadFault, IsRead, SavesAllOrLeaves, counted}
 use Rattle.gi_store.specs.Clean.{IsClean}
 use Rattle.gi_store.specs.Facts.{Covers}
 use Rattle.gi_store.specs.Keeping.{AddsNoOutcome, Keeps}
@@ -127,11 +127,14 @@ abbrev pub TellsNext : Option ℕ → StoreFault → Type 0
 TellsNext None fault = Unit {0}
 TellsNext (Some k) fault = fault ≡ NotNext (k + 1)
 
+-- a load was refused for this fault, which has its cause; want of memory has none that a clause can name
+abbrev pub RefusesLoad : State → State → StoreFault → Type 0
+RefusesLoad old new fault = IsLoadFault old fault × IsLoadCaused old new fault
+
 -- Why none of the facts stands in a book. A book that was ahead was loaded again: that was refused, or its facts from this
--- number on are others. In any other the longest front was not saved as the row that comes next. Of a failure of the database and of
--- want of memory a refused load says no cause.
+-- number on are others. In any other the longest front was not saved as the row that comes next.
 pub record IsWriteFault {S : Type 0} (store : Ghosts S) (old new : BookState S) (n : ℕ) (facts : List Fact) (front : ℕ) (fault : StoreFault) : Type 0 where
-  pub ahead : is_ahead n old.loaded ≡ true → IsClean store new.connection → IsLoadFault (state store old.connection) fault ⊎ HasOthers n facts (state store new.connection) fault
+  pub ahead : is_ahead n old.loaded ≡ true → IsClean store new.connection → RefusesLoad (state store old.connection) (state store new.connection) fault ⊎ HasOthers n facts (state store new.connection) fault
   pub read : is_ahead n old.loaded ≡ true → TellsNext new.loaded fault
   pub behind : is_ahead n old.loaded ≡ false → AnswersBatch n (take front facts) old.loaded (Err fault)
 

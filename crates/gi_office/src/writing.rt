@@ -3,10 +3,10 @@
 ghost use Rattle.std.specs.Prelude.{◌≡◌, ◌⊎◌, ◌-◌, ◌≤◌, IfErr, IfOk, IfSome, None, OnOk, Some, false, length, take, true};
 ghost use Rattle.sqlite.specs.Held.{state};
 ghost use Rattle.gi_store.specs.Batches.{IsLongestFront};
-ghost use Rattle.gi_store.specs.Book.{AnswersBatch, IsLoadFault, counted as counted_facts};
+ghost use Rattle.gi_store.specs.Book.{AnswersBatch, counted as counted_facts};
 ghost use Rattle.gi_store.specs.Clean.{IsClean};
 ghost use Rattle.gi_store.specs.Keeping.{AddsNoOutcome, Keeps};
-ghost use Rattle.gi_office.specs.Saving.{AreNext, GoesOnBy, HasFrom, HasOthers, IsWriteFault, Stand, TellsNext, WritesAtMost, WritesNothing, is_ahead as is_ahead_of, next_after as next_after_facts};
+ghost use Rattle.gi_office.specs.Saving.{AreNext, GoesOnBy, HasFrom, HasOthers, IsWriteFault, RefusesLoad, Stand, TellsNext, WritesAtMost, WritesNothing, is_ahead as is_ahead_of, next_after as next_after_facts};
 
 use crate::comparing::are_same_facts;
 use gi_desk::Fact;
@@ -59,7 +59,7 @@ fn find<S: Alter>(book: &mut BookStore<S>, n: u32, facts: &[Fact]) -> Result<usi
     ensures within { IfOk result (λ count. count ≤ length facts.now) }
     ensures some { IfOk result (λ count. 1 ≤ count) }
     ensures has { IsClean S.Store book.new.connection → IfOk result (λ count. HasFrom n (take count facts.now) (state S.Store book.new.connection)) }
-    ensures refused { IsClean S.Store book.new.connection → IfErr result (λ fault. IsLoadFault (state S.Store book.old.connection) fault ⊎ HasOthers n facts.now (state S.Store book.new.connection) fault) }
+    ensures refused { IsClean S.Store book.new.connection → IfErr result (λ fault. RefusesLoad (state S.Store book.old.connection) (state S.Store book.new.connection) fault ⊎ HasOthers n facts.now (state S.Store book.new.connection) fault) }
     ensures read { IfErr result (TellsNext book.new.loaded) }
     ensures kept { IsClean S.Store book.new.connection → Keeps (state S.Store book.old.connection) (state S.Store book.new.connection) }
     ensures crash { IsClean S.Store book.new.connection → AddsNoOutcome (state S.Store book.old.connection) (state S.Store book.new.connection) }
