@@ -1,21 +1,21 @@
 -- What calls come to, by the parts of their definitions.
-use Rattle.std.proofs.Common.{◌≡◌, inl, inr, ℕ, List, Bool, true, false, not, cond, Option, Some, None, Result, Ok, Err, IsTrue, Bor, IfOk, IfErr, refl, sym, ap, ◌∙◌}
+use Rattle.std.proofs.Common.{◌≡◌, ◌||◌, inl, inr, ℕ, List, Bool, true, false, not, cond, Option, Some, None, Result, Ok, Err, IsTrue, Bor, IfOk, IfErr, refl, sym, ap, ◌∙◌}
 use Rattle.std.proofs.lemmas.Bool.{and_from}
 use Rattle.std.specs.Option.{option_copied, unwrap_or}
 use Rattle.std.specs.Str.{bytes_eq}
 use Rattle.gi_pairs.specs.Table.{TableContents}
 use Rattle.gi_pairs.specs.declared.cycle_id.CycleId.{CycleId}
 use Rattle.gi_pairs.specs.declared.side.Side.{Side}
+use Rattle.gi_pairs.specs.declared.side.Side.TheVariants.{I, M}
 use Rattle.gi_messages.specs.declared.message.Message.{Message}
 use Rattle.gi_cycles.specs.declared.cycle_state.CycleState.{CycleState}
 use Rattle.gi_cycles.specs.declared.cycle_state.CycleState.TheVariants.{Collecting}
-use Rattle.gi_desk.specs.Deciding.{IsUnlessShort, address_of, by_order, decision}
+use Rattle.gi_desk.specs.Deciding.{IsDecided, IsUnlessShort, address_of, by_order, decision, may_want_at}
 use Rattle.gi_desk.specs.History.{frozen_cycle, is_closed, met_by, peer_of, state_of}
 use Rattle.gi_desk.specs.Judging.{by_decision, delivered, if_addressed}
-use Rattle.gi_desk.specs.Kept.{closed_state, learns_with_memory}
-use Rattle.gi_desk.specs.Machine.{DeskState, comes_to, is_record, may_want, outcome, unless_full, wants_memory}
+use Rattle.gi_desk.specs.Kept.{closed_state}
+use Rattle.gi_desk.specs.Machine.{DeskState, comes_to, is_record, learns_with_memory, may_want_to_prepare, out_of, outcome, some_leave, unless_full}
 use Rattle.gi_desk.specs.declared.call.Call.{Call}
-use Rattle.gi_desk.specs.declared.call.Call.TheVariants.{Contract, Notice, Submit, Close, Deliver, Resend, MarkSaved, Halt}
 use Rattle.gi_desk.specs.declared.decision.Decision.{Decision}
 use Rattle.gi_desk.specs.declared.decision.Decision.TheVariants.{Refused}
 use Rattle.gi_facts.specs.declared.fact.Fact.{Fact}
@@ -47,8 +47,13 @@ untrue : (b : Bool) → b ≡ false → IsTrue b → ⊥
 untrue true is true_is = absurd cc
 untrue false is true_is = absurd cc
 
-pub unless_short : (wants short : Bool) (decided got : Decision) → IsUnlessShort wants decided got → (got ≡ Refused OutOfMemory → IsTrue short) → short ≡ false → got ≡ decided
+unless_short : (wants short : Bool) (decided got : Decision) → IsUnlessShort wants decided got → (got ≡ Refused OutOfMemory → IsTrue short) → short ≡ false → got ≡ decided
 unless_short wants short decided got is here not_short = elim is [ inl e ↦ e | inr e ↦ absurd (untrue short not_short (here e.1)) ]
+
+pub role-decided : (side : Side) (state : CycleState) (message : Message) (short : Bool) (got : Decision) → IsDecided side state message got → (got ≡ Refused OutOfMemory → IsTrue short)
+    → short ≡ false → got ≡ decision side state message
+role-decided M state message short got is here not_short = is
+role-decided I state message short got is here not_short = unless_short (may_want_at state message) short (decision I state message) got is here not_short
 
 -- ---- the peer's message
 
@@ -78,21 +83,12 @@ unmet-unclosed side facts id peer e =
 
 -- ---- want of memory
 
-pub learnt-wants : (o : Outcome) (call : Call) → IsTrue (learns_with_memory call) → wants_memory o call ≡ true
-learnt-wants o (Submit body) learns = learns
-learnt-wants o (Deliver body) learns = learns
-learnt-wants o (Contract contract) learns = absurd cc
-learnt-wants o (Notice notice) learns = absurd cc
-learnt-wants o (Close id) learns = absurd cc
-learnt-wants o (Resend id) learns = absurd cc
-learnt-wants o (MarkSaved n fact) learns = absurd cc
-learnt-wants o Halt learns = absurd cc
-
 -- a desk that is not halted may want memory wherever it learns with memory
-pub short-wants : (side : Side) (s : DeskState) (call : Call) → s.halted ≡ false → IsTrue (learns_with_memory call) → IsTrue (may_want side s call)
-unfolding may_want
+pub short-wants : (side : Side) (s : DeskState) (call : Call) → s.halted ≡ false → IsTrue (learns_with_memory call) → IsTrue (may_want_to_prepare side s call)
+unfolding may_want_to_prepare
 short-wants side s call running learns =
-    and_from (not s.halted) (wants_memory (outcome side s call) call) (ap not running) (learnt-wants (outcome side s call) call learns)
+    let leaves = some_leave (out_of side s (outcome side s call)) in
+    and_from (not s.halted) (learns_with_memory call || leaves) (ap not running) (ap (λ (b : Bool). b || leaves) learns)
 
 -- ---- outcomes
 

@@ -112,10 +112,10 @@ takings-same side point old fact takings other legal = takings-other old fact ta
 
 -- a desk without facts
 pub kept-none : (side : Side) (point : List ℕ) (facts : List Fact) (entries : List (CycleId × Stage)) (book : Documents) (contracts : Capacity) (takings : List (PortfolioDay × ℕ))
-    → IsCode point → facts ≡ [] → entries ≡ [] → book ≡ record { point = point; documents = [] } → contracts ≡ record { contracts = []; notices = [] }
+    → IsCode point → facts ≡ [] → entries ≡ [] → takings ≡ [] → book ≡ record { point = point; documents = [] } → contracts ≡ record { contracts = []; notices = [] }
     → IsKept side point facts entries book contracts takings 0
 unfolding bad_fact is_closed capacity_of documents_of
-kept-none side point facts entries book contracts takings code none no_stage no_nomination no_contract = record {
+kept-none side point facts entries book contracts takings code none no_stage no_number no_nomination no_contract = record {
   stages = record {
     legal = ap (bad_fact side point) none;
     at = λ id. ap (λ (es : List (CycleId × Stage)). stage_in es id) no_stage ∙ ap (λ (fs : List Fact). closed_stage side fs id) (sym none);
@@ -125,7 +125,7 @@ kept-none side point facts entries book contracts takings code none no_stage no_
     nominations = λ portfolio day. (λ t. in_force portfolio day (no_nomination t).documents) ∙ (λ t. in_force portfolio day (documents_of (sym none t)));
     capacity = subst (λ (c : Capacity). ReadsAs contracts c) (no_contract ∙ ap capacity_of (sym none)) (reads-self contracts);
   };
-  numbers = takings-none facts takings none;
+  numbers = takings-none facts takings none no_number;
   within = omega arith;
   fits = subst (λ (all : List Fact). FitsDesk side point all) (sym none) (fits-none side point code);
 }

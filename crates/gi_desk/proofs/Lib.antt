@@ -7,6 +7,7 @@ pub mod Fitting
 pub mod HistoryLaws
 mod KeptLaws
 mod LastClosed
+mod Leaving
 pub mod Legality
 pub mod LettingOut
 mod Outcomes

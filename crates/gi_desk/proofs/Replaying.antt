@@ -2,7 +2,7 @@
 use Rattle.std.proofs.Common.{◌≡◌, ◌+◌, ◌<◌, ℕ, List, [], ◌∷◌, ◌++◌, length, length-append, append-nil, Bool, true, false, cond, Option, Some, None, Result, Err, refl, sym, ap, subst, ◌∙◌, arith}
 use Rattle.std.proofs.lemmas.List.{append_assoc}
 use Rattle.gi_pairs.specs.declared.side.Side.{Side}
-use Rattle.gi_desk.specs.Machine.{DeskState, IsReplayed, bad_fact, bad_from, may_follow}
+use Rattle.gi_desk.specs.Machine.{BeginsWell, DeskState, IsReplayed, bad_fact, bad_from, may_follow}
 use Rattle.gi_desk.specs.declared.replay_fault.ReplayFault.{ReplayFault}
 use Rattle.gi_desk.specs.declared.replay_fault.ReplayFault.TheVariants.{BadFact, OutOfMemory}
 use Rattle.gi_facts.specs.declared.fact.Fact.{Fact}
@@ -47,19 +47,25 @@ refused_so side point facts s fact later all n legal point_is facts_is never n_i
     ap (λ (fs : List Fact). bad_from side point [] fs) (sym all_is) ∙ first-bad side point [] facts fact later legal here ∙ ap Some number
 
 pub refused_as : (side : Side) (point : List ℕ) (facts : List Fact) (r : Result DeskState ReplayFault) (fault : ReplayFault) → r ≡ Err fault
-    → ((n : ℕ) → fault ≡ BadFact n → bad_fact side point facts ≡ Some n) → 0 < length facts → IsReplayed side point facts r
-refused_as side point facts r fault is bad some = subst (IsReplayed side point facts) (sym is) (by_fault fault bad)
+    → ((n : ℕ) → fault ≡ BadFact n → bad_fact side point facts ≡ Some n) → (fault ≡ OutOfMemory → BeginsWell side point facts) → IsReplayed side point facts r
+refused_as side point facts r fault is bad begins = subst (IsReplayed side point facts) (sym is) (by_fault fault bad begins)
   where
-    by_fault : (fault : ReplayFault) → ((n : ℕ) → fault ≡ BadFact n → bad_fact side point facts ≡ Some n) → IsReplayed side point facts (Err fault)
-    by_fault (BadFact n) bad = bad n refl
-    by_fault OutOfMemory bad = some
+    by_fault : (fault : ReplayFault) → ((n : ℕ) → fault ≡ BadFact n → bad_fact side point facts ≡ Some n) → (fault ≡ OutOfMemory → BeginsWell side point facts) → IsReplayed side point facts (Err fault)
+    by_fault (BadFact n) bad begins = bad n refl
+    by_fault OutOfMemory bad begins = begins refl
 
--- facts with one among them
-pub some_fact : (before : List Fact) (fact : Fact) (later all : List Fact) → before ++ fact ∷ later ≡ all → 0 < length all
-some_fact before fact later all is =
-    let counted = length-append before (fact ∷ later) in
-    let same = ap length is in
-    omega (arith, counted, same)
+-- the first of facts may follow none, where one of them may follow those before it
+first_may : (side : Side) (point : List ℕ) (before : List Fact) (fact : Fact) (later : List Fact) → bad_from side point [] before ≡ None → may_follow side point before fact ≡ true
+    → BeginsWell side point (before ++ fact ∷ later)
+first_may side point [] fact later legal may = may
+first_may side point (first ∷ before) fact later legal may = (legal-first side point [] first before legal).0
+
+pub begins_so : (side : Side) (point : List ℕ) (facts : List Fact) (s : DeskState) (fact : Fact) (later all : List Fact) → bad_fact side point facts ≡ None
+    → s.point ≡ point → s.facts ≡ facts → may_follow side s.point s.facts fact ≡ true → facts ++ fact ∷ later ≡ all → BeginsWell side point all
+unfolding bad_fact
+begins_so side point facts s fact later all legal point_is facts_is may all_is =
+    let here : may_follow side point facts fact ≡ true = (λ t. may_follow side (sym point_is t) (sym facts_is t) fact) ∙ may in
+    subst (BeginsWell side point) all_is (first_may side point facts fact later legal here)
 
 pub nothing_left : (facts : List Fact) → length facts ≡ 0 → facts ≡ []
 nothing_left [] e = refl

@@ -1,5 +1,6 @@
 -- The numbers of the facts that took the nominations in force, after one more fact.
-use Rattle.std.proofs.Common.{arith, ◌≡◌, ◌≤◌, ◌+◌, ℕ, List, [], ◌∷◌, ◌++◌, length, find, reverse, append-nil, append_assoc, Bool, true, false, cond, ◌||◌, ◌&&◌, nat_eq, nat_lt, Some, None, refl, sym, ap, ◌∙◌, subst}
+use Rattle.std.proofs.Common.{arith, ◌≡◌, ◌≤◌, ◌+◌, ℕ, List, [], ◌∷◌, ◌++◌, length, find, reverse, append-nil, append_assoc, Bool, true, false, cond, ◌||◌, ◌&&◌, nat_eq, nat_lt, Option, Some, None, refl, sym, ap, ◌∙◌, subst}
+use Rattle.std.specs.Prelude.{option_map}
 use Rattle.std.specs.BTreeMap.{is_at}
 use Rattle.std.specs.List.{list_any}
 use Rattle.std.proofs.lemmas.Bool.{and_from, and_parts, both_ways}
@@ -19,7 +20,7 @@ use Rattle.gi_desk.specs.History.{documents_of, is_taking, number_of}
 use Rattle.gi_desk.specs.Judging.{setting_of, verdict_on}
 use Rattle.gi_desk.specs.Laws.{KeepsTheHighestVersion, VersionsRise}
 use Rattle.gi_desk.specs.Machine.{bad_fact, bad_from, most_facts, would_record}
-use Rattle.gi_desk.specs.Takings.{AreTakings, taking_in}
+use Rattle.gi_desk.specs.Takings.{AreTakings, taken_at, taking_in}
 use Rattle.gi_facts.specs.declared.fact.Fact.{Fact}
 use Rattle.gi_facts.specs.declared.fact.Fact.TheVariants.{Closed, Contracted, Met, Nominated, Noticed}
 use Rattle.gi_desk.proofs.HistoryLaws.{same_documents, taken-more}
@@ -197,52 +198,61 @@ versions-rise side point before between after document later legal of =
 -- ---- the numbers
 
 -- no nomination is in force of no facts
-pub takings-none : (facts : List Fact) (entries : List (PortfolioDay × ℕ)) → facts ≡ [] → AreTakings facts entries
+pub takings-none : (facts : List Fact) (entries : List (PortfolioDay × ℕ)) → facts ≡ [] → entries ≡ [] → AreTakings facts entries
 unfolding documents_of
-takings-none facts entries none key held e =
-    absurd (none-some held (sym (nothing_in_force key.portfolio key.day) ∙ ap (λ (fs : List Fact). in_force key.portfolio key.day (documents_of fs)) (sym none) ∙ e))
+takings-none facts entries none no_number key =
+    ap (λ (es : List (PortfolioDay × ℕ)). taking_in es key) no_number
+    ∙ sym (ap (option_map (taken_at facts)) (ap (λ (fs : List Fact). in_force key.portfolio key.day (documents_of fs)) none ∙ nothing_in_force key.portfolio key.day))
+
+-- the number of what was in force stays with more facts
+numbers-stay : (facts more : List Fact) (portfolio : List ℕ) (day : Date) (o : Option Nomint) → AreRising facts → in_force portfolio day (documents_of facts) ≡ o
+    → option_map (taken_at facts) o ≡ option_map (taken_at (facts ++ more)) o
+numbers-stay facts more portfolio day None rises is = refl
+numbers-stay facts more portfolio day (Some held) rises is = ap (λ (n : ℕ). Some n) (sym (number_of-more (is_taking held) facts more (rises.taken portfolio day held is)))
 
 -- a fact that takes no nomination changes none
 pub takings-other : (facts : List Fact) (fact : Fact) (entries : List (PortfolioDay × ℕ)) → documents_of (fact ∷ []) ≡ [] → AreRising facts
     → AreTakings facts entries → AreTakings (facts ++ fact ∷ []) entries
-takings-other facts fact entries none rises numbers key held e =
-    let before = ap (in_force key.portfolio key.day) (sym (same_documents facts fact none)) ∙ e in
-    numbers key held before ∙ ap (λ (n : ℕ). Some n) (sym (number_of-more (is_taking held) facts (fact ∷ []) (rises.taken key.portfolio key.day held before)))
+takings-other facts fact entries none rises numbers key =
+    numbers key ∙ numbers-stay facts (fact ∷ []) key.portfolio key.day (in_force key.portfolio key.day (documents_of facts)) rises refl
+    ∙ ap (λ (documents : List Nomint). option_map (taken_at (facts ++ fact ∷ [])) (in_force key.portfolio key.day documents)) (sym (same_documents facts fact none))
 
--- what a map has once a number is put under a portfolio and a gas day
-abbrev pub PutsNumber : List (PortfolioDay × ℕ) → List (PortfolioDay × ℕ) → PortfolioDay → ℕ → Type 0
-PutsNumber old new at number = (key : PortfolioDay) → taking_in new key ≡ cond (is_at (portfolio_day_cmp at) key) (Some number) (taking_in old key)
+-- what a map has once a number is put under a portfolio and a gas day, or is taken out there
+abbrev pub Puts : List (PortfolioDay × ℕ) → List (PortfolioDay × ℕ) → PortfolioDay → Option ℕ → Type 0
+Puts old new at number = (key : PortfolioDay) → taking_in new key ≡ cond (is_at (portfolio_day_cmp at) key) number (taking_in old key)
 
-put-here : (old new : List (PortfolioDay × ℕ)) (document : Nomint) (number : ℕ) (key : PortfolioDay) (b : Bool) → PutsNumber old new (portfolio_day_of document) number
-    → is_of key.portfolio key.day document ≡ b → taking_in new key ≡ cond b (Some number) (taking_in old key)
-put-here old new document number key b puts is = puts key ∙ ap (λ (p : Bool). cond p (Some number) (taking_in old key)) (is_of-own key document ∙ is)
+put-here : (old new : List (PortfolioDay × ℕ)) (document : Nomint) (number : Option ℕ) (key : PortfolioDay) (b : Bool) → Puts old new (portfolio_day_of document) number
+    → is_of key.portfolio key.day document ≡ b → taking_in new key ≡ cond b number (taking_in old key)
+put-here old new document number key b puts is = puts key ∙ ap (λ (p : Bool). cond p number (taking_in old key)) (is_of-own key document ∙ is)
 
 -- the number of one more nomination
 pub takings-taken : (facts : List Fact) (document : Nomint) (number : ℕ) (old new : List (PortfolioDay × ℕ)) → AreRising facts → IsNewer (documents_of facts) document
-    → AreTakings facts old → PutsNumber old new (portfolio_day_of document) number → number ≡ length facts + 1 → AreTakings (facts ++ Nominated document ∷ []) new
-takings-taken facts document number old new rises newer numbers puts number_is key held e = by_key (is_of key.portfolio key.day document) refl
+    → AreTakings facts old → Puts old new (portfolio_day_of document) (Some number) → number ≡ length facts + 1 → AreTakings (facts ++ Nominated document ∷ []) new
+takings-taken facts document number old new rises newer numbers puts number_is key = by_key (is_of key.portfolio key.day document) refl
   where
-    by_key : (b : Bool) → is_of key.portfolio key.day document ≡ b → taking_in new key ≡ Some (number_of (is_taking held) (facts ++ Nominated document ∷ []))
-    by_key true is =
-        let held_is = same_Some document held (sym (force-taken facts document key.portfolio key.day true is) ∙ e) in
-        let last = number_of-last (is_taking document) facts (Nominated document) (none-took facts document rises newer) (taking_itself document) in
-        put-here old new document number key true puts is ∙ ap (λ (n : ℕ). Some n) (number_is ∙ sym last)
-        ∙ ap (λ (d : Nomint). Some (number_of (is_taking d) (facts ++ Nominated document ∷ []))) held_is
-    by_key false is =
-        let before = sym (force-taken facts document key.portfolio key.day false is) ∙ e in
-        put-here old new document number key false puts is ∙ numbers key held before
-        ∙ ap (λ (n : ℕ). Some n) (sym (number_of-more (is_taking held) facts (Nominated document ∷ []) (rises.taken key.portfolio key.day held before)))
+    now : List Fact
+    now = facts ++ Nominated document ∷ []
 
--- a number that is put where no nomination is in force
-pub takings-stray : (facts : List Fact) (document : Nomint) (number : ℕ) (old new : List (PortfolioDay × ℕ)) → in_force document.portfolio document.day (documents_of facts) ≡ None
-    → AreTakings facts old → PutsNumber old new (portfolio_day_of document) number → AreTakings facts new
-takings-stray facts document number old new absent numbers puts key held e = by_key (is_of key.portfolio key.day document) refl
+    by_key : (b : Bool) → is_of key.portfolio key.day document ≡ b → taking_in new key ≡ option_map (taken_at now) (in_force key.portfolio key.day (documents_of now))
+    by_key true is =
+        let last = number_of-last (is_taking document) facts (Nominated document) (none-took facts document rises newer) (taking_itself document) in
+        put-here old new document (Some number) key true puts is ∙ ap (λ (n : ℕ). Some n) (number_is ∙ sym last)
+        ∙ ap (option_map (taken_at now)) (sym (force-taken facts document key.portfolio key.day true is))
+    by_key false is =
+        put-here old new document (Some number) key false puts is ∙ numbers key
+        ∙ numbers-stay facts (Nominated document ∷ []) key.portfolio key.day (in_force key.portfolio key.day (documents_of facts)) rises refl
+        ∙ ap (option_map (taken_at now)) (sym (force-taken facts document key.portfolio key.day false is))
+
+-- a number that is put where no nomination is in force, and taken out again
+pub takings-back : (facts : List Fact) (document : Nomint) (number : ℕ) (old put new : List (PortfolioDay × ℕ)) → in_force document.portfolio document.day (documents_of facts) ≡ None
+    → AreTakings facts old → Puts old put (portfolio_day_of document) (Some number) → Puts put new (portfolio_day_of document) None → AreTakings facts new
+takings-back facts document number old put new absent numbers puts removes key = by_key (is_of key.portfolio key.day document) refl
   where
-    by_key : (b : Bool) → is_of key.portfolio key.day document ≡ b → taking_in new key ≡ Some (number_of (is_taking held) facts)
+    by_key : (b : Bool) → is_of key.portfolio key.day document ≡ b → taking_in new key ≡ option_map (taken_at facts) (in_force key.portfolio key.day (documents_of facts))
     by_key true is =
         let own = is_of-takes key.portfolio key.day document is in
-        absurd (none-some held (sym absent ∙ (λ t. in_force (own.0 t) (own.1 t) (documents_of facts)) ∙ e))
-    by_key false is = put-here old new document number key false puts is ∙ numbers key held e
+        put-here put new document None key true removes is ∙ ap (option_map (taken_at facts)) (sym absent ∙ (λ t. in_force (own.0 t) (own.1 t) (documents_of facts)))
+    by_key false is = put-here put new document None key false removes is ∙ put-here old put document (Some number) key false puts is ∙ numbers key
 
 -- ---- a repeat has the number of the nomination in force
 
@@ -271,5 +281,5 @@ repeat-read point facts document takings numbers e =
     let repeat = verdict-repeat (record { point = point; documents = documents_of facts }) (setting_of facts document) document e in
     let held = repeat.held in
     let own = is_of-takes document.portfolio document.day held (force_of document.portfolio document.day (documents_of facts) held repeat.in_force) in
-    numbers (portfolio_day_of document) held repeat.in_force
+    numbers (portfolio_day_of document) ∙ ap (option_map (taken_at facts)) repeat.in_force
     ∙ (λ t. Some (number_of (λ fact. same_taking held document own.0 own.1 repeat.version fact t) facts))

@@ -81,22 +81,15 @@ HasFewRows (Nomint message) = Unit {0}
 HasFewRows (Acknow message) = Unit {0}
 HasFewRows (Nomres message) = Unit {0}
 
--- To decide on an order may want memory only where a frozen cycle meets a table of its hours, of which it takes a copy: what a
--- cycle met is compared without any.
-abbrev pub order_may_want : TableContents → CycleState → Bool
-order_may_want peer (Collecting id) = false
-order_may_want peer (Frozen cycle) = same_hours cycle.own peer
-order_may_want peer (Matched cycle) = false
-
--- to decide on a response may want it only once the cycle is closed, and for a table of its hours, whose lesser is taken
+-- To decide on a response may want memory only once the cycle is closed, and for a table of its hours, whose lesser is taken.
 abbrev pub response_may_want : TableContents → CycleState → Bool
 response_may_want peer (Collecting id) = false
 response_may_want peer (Frozen cycle) = same_hours cycle.own peer
 response_may_want peer (Matched cycle) = same_hours cycle.own peer
 
 abbrev pub may_want_at : CycleState → Message → Bool
-may_want_at state (Delord message) = order_may_want message.processed state
 may_want_at state (Delres message) = response_may_want message.processed state
+may_want_at state (Delord message) = false
 may_want_at state (Nomint message) = false
 may_want_at state (Acknow message) = false
 may_want_at state (Nomres message) = false
@@ -105,6 +98,7 @@ may_want_at state (Nomres message) = false
 abbrev pub IsUnlessShort : Bool → Decision → Decision → Type 0
 IsUnlessShort wants decided got = (got ≡ decided) ⊎ (IsTrue wants × (got ≡ Refused OutOfMemory))
 
--- what a role decides
+-- what a role decides: the matching side wants no memory for it
 abbrev pub IsDecided : Side → CycleState → Message → Decision → Type 0
-IsDecided side state message got = IsUnlessShort (may_want_at state message) (decision side state message) got
+IsDecided M state message got = got ≡ decision M state message
+IsDecided I state message got = IsUnlessShort (may_want_at state message) (decision I state message) got

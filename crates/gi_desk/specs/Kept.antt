@@ -8,10 +8,8 @@ use Rattle.gi_nominations.specs.Book.{in_force}
 use Rattle.gi_cycles.specs.declared.cycle_state.CycleState.{CycleState}
 use Rattle.gi_cycles.specs.declared.cycle_state.CycleState.TheVariants.{Collecting, Frozen, Matched}
 use Rattle.gi_desk.specs.History.{closings, is_closed, state_of}
-use Rattle.gi_desk.specs.Machine.{DeskState, can_be_read, most_facts, would_record}
+use Rattle.gi_desk.specs.Machine.{DeskState, most_facts, would_record}
 use Rattle.gi_facts.specs.Same.{same_cycle}
-use Rattle.gi_desk.specs.declared.call.Call.{Call}
-use Rattle.gi_desk.specs.declared.call.Call.TheVariants.{Contract, Notice, Submit, Close, Deliver, Resend, MarkSaved, Halt}
 use Rattle.gi_facts.specs.declared.fact.Fact.{Fact}
 use Rattle.gi_facts.specs.declared.fact.Fact.TheVariants.{Contracted, Noticed, Nominated, Closed, Met}
 use Rattle.gi_desk.specs.declared.outcome.Outcome.{Outcome}
@@ -47,17 +45,6 @@ CanFollow side s (Saves n) = (n ≡ s.saved + 1) × (n ≤ length s.facts)
 CanFollow side s (Resends id) = Unit {0}
 CanFollow side s Stops = Unit {0}
 CanFollow side s (Refuses refusal) = Unit {0}
-
--- the calls whose refusals may want memory to be learnt: those of a message, which has to be read
-abbrev pub learns_with_memory : Call → Bool
-learns_with_memory (Contract contract) = false
-learns_with_memory (Notice notice) = false
-learns_with_memory (Submit body) = can_be_read body
-learns_with_memory (Close id) = false
-learns_with_memory (Deliver body) = can_be_read body
-learns_with_memory (Resend id) = false
-learns_with_memory (MarkSaved n fact) = false
-learns_with_memory Halt = false
 
 -- the facts that change how far a cycle is
 abbrev pub changes_cycle : Fact → Bool

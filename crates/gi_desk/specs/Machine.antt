@@ -1,6 +1,7 @@
 -- The desk as a machine: its state is a list of facts, how many of them are saved, and whether it is halted. Every
 -- answer, every packet and the next state are functions of the state and the call.
-use Rattle.std.specs.Prelude.{◌≡◌, ◌<◌, ℕ, ◌+◌, List, [], ◌∷◌, ◌++◌, length, take, filter, Bool, true, false, not, ◌&&◌, nat_le, nat_lt, IsTrue, ◌⊎◌, if◌then◌else◌, Option, Some, None, Result, Ok, Err}
+use Rattle.std.specs.Prelude.{◌≡◌, ℕ, ◌+◌, List, [], ◌∷◌, ◌++◌, length, take, filter, Bool, true, false, not, ◌&&◌, ◌||◌, nat_le, nat_lt, IsTrue, ◌⊎◌, if◌then◌else◌, Option, Some, None, Result, Ok, Err}
+use Rattle.std.specs.Str.{is_utf8}
 use Rattle.gi_pairs.specs.Limits.{most_processed_rows}
 use Rattle.gi_pairs.specs.declared.side.Side.{Side}
 use Rattle.gi_messages.specs.Decoding.{decoded}
@@ -114,34 +115,40 @@ prepared side s call = record { outcome = outcome side s call; reply = reply sid
 abbrev pub IsPrepared : Side → DeskState → Prepared → Type 0
 IsPrepared side s p = (call : Call) × (p ≡ prepared side s call)
 
--- to refuse and to halt want no memory
-abbrev pub grows : Outcome → Bool
-grows (Records fact) = true
-grows (RepeatsNomination n) = true
-grows (RepeatsMeeting n) = true
-grows (Saves n) = true
-grows (Resends id) = true
-grows Stops = false
-grows (Refuses refusal) = false
-
--- a message that is not too large to be read
+-- a message that can be read: it is not too large, and text
 abbrev pub can_be_read : List ℕ → Bool
-can_be_read body = nat_le (length body) most_bytes
+can_be_read body = nat_le (length body) most_bytes && is_utf8 body
 
--- A step may want memory on no halted desk, for no halt, for no message that is too large, and for no refused contract,
--- notice, closing, resending or mark.
-abbrev pub wants_memory : Outcome → Call → Bool
-wants_memory o (Contract contract) = grows o
-wants_memory o (Notice notice) = grows o
-wants_memory o (Submit body) = can_be_read body
-wants_memory o (Close id) = grows o
-wants_memory o (Deliver body) = can_be_read body
-wants_memory o (Resend id) = grows o
-wants_memory o (MarkSaved n fact) = grows o
-wants_memory o Halt = false
+-- the calls of which memory may be wanted to learn what they come to: those of a message that can be read
+abbrev pub learns_with_memory : Call → Bool
+learns_with_memory (Contract contract) = false
+learns_with_memory (Notice notice) = false
+learns_with_memory (Submit body) = can_be_read body
+learns_with_memory (Close id) = false
+learns_with_memory (Deliver body) = can_be_read body
+learns_with_memory (Resend id) = false
+learns_with_memory (MarkSaved n fact) = false
+learns_with_memory Halt = false
 
+-- whether packets leave
+abbrev pub some_leave : List Packet → Bool
+some_leave [] = false
+some_leave (packet ∷ packets) = true
+
+-- whether a fact is recorded
+abbrev pub is_record : Outcome → Bool
+is_record (Records fact) = true
+is_record other = false
+
+-- To learn what a call comes to, and to write what leaves, may want memory on a desk that is not halted: for a message
+-- that can be read, and where packets leave.
+unfoldable pub may_want_to_prepare : Side → DeskState → Call → Bool
+may_want_to_prepare side s call = not s.halted && (learns_with_memory call || some_leave (out_of side s (outcome side s call)))
+
+-- A step may want memory besides where it records a fact: so never on a halted desk, for a halt, for a message that is too
+-- large or no text, for another call that is refused, or for a mark or a resending that lets nothing out.
 unfoldable pub may_want : Side → DeskState → Call → Bool
-may_want side s call = not s.halted && wants_memory (outcome side s call) call
+may_want side s call = may_want_to_prepare side s call || is_record (outcome side s call)
 
 abbrev pub out_of_memory : Reply
 out_of_memory = record { answer = answers.Refused refusals.OutOfMemory; out = [] }
@@ -153,13 +160,9 @@ IsStep side old call r new =
 
 -- that reply beforehand, with nothing changed
 abbrev pub IsForeseen : Side → DeskState → Call → Reply → Type 0
-IsForeseen side s call r = (r ≡ reply side s call) ⊎ ((r ≡ out_of_memory) × IsTrue (may_want side s call))
+IsForeseen side s call r = (r ≡ reply side s call) ⊎ ((r ≡ out_of_memory) × IsTrue (may_want_to_prepare side s call))
 
 -- whether a desk with these facts would record the fact for some call
-abbrev pub is_record : Outcome → Bool
-is_record (Records fact) = true
-is_record other = false
-
 abbrev pub would_record : Side → List ℕ → List Fact → Fact → Bool
 would_record side point history (facts.Contracted contract) = is_record (contracted history contract)
 would_record side point history (facts.Noticed notice) = is_record (noticed notice)
@@ -183,9 +186,14 @@ bad_from side point before (fact ∷ later) =
 unfoldable pub bad_fact : Side → List ℕ → List Fact → Option ℕ
 bad_fact side point history = bad_from side point [] history
 
--- A desk of given facts: all of them are saved, and it is not halted. It refuses the first bad one. A desk without
--- facts wants no memory.
+-- there is a first fact, and it is no bad one
+abbrev pub BeginsWell : Side → List ℕ → List Fact → Type 0
+BeginsWell side point [] = ⊥
+BeginsWell side point (first ∷ later) = may_follow side point [] first ≡ true
+
+-- A desk of given facts: all of them are saved, and it is not halted. It refuses the first bad one. Memory is wanted once
+-- the first fact is recorded: so none for no facts, or where the first one is bad.
 abbrev pub IsReplayed : Side → List ℕ → List Fact → Result DeskState ReplayFault → Type 0
 IsReplayed side point facts (Ok s) = (bad_fact side point facts ≡ None) × (s ≡ record { point = point; facts = facts; saved = length facts; halted = false })
 IsReplayed side point facts (Err (BadFact n)) = bad_fact side point facts ≡ Some n
-IsReplayed side point facts (Err OutOfMemory) = 0 < length facts
+IsReplayed side point facts (Err OutOfMemory) = BeginsWell side point facts

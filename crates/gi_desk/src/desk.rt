@@ -32,8 +32,7 @@ pub struct Desk<R: Role> {
     book: Book,
     /// The contracts that stand by them, and what the notices leave.
     contracts: Contracts,
-    /// The number of the fact that took each nomination in force. Where none is in force a number may
-    /// stand, and says nothing.
+    /// The number of the fact that took each nomination in force.
     takings: BTreeMap<PortfolioDay, u32>,
     /// How far each closed cycle is.
     stages: BTreeMap<CycleId, Stage>,

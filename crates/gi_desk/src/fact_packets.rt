@@ -1,16 +1,17 @@
 //! What a fact lets out, by what it records.
 
-ghost use Rattle.std.specs.Prelude.{◌≡◌, ◌∷◌, [], IfOk};
+ghost use Rattle.std.specs.Prelude.{◌≡◌, ◌∷◌, [], IfErr, IfOk, IsTrue, is_some};
 ghost use Rattle.gi_messages.specs.Writing.{text_of};
 ghost use Rattle.gi_messages.specs.declared.message.Message.TheVariants as messages;
 ghost use Rattle.gi_desk.specs.LetOut.{frozen_of, let_out_on_closing, sent as sent_of};
+ghost use Rattle.gi_desk.specs.Machine.{some_leave};
 ghost use Rattle.gi_desk.specs.Messages.{acknow_of, on_closed, on_met, to_user};
 
 use crate::packet::{Packet, Recipient};
 use crate::role::Role;
 use gi_cycles::{Collecting, CycleState, Frozen, Matched};
 use gi_messages::{Acknow, Message, Nomint};
-use gi_pairs::Code;
+use gi_pairs::{Code, Side};
 use std::alloc::{AllocError, Global};
 
 /// The one packet of a message, which is dropped.
@@ -24,7 +25,8 @@ fn packet_of(alloc: Global, to: Recipient, message: Message) -> Result<Vec<Packe
 }
 
 fn sent(alloc: Global, message: Option<Message>) -> Result<Vec<Packet>, AllocError>
-    ensures { IfOk result (λ packets. packets.items ≡ sent_of message) }
+    ensures value { IfOk result (λ packets. packets.items ≡ sent_of message) }
+    ensures short { IfErr result (λ _. IsTrue (some_leave (sent_of message))) }
 {
     match message {
         Some(message) => packet_of(alloc, Recipient::Peer, message),
@@ -52,14 +54,19 @@ fn frozen_again(cycle: &Matched) -> Result<Frozen, AllocError>
     Ok(Collecting::new(cycle.id()).close(own))
 }
 
-/// What a role writes of the closing of a cycle that has met.
+/// What a role writes of the closing of a cycle that has met. The matching side writes nothing, and
+/// so copies nothing.
 fn on_closed_again<R: Role>(
     alloc: Global,
     point: Code,
     cycle: &Matched,
 ) -> Result<Option<Message>, AllocError>
-    ensures { IfOk result (λ message. message ≡ on_closed R.SIDE point (frozen_of cycle.now)) }
+    ensures value { IfOk result (λ message. message ≡ on_closed R.SIDE point (frozen_of cycle.now)) }
+    ensures short { IfErr result (λ _. IsTrue (is_some (on_closed R.SIDE point (frozen_of cycle.now)))) }
 {
+    if R::SIDE == Side::M {
+        return Ok(None);
+    }
     let frozen = frozen_again(cycle)?;
     let message = R::on_closed(alloc, point, &frozen);
     drop(frozen);
@@ -71,7 +78,8 @@ pub(crate) fn on_closing<R: Role>(
     point: Code,
     state: &CycleState,
 ) -> Result<Vec<Packet>, AllocError>
-    ensures { IfOk result (λ packets. packets.items ≡ let_out_on_closing R.SIDE point state.now) }
+    ensures value { IfOk result (λ packets. packets.items ≡ let_out_on_closing R.SIDE point state.now) }
+    ensures short { IfErr result (λ _. IsTrue (some_leave (let_out_on_closing R.SIDE point state.now))) }
 {
     let message = match state {
         CycleState::Collecting(_) => None,
@@ -86,7 +94,8 @@ pub(crate) fn on_meeting<R: Role>(
     point: Code,
     cycle: &Matched,
 ) -> Result<Vec<Packet>, AllocError>
-    ensures { IfOk result (λ packets. packets.items ≡ sent_of (on_met R.SIDE point cycle.now)) }
+    ensures value { IfOk result (λ packets. packets.items ≡ sent_of (on_met R.SIDE point cycle.now)) }
+    ensures short { IfErr result (λ _. IsTrue (some_leave (sent_of (on_met R.SIDE point cycle.now)))) }
 {
     sent(alloc, R::on_met(alloc, point, cycle)?)
 }

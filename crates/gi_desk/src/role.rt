@@ -1,4 +1,4 @@
-ghost use Rattle.std.specs.Prelude.{◌≡◌, IfOk};
+ghost use Rattle.std.specs.Prelude.{◌≡◌, IfErr, IfOk, IsTrue, is_some};
 ghost use Rattle.gi_desk.specs.Deciding.{HasFewRows, IsDecided, IsForRole};
 ghost use Rattle.gi_desk.specs.Messages.{on_closed as order_on_closing, on_met as response_on_meeting};
 
@@ -20,19 +20,22 @@ pub trait Role {
     /// What comes of the peer's message, of the kind that is for this side and with at most 4,096
     /// processed rows, in a state of its cycle: `NotClosed` while nominations are collected, then
     /// `ShapeDiffers`, then at the initiating side `NotTheLesser`. A frozen cycle meets the
-    /// message's table; a matched one has met it already or answers `Conflict`. `OutOfMemory` comes
-    /// only where the cycle is closed and the hours are the same. A message of another kind does not
-    /// come here: the desk refuses it.
-    fn decide(alloc: Global, state: &CycleState, message: &Message) -> Decision
-        requires kind { IsForRole SIDE message.now }
-        requires few { HasFewRows message.now }
-        ensures { IsDecided SIDE state.now message.now result };
+    /// message's table, which is moved out of it; a matched one has met it already or answers
+    /// `Conflict`. `OutOfMemory` comes only at the initiating side, and only where the cycle is
+    /// closed and the hours are the same. A message of another kind does not come here: the desk
+    /// refuses it.
+    fn decide(alloc: Global, state: &CycleState, message: Message) -> Decision
+        requires kind { IsForRole SIDE message }
+        requires few { HasFewRows message }
+        ensures { IsDecided SIDE state.now message result };
 
     /// What the peer is sent when the cycle is closed, at the interconnection point.
     fn on_closed(alloc: Global, point: Code, cycle: &Frozen) -> Result<Option<Message>, AllocError>
-        ensures { IfOk result (λ message. message ≡ order_on_closing SIDE point cycle.now) };
+        ensures value { IfOk result (λ message. message ≡ order_on_closing SIDE point cycle.now) }
+        ensures short { IfErr result (λ _. IsTrue (is_some (order_on_closing SIDE point cycle.now))) };
 
     /// What the peer is sent when the cycle has met the peer's table.
     fn on_met(alloc: Global, point: Code, cycle: &Matched) -> Result<Option<Message>, AllocError>
-        ensures { IfOk result (λ message. message ≡ response_on_meeting SIDE point cycle.now) };
+        ensures value { IfOk result (λ message. message ≡ response_on_meeting SIDE point cycle.now) }
+        ensures short { IfErr result (λ _. IsTrue (is_some (response_on_meeting SIDE point cycle.now))) };
 }

@@ -1,8 +1,9 @@
 //! What the portfolios of a side are told.
 
-ghost use Rattle.std.specs.Prelude.{◌≡◌, IfOk, IsTrue, OnOk, Some, map};
+ghost use Rattle.std.specs.Prelude.{◌≡◌, ◌<◌, IfErr, IfOk, IsTrue, OnOk, Some, is_some, length, map};
 ghost use Rattle.gi_messages.specs.declared.message.Message.TheVariants as messages;
 ghost use Rattle.gi_desk.specs.Messages.{line_of as line_of_row, lines_of as lines_of_rows, portfolios_in as portfolios_in_rows, to_user, told_of, told_packets as told_packets_of, with_code};
+ghost use Rattle.gi_desk.specs.Machine.{some_leave};
 ghost use Rattle.gi_desk.specs.Queries.{stands_in as stands_in_rows, told_if as told_if_met};
 
 use crate::packet::{Packet, Recipient};
@@ -68,7 +69,8 @@ pub(crate) fn told_if(
     cycle: &Matched,
     portfolio: Code,
 ) -> Result<Option<Nomres>, AllocError>
-    ensures { IfOk result (λ nomres. nomres ≡ told_if_met side point portfolio (Some cycle.now)) }
+    ensures value { IfOk result (λ nomres. nomres ≡ told_if_met side point portfolio (Some cycle.now)) }
+    ensures short { IfErr result (λ _. IsTrue (is_some (told_if_met side point portfolio (Some cycle.now)))) }
 {
     if !stands_in(side, portfolio, cycle.confirmed().rows()) {
         return Ok(None);
@@ -99,7 +101,8 @@ pub(crate) fn packets_for(
     cycle: &Matched,
     portfolios: &[Code],
 ) -> Result<Vec<Packet>, AllocError>
-    ensures { IfOk result (λ packets. packets.items ≡ map (λ portfolio. to_user portfolio (messages.Nomres (told_of side point cycle.now portfolio))) portfolios.now) }
+    ensures value { IfOk result (λ packets. packets.items ≡ map (λ portfolio. to_user portfolio (messages.Nomres (told_of side point cycle.now portfolio))) portfolios.now) }
+    ensures short { IfErr result (λ _. 0 < length portfolios.now) }
 {
     let mut packets = Vec::with_capacity(alloc, portfolios.len())?;
     for portfolio in portfolios {
@@ -130,7 +133,8 @@ fn is_that(last: &Option<Code>, code: Code) -> bool
 
 /// Rows of one portfolio often follow each other, and then it is looked for once.
 fn portfolios_in(alloc: Global, side: Side, rows: &[Row]) -> Result<Vec<Code>, AllocError>
-    ensures { IfOk result (λ codes. codes.items ≡ portfolios_in_rows side rows.now) }
+    ensures value { IfOk result (λ codes. codes.items ≡ portfolios_in_rows side rows.now) }
+    ensures short { IfErr result (λ _. 0 < length rows.now) }
 {
     let mut codes = Vec::new(alloc);
     let mut last = None;
@@ -151,7 +155,8 @@ pub(crate) fn told_packets(
     point: Code,
     cycle: &Matched,
 ) -> Result<Vec<Packet>, AllocError>
-    ensures { IfOk result (λ packets. packets.items ≡ told_packets_of side point cycle.now) }
+    ensures value { IfOk result (λ packets. packets.items ≡ told_packets_of side point cycle.now) }
+    ensures short { IfErr result (λ _. IsTrue (some_leave (told_packets_of side point cycle.now))) }
 {
     let portfolios = portfolios_in(alloc, side, cycle.confirmed().rows())?;
     packets_for(alloc, side, point, cycle, &portfolios)

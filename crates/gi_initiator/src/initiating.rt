@@ -16,10 +16,14 @@ impl Role for Initiating {
 
     const SIDE: Side = Side::I;
 
-    fn decide(alloc: Global, state: &CycleState, message: &Message) -> Decision {
+    fn decide(alloc: Global, state: &CycleState, message: Message) -> Decision {
         match message {
             Message::Delres(response) => take_response(alloc, state, response),
-            _ => Decision::Refused(Refusal::WrongKind),
+            other => {
+                // (handed to drop, by one call: going out of scope here would be checked field by field on each way out)
+                drop(other);
+                Decision::Refused(Refusal::WrongKind)
+            }
         }
     }
 

@@ -16,10 +16,14 @@ impl Role for Matching {
 
     const SIDE: Side = Side::M;
 
-    fn decide(_alloc: Global, state: &CycleState, message: &Message) -> Decision {
+    fn decide(_alloc: Global, state: &CycleState, message: Message) -> Decision {
         match message {
             Message::Delord(order) => take_order(state, order),
-            _ => Decision::Refused(Refusal::WrongKind),
+            other => {
+                // (handed to drop, by one call: going out of scope here would be checked field by field on each way out)
+                drop(other);
+                Decision::Refused(Refusal::WrongKind)
+            }
         }
     }
 

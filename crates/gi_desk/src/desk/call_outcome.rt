@@ -5,8 +5,7 @@ ghost use Rattle.gi_messages.specs.Decoding.{decoded};
 ghost use Rattle.gi_desk.specs.History.{state_of};
 ghost use Rattle.gi_desk.specs.Deciding.{HasFewRows, IsForRole, decision};
 ghost use Rattle.gi_desk.specs.Judging.{by_decision as by_decision_of, closed as closed_of, delivered as delivered_of, nominated as nominated_of, resent as resent_of, submitted as submitted_of, verdict_on};
-ghost use Rattle.gi_desk.specs.Kept.{learns_with_memory};
-ghost use Rattle.gi_desk.specs.Machine.{can_be_read, comes_to as comes_to_of, may_want, outcome as outcome_of, would_record as would_record_of};
+ghost use Rattle.gi_desk.specs.Machine.{can_be_read, comes_to as comes_to_of, learns_with_memory, may_want_to_prepare, outcome as outcome_of, would_record as would_record_of};
 ghost use Rattle.gi_facts.specs.declared.fact.Fact.TheVariants.{Met, Nominated};
 
 use crate::call::Call;
@@ -95,10 +94,10 @@ impl<R: Role> Desk<R> {
         }
     }
 
-    fn decided(&self, id: &CycleId, message: &Message) -> Result<Outcome, AllocError>
-        requires kind { IsForRole R.SIDE message.now }
-        requires few { HasFewRows message.now }
-        ensures { IfOk result (λ outcome. outcome ≡ by_decision_of self.now.facts id.now (decision R.SIDE (state_of R.SIDE self.now.facts id.now) message.now)) }
+    fn decided(&self, id: &CycleId, message: Message) -> Result<Outcome, AllocError>
+        requires kind { IsForRole R.SIDE message }
+        requires few { HasFewRows message }
+        ensures { IfOk result (λ outcome. outcome ≡ by_decision_of self.now.facts id.now (decision R.SIDE (state_of R.SIDE self.now.facts id.now) message)) }
     {
         let collecting = CycleState::Collecting(Collecting::new(*id));
         let state = self.find(id).unwrap_or(&collecting);
@@ -112,14 +111,17 @@ impl<R: Role> Desk<R> {
     }
 
     /// What a message that could be read comes to, where the peer sent it.
-    fn received(&self, message: &Message) -> Result<Outcome, AllocError>
-        requires { HasFewRows message.now }
-        ensures { IfOk result (λ outcome. outcome ≡ delivered_of R.SIDE self.now.point self.now.facts (Ok message.now)) }
+    fn received(&self, message: Message) -> Result<Outcome, AllocError>
+        requires { HasFewRows message }
+        ensures { IfOk result (λ outcome. outcome ≡ delivered_of R.SIDE self.now.point self.now.facts (Ok message)) }
     {
-        let Some((point, id)) = addressed(R::SIDE, message) else {
+        let Some((point, id)) = addressed(R::SIDE, &message) else {
+            // (handed to drop, by one call: going out of scope here would be checked field by field on each way out)
+            drop(message);
             return Ok(Outcome::Refuses(Refusal::WrongKind));
         };
         if point != self.point {
+            drop(message);
             return Ok(Outcome::Refuses(Refusal::WrongPoint));
         }
         self.decided(&id, message)
@@ -129,14 +131,11 @@ impl<R: Role> Desk<R> {
         ensures value { IfOk result (λ outcome. outcome ≡ delivered_of R.SIDE self.now.point self.now.facts (decoded bytes.now)) }
         ensures short { IfErr result (λ _. IsTrue (can_be_read bytes.now)) }
     {
-        let message = match decode(self.alloc, bytes) {
-            Ok(message) => message,
-            Err(MessageFault::OutOfMemory) => return Err(AllocError),
-            Err(fault) => return Ok(Outcome::Refuses(Refusal::Message(fault))),
-        };
-        let outcome = self.received(&message);
-        drop(message);
-        outcome
+        match decode(self.alloc, bytes) {
+            Ok(message) => self.received(message),
+            Err(MessageFault::OutOfMemory) => Err(AllocError),
+            Err(fault) => Ok(Outcome::Refuses(Refusal::Message(fault))),
+        }
     }
 
     fn resending(&self, id: &CycleId) -> Outcome
@@ -166,7 +165,7 @@ impl<R: Role> Desk<R> {
 
     pub(super) fn outcome(&self, call: &Call) -> Result<Outcome, AllocError>
         ensures value { IfOk result (λ outcome. outcome ≡ outcome_of R.SIDE self.now call.now) }
-        ensures short { IfErr result (λ _. IsTrue (may_want R.SIDE self.now call.now)) }
+        ensures short { IfErr result (λ _. IsTrue (may_want_to_prepare R.SIDE self.now call.now)) }
     {
         if self.halted {
             return Ok(Outcome::Refuses(Refusal::Halted));

@@ -5,7 +5,7 @@ ghost use Rattle.gi_cycles.specs.declared.cycle_state.CycleState.TheVariants as 
 ghost use Rattle.gi_desk.specs.History.{is_closed, is_closing, is_meeting, number_of, peer_of, state_of};
 ghost use Rattle.gi_desk.specs.Kept.{CanFollow};
 ghost use Rattle.gi_desk.specs.LetOut.{IsFact, let_out as let_out_of, sent};
-ghost use Rattle.gi_desk.specs.Machine.{grows, is_for_peer, out_of, saved_out as saved_out_of};
+ghost use Rattle.gi_desk.specs.Machine.{is_for_peer, out_of, saved_out as saved_out_of, some_leave};
 ghost use Rattle.gi_desk.specs.Messages.{on_met, told_packets as told_packets_of};
 
 use crate::desk::Desk;
@@ -47,7 +47,8 @@ impl<R: Role> Desk<R> {
     }
 
     fn let_out_on_meeting(&self, cycle: &Matched) -> Result<Vec<Packet>, AllocError>
-        ensures { IfOk result (λ packets. packets.items ≡ sent (on_met R.SIDE self.now.point cycle.now) ++ told_packets_of R.SIDE self.now.point cycle.now) }
+        ensures value { IfOk result (λ packets. packets.items ≡ sent (on_met R.SIDE self.now.point cycle.now) ++ told_packets_of R.SIDE self.now.point cycle.now) }
+        ensures short { IfErr result (λ _. IsTrue (some_leave (sent (on_met R.SIDE self.now.point cycle.now) ++ told_packets_of R.SIDE self.now.point cycle.now))) }
     {
         let mut packets = on_meeting::<R>(self.alloc, self.point, cycle)?;
         let mut told = told_packets(self.alloc, R::SIDE, self.point, cycle)?;
@@ -58,7 +59,8 @@ impl<R: Role> Desk<R> {
     pub(super) fn for_peer(&self, n: u32) -> Result<Vec<Packet>, AllocError>
         requires from { 1 ≤ n }
         requires to { n ≤ length self.now.facts }
-        ensures { IfOk result (λ packets. packets.items ≡ filter is_for_peer (let_out_of R.SIDE self.now.point self.now.facts n)) }
+        ensures value { IfOk result (λ packets. packets.items ≡ filter is_for_peer (let_out_of R.SIDE self.now.point self.now.facts n)) }
+        ensures short { IfErr result (λ _. IsTrue (some_leave (filter is_for_peer (let_out_of R.SIDE self.now.point self.now.facts n)))) }
     {
         match self.numbered(n) {
             Fact::Closed(id) => on_closing::<R>(self.alloc, self.point, self.closed_state(id)),
@@ -70,7 +72,8 @@ impl<R: Role> Desk<R> {
     pub(super) fn let_out(&self, n: u32) -> Result<Vec<Packet>, AllocError>
         requires from { 1 ≤ n }
         requires to { n ≤ length self.now.facts }
-        ensures { IfOk result (λ packets. packets.items ≡ let_out_of R.SIDE self.now.point self.now.facts n) }
+        ensures value { IfOk result (λ packets. packets.items ≡ let_out_of R.SIDE self.now.point self.now.facts n) }
+        ensures short { IfErr result (λ _. IsTrue (some_leave (let_out_of R.SIDE self.now.point self.now.facts n))) }
     {
         match self.numbered(n) {
             Fact::Nominated(document) => on_taking(self.alloc, document),
@@ -82,7 +85,8 @@ impl<R: Role> Desk<R> {
 
     fn saved_out(&self, n: u32) -> Result<Vec<Packet>, AllocError>
         requires { 1 ≤ n }
-        ensures { IfOk result (λ packets. packets.items ≡ saved_out_of R.SIDE self.now n) }
+        ensures value { IfOk result (λ packets. packets.items ≡ saved_out_of R.SIDE self.now n) }
+        ensures short { IfErr result (λ _. IsTrue (some_leave (saved_out_of R.SIDE self.now n))) }
     {
         if n > self.saved {
             return Ok(Vec::new(self.alloc));
@@ -92,7 +96,8 @@ impl<R: Role> Desk<R> {
 
     fn saved_for_peer(&self, n: u32) -> Result<Vec<Packet>, AllocError>
         requires { 1 ≤ n }
-        ensures { IfOk result (λ packets. packets.items ≡ filter is_for_peer (saved_out_of R.SIDE self.now n)) }
+        ensures value { IfOk result (λ packets. packets.items ≡ filter is_for_peer (saved_out_of R.SIDE self.now n)) }
+        ensures short { IfErr result (λ _. IsTrue (some_leave (filter is_for_peer (saved_out_of R.SIDE self.now n)))) }
     {
         if self.saved < n {
             return Ok(Vec::new(self.alloc));
@@ -101,7 +106,8 @@ impl<R: Role> Desk<R> {
     }
 
     fn resent(&self, id: &CycleId) -> Result<Vec<Packet>, AllocError>
-        ensures { IfOk result (λ packets. packets.items ≡ saved_out_of R.SIDE self.now (number_of (is_closing id.now) self.now.facts) ++ saved_out_of R.SIDE self.now (number_of (is_meeting id.now) self.now.facts)) }
+        ensures value { IfOk result (λ packets. packets.items ≡ saved_out_of R.SIDE self.now (number_of (is_closing id.now) self.now.facts) ++ saved_out_of R.SIDE self.now (number_of (is_meeting id.now) self.now.facts)) }
+        ensures short { IfErr result (λ _. IsTrue (some_leave (saved_out_of R.SIDE self.now (number_of (is_closing id.now) self.now.facts) ++ saved_out_of R.SIDE self.now (number_of (is_meeting id.now) self.now.facts)))) }
     {
         let mut packets = self.saved_out(self.number_of_closing(id))?;
         let mut later = self.saved_out(self.number_of_meeting(id))?;
@@ -112,7 +118,7 @@ impl<R: Role> Desk<R> {
     pub(super) fn out(&self, outcome: &Outcome) -> Result<Vec<Packet>, AllocError>
         requires { CanFollow R.SIDE self.now outcome.now }
         ensures value { IfOk result (λ packets. packets.items ≡ out_of R.SIDE self.now outcome.now) }
-        ensures short { IfErr result (λ _. IsTrue (grows outcome.now)) }
+        ensures short { IfErr result (λ _. IsTrue (some_leave (out_of R.SIDE self.now outcome.now))) }
     {
         match outcome {
             Outcome::RepeatsNomination { n } => self.saved_out(*n),

@@ -1,9 +1,10 @@
 //! What a desk is asked without a step.
 
-ghost use Rattle.std.specs.Prelude.{◌≡◌, IfOk, IfSome, nat_lt};
+ghost use Rattle.std.specs.Prelude.{◌≡◌, IfErr, IfOk, IfSome, IsTrue, is_some, nat_lt};
 ghost use Rattle.std.specs.Option.{option_copied, option_map};
 ghost use Rattle.gi_facts.specs.Grammar.{IsWritable};
 ghost use Rattle.gi_desk.specs.History.{is_meeting, number_of, state_of};
+ghost use Rattle.gi_desk.specs.Machine.{some_leave};
 ghost use Rattle.gi_desk.specs.Queries.{acknowledged as is_acknowledged, confirmed as confirmed_of, fact_at, matched_in as matched_in_state, met_saved as met_saved_of, outgoing as outgoing_of, stage_of, told as told_in, unsaved as next_unsaved};
 
 use crate::desk::Desk;
@@ -92,10 +93,11 @@ impl<R: Role> Desk<R> {
     }
 
     /// What the portfolio is told of the cycle: its confirmed rows, once a saved fact met the
-    /// peer's table and where it stands in one of them.
+    /// peer's table and where it stands in one of them. Want of memory comes only where it is told.
     #[tactic(auto, unfolding(crate::specs::Queries::told))]
     pub fn told(&self, portfolio: Code, id: CycleId) -> Result<Option<Nomres>, AllocError>
-        ensures { IfOk result (λ nomres. nomres ≡ told_in R.SIDE self.now portfolio id) }
+        ensures value { IfOk result (λ nomres. nomres ≡ told_in R.SIDE self.now portfolio id) }
+        ensures short { IfErr result (λ _. IsTrue (is_some (told_in R.SIDE self.now portfolio id))) }
     {
         match self.met_saved(&id) {
             Some(cycle) => told_if(self.alloc, R::SIDE, self.point, cycle, portfolio),
@@ -103,9 +105,11 @@ impl<R: Role> Desk<R> {
         }
     }
 
-    /// What the saved facts from number `first` on let out, in order. 0 reads as 1.
+    /// What the saved facts from number `first` on let out, in order. 0 reads as 1. Want of memory
+    /// comes only where there is such a packet.
     pub fn outgoing(&self, first: u32) -> Result<Packets, AllocError>
-        ensures { IfOk result (λ packets. packets ≡ outgoing_of R.SIDE self.now first) }
+        ensures value { IfOk result (λ packets. packets ≡ outgoing_of R.SIDE self.now first) }
+        ensures short { IfErr result (λ _. IsTrue (some_leave (outgoing_of R.SIDE self.now first))) }
     {
         let mut packets = Vec::new(self.alloc);
         for n in first.max(1)..self.saved + 1 {

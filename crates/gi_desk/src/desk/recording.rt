@@ -131,12 +131,14 @@ impl<R: Role> Desk<R> {
             drop((document, taken));
             return Err(AllocError);
         };
-        // Where the book has no room then, no nomination is in force that this number could be of.
-        let Ok(_) = self.takings.insert(PortfolioDay::of(&document), number) else {
+        let key = PortfolioDay::of(&document);
+        let Ok(_) = self.takings.insert(key, number) else {
             drop((document, taken));
             return Err(AllocError);
         };
         let Ok(()) = self.book.take(taken) else {
+            // The book has room in the place of another nomination: so none is in force, and no number stood here.
+            self.takings.remove(&key);
             drop(document);
             return Err(AllocError);
         };

@@ -2,7 +2,7 @@
 
 ghost use Rattle.std.specs.Prelude.{◌≡◌, ◌+◌, ◌++◌, ◌∷◌, [], Err, IfOk, OnOk, ℕ, false, length, true};
 ghost use Rattle.gi_desk.specs.Machine.{IsReplayed, may_follow};
-ghost use Rattle.gi_desk.specs.declared.replay_fault.ReplayFault.TheVariants.{BadFact};
+ghost use Rattle.gi_desk.specs.declared.replay_fault.ReplayFault.TheVariants.{BadFact, OutOfMemory};
 
 use crate::desk::Desk;
 use crate::judging::MOST_FACTS;
@@ -41,6 +41,7 @@ impl<R: Role> Desk<R> {
         ensures may { IfOk result (λ _. may_follow R.SIDE self.old.point self.old.facts fact ≡ true) }
         ensures next { OnOk result (self.new ≡ record self.old { facts = self.old.facts ++ fact ∷ [] }) }
         ensures refused { (n : ℕ) → result ≡ Err (BadFact n) → (n ≡ length self.old.facts + 1) × (may_follow R.SIDE self.old.point self.old.facts fact ≡ false) }
+        ensures short { result ≡ Err OutOfMemory → may_follow R.SIDE self.old.point self.old.facts fact ≡ true }
     {
         if self.facts.len() >= MOST_FACTS || !self.would_record(&fact) {
             // (handed to drop, by one call: going out of scope here would be checked field by field on each way out)
@@ -52,7 +53,7 @@ impl<R: Role> Desk<R> {
 
     /// The desk of these facts, all of which are saved; it is not halted. `BadFact` for the first
     /// fact that no call would record after those before it, and for the 1,000,001st; then
-    /// `OutOfMemory`.
+    /// `OutOfMemory`, which never comes where the first fact is bad or there is none.
     pub fn replay(
         alloc: Global,
         calendar: Calendar,

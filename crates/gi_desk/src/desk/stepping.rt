@@ -3,7 +3,7 @@
 ghost use Rattle.std.specs.Prelude.{◌≡◌, IfErr, IfOk, IsTrue, OnErr, OnOk};
 ghost use Rattle.gi_desk.specs.Kept.{CanFollow};
 ghost use Rattle.gi_desk.specs.declared.call.Call.{Call};
-ghost use Rattle.gi_desk.specs.Machine.{IsForeseen, IsPrepared, IsStep, after, answer_of, grows, may_want, next_of, out_of_memory, prepared as prepared_of, reply as reply_of};
+ghost use Rattle.gi_desk.specs.Machine.{IsForeseen, IsPrepared, IsStep, after, answer_of, is_record, may_want, may_want_to_prepare, next_of, out_of_memory, prepared as prepared_of, reply as reply_of};
 
 use crate::call::Call;
 use crate::desk::Desk;
@@ -45,7 +45,7 @@ impl<R: Role> Desk<R> {
         requires { CanFollow R.SIDE self.now outcome }
         ensures next { OnOk result (self.new ≡ next_of self.old outcome) }
         ensures kept { OnErr result (self.new ≡ self.old) }
-        ensures short { IfErr result (λ _. IsTrue (grows outcome)) }
+        ensures short { IfErr result (λ _. IsTrue (is_record outcome)) }
     {
         match outcome {
             Outcome::Records(fact) => return self.record(fact),
@@ -57,10 +57,10 @@ impl<R: Role> Desk<R> {
     }
 
     /// What the call comes to and the reply to it, with nothing changed. Want of memory comes only
-    /// where a step may want it.
+    /// where the desk is not halted, and for a message that can be read or where packets leave.
     pub fn prepare(&self, call: &Call) -> Result<Prepared, AllocError>
         ensures value { IfOk result (λ prepared. prepared ≡ prepared_of R.SIDE self.now call.now) }
-        ensures short { IfErr result (λ _. IsTrue (may_want R.SIDE self.now call.now)) }
+        ensures short { IfErr result (λ _. IsTrue (may_want_to_prepare R.SIDE self.now call.now)) }
     {
         let outcome = self.outcome(call)?;
         let Ok(out) = self.out(&outcome) else {
@@ -75,14 +75,14 @@ impl<R: Role> Desk<R> {
         Ok(Prepared { outcome, reply })
     }
 
-    /// Makes the step that was prepared for a call to this desk as it is now. Where memory runs out
-    /// nothing is changed.
+    /// Makes the step that was prepared for a call to this desk as it is now. Where memory runs out,
+    /// as it can only where a fact is recorded, nothing is changed.
     pub fn make(&mut self, prepared: Prepared) -> Result<Reply, AllocError>
         requires { IsPrepared R.SIDE self.now prepared }
         ensures reply { IfOk result (λ reply. reply ≡ prepared.reply) }
         ensures next { OnOk result ((call : Call) → prepared ≡ prepared_of R.SIDE self.old call → self.new ≡ after R.SIDE self.old call) }
         ensures kept { OnErr result (self.new ≡ self.old) }
-        ensures short { OnErr result ((call : Call) → prepared ≡ prepared_of R.SIDE self.old call → IsTrue (may_want R.SIDE self.old call)) }
+        ensures short { IfErr result (λ _. IsTrue (is_record prepared.outcome)) }
     {
         let Prepared { outcome, reply } = prepared;
         self.apply(outcome)?;
@@ -111,9 +111,8 @@ impl<R: Role> Desk<R> {
 
     /// Takes a call: answers it, makes its change and gives what it lets out. A refused call
     /// changes nothing. The refusals, in their order, are `Halted`, the call's own, `Full` and
-    /// `OutOfMemory`; the last never comes for `Halt`, on a halted desk, for a message that is too
-    /// large, or for a refused contract, notice, closing, resending or mark. No packet leaves of a
-    /// fact that is not saved.
+    /// `OutOfMemory`; the last comes only for a message that can be read, where a fact is recorded,
+    /// and where packets leave. No packet leaves of a fact that is not saved.
     pub fn step(&mut self, call: &Call) -> Reply
         ensures { IsStep R.SIDE self.old call.now result self.new }
     {

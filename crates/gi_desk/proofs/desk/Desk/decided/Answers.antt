@@ -3,10 +3,10 @@ use Rattle.std.specs.Option.{option_copied, unwrap_or}
 use Rattle.gi_cycles.specs.declared.cycle_state.CycleState.{CycleState}
 use Rattle.gi_cycles.specs.declared.cycle_state.CycleState.TheVariants.{Collecting}
 use Rattle.gi_pairs.specs.declared.cycle_id.CycleId.{CycleId}
-use Rattle.gi_desk.specs.Deciding.{decision, may_want_at}
+use Rattle.gi_desk.specs.Deciding.{decision}
 use Rattle.gi_desk.specs.History.{state_of}
 use Rattle.gi_desk.specs.Judging.{by_decision}
-use Rattle.gi_desk.proofs.Called.{found-state, referred-state, unless_short}
+use Rattle.gi_desk.proofs.Called.{found-state, referred-state, role-decided}
 use Rattle.gi_desk.proofs.desk.Desk.decided.Goals as goal
 
 pub returns : goal.returns
@@ -14,10 +14,10 @@ returns g c =
     let side = g.R.Role.SIDE in
     let facts = c.args.self.now.facts in
     let id = c.args.id.now in
-    let message = c.args.message.now in
+    let message = c.args.message in
     let state : c.unwrap_or-state.result.now ≡ state_of side facts id =
     ap (λ (b : Bor CycleState). b.now) c.unwrap_or-state.ensures ∙ referred-state c.find.result _
     ∙ ap (λ (i : CycleId). unwrap_or (option_copied c.find.result) (Collecting i)) c.new.ensures ∙ found-state side facts id (option_copied c.find.result) c.find.ensures in
     let decides : c.decide-decision.result ≡ decision side c.unwrap_or-state.result.now message =
-    unless_short (may_want_at c.unwrap_or-state.result.now message) c.is_short.result _ _ c.decide-decision.ensures c.is_short.ensures.1 c.if-is_short.false in
+    role-decided side c.unwrap_or-state.result.now message c.is_short.result _ c.decide-decision.ensures c.is_short.ensures.1 c.if-is_short.false in
     c.by_decision.ensures ∙ ap (by_decision facts id) (decides ∙ ap (λ (s : CycleState). decision side s message) state)

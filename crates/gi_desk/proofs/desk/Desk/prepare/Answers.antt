@@ -1,15 +1,15 @@
 use Rattle.std.proofs.Common.{◌≡◌, sym, subst, ap, ◌∙◌, rules}
 use Rattle.std.specs.Prelude.{IsTrue}
 use Rattle.gi_desk.specs.Kept.{CanFollow}
-use Rattle.gi_desk.specs.Machine.{answer_of, may_want, out_of, outcome, reply}
+use Rattle.gi_desk.specs.Machine.{answer_of, may_want_to_prepare, out_of, outcome, reply}
 use Rattle.gi_desk.proofs.Outcomes.{can_follow}
-use Rattle.gi_desk.proofs.StepLaws.{may_grow}
+use Rattle.gi_desk.proofs.StepLaws.{leaving-wants}
 use Rattle.gi_desk.proofs.desk.Desk.prepare.Goals as goal
 
 pub returns-in_default-clause-short : goal.returns-in_default-clause-short
 returns-in_default-clause-short g c =
-    let short : IsTrue (may_want g.R.Role.SIDE c.args.self.now c.args.call.now) =
-    may_grow g.R.Role.SIDE c.args.self.now c.args.call.now c.in_ok-outcome.outcome c.in_ok-outcome.ensures.value c.in_default.ensures.short in
+    let short : IsTrue (may_want_to_prepare g.R.Role.SIDE c.args.self.now c.args.call.now) =
+    leaving-wants g.R.Role.SIDE c.args.self.now c.args.call.now c.in_ok-outcome.outcome c.in_ok-outcome.ensures.value c.in_default.ensures.short in
     search (rules, short)
 
 pub returns-clause-value : goal.returns-clause-value

@@ -3,7 +3,7 @@ use Rattle.std.specs.Vec.Iter.{into_iter_items}
 use Rattle.gi_desk.specs.Machine.{DeskState, bad_fact, may_follow}
 use Rattle.gi_facts.specs.declared.fact.Fact.{Fact}
 use Rattle.gi_desk.proofs.Legality.{legal-few}
-use Rattle.gi_desk.proofs.Replaying.{followed, nothing_left, refused_as, refused_so, some_fact}
+use Rattle.gi_desk.proofs.Replaying.{begins_so, followed, nothing_left, refused_as, refused_so}
 use Rattle.gi_desk.proofs.desk.Desk.replay.Goals as goal
 
 pub loop-fact-preserved : goal.loop-fact-preserved
@@ -34,7 +34,8 @@ returns-in-Err g c =
     (λ n is. let refused = c.record_again.ensures.refused n (c.in-Err.is ∙ ap Err is) in
     refused_so side c.args.point at.yielded at.desk x (into_iter_items c.next.new.self) c.args.facts.items n at.invariant.2
     (ap (λ (s : DeskState). s.point) at.invariant.1) (ap (λ (s : DeskState). s.facts) at.invariant.1) refused.1 refused.0 all)
-    (some_fact at.yielded x (into_iter_items c.next.new.self) c.args.facts.items all)
+    (λ is. begins_so side c.args.point at.yielded at.desk x (into_iter_items c.next.new.self) c.args.facts.items at.invariant.2
+    (ap (λ (s : DeskState). s.point) at.invariant.1) (ap (λ (s : DeskState). s.facts) at.invariant.1) (c.record_again.ensures.short (c.in-Err.is ∙ ap Err is)) all)
 
 pub overflow_cast-desk : goal.overflow_cast-desk
 overflow_cast-desk g c =

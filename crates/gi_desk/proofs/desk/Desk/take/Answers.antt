@@ -1,10 +1,10 @@
-use Rattle.std.proofs.Common.{◌≡◌, ◌+◌, ◌++◌, length, subst, ◌∷◌, [], List, None, refl, sym, ap, ◌∙◌}
+use Rattle.std.proofs.Common.{◌≡◌, ◌+◌, ◌++◌, length, subst, ◌∷◌, [], List, None, Some, refl, sym, ap, ◌∙◌}
 use Rattle.gi_messages.specs.declared.message.Nomint.{Nomint}
 use Rattle.gi_desk.specs.Machine.{DeskState}
 use Rattle.gi_facts.specs.declared.fact.Fact.{Fact}
 use Rattle.gi_facts.specs.declared.fact.Fact.TheVariants.{Nominated}
 use Rattle.gi_desk.proofs.KeptLaws.{kept-numbered, kept-other, running-taken}
-use Rattle.gi_desk.proofs.TakingLaws.{PutsNumber, legal-rising, takings-stray, takings-taken}
+use Rattle.gi_desk.proofs.TakingLaws.{Puts, legal-rising, takings-back, takings-taken}
 use Rattle.gi_nominations.specs.declared.portfolio_day.PortfolioDay.{PortfolioDay}
 use Rattle.gi_nominations.specs.Book.{DocumentStands, IsNewer, in_force}
 use Rattle.gi_desk.specs.History.{documents_of}
@@ -30,7 +30,7 @@ invariant_of-self-2 g c =
     c.push_reserved.ensures.items ∙ ap (λ (facts : List Fact). facts ++ fact ∷ []) c.in-Ok-reserve.ensures.items in
     let number : c.next_number-number.result ≡ length inside.facts.items + 1 = c.next_number-number.ensures ∙ ap (λ (fs : List Fact). length fs + 1) facts_is in
     let newer = subst (λ (fs : List Fact). IsNewer (documents_of fs) c.args.document) facts_is (recorded-newer side c.args.self.now.point c.args.self.now.facts c.args.document c.requires.recorded) in
-    let puts = subst (λ (key : PortfolioDay). PutsNumber inside.takings.entries c.insert.new.self.entries key c.next_number-number.result) c.of.ensures c.in-Ok-insert.ensures.updates.0 in
+    let puts = subst (λ (key : PortfolioDay). Puts inside.takings.entries c.insert.new.self.entries key (Some c.next_number-number.result)) c.of-key.ensures c.in-Ok-insert.ensures.updates.0 in
     kept-other side inside.point inside.facts.items inside.stages.entries inside.book c.take.new.self inside.contracts inside.contracts inside.takings.entries c.insert.new.self.entries inside.saved c.args.self.now fact c.push_reserved.new.self.items
     c.self.invariant refl (ap (λ (s : DeskState). s.point) view) facts_is c.requires.recorded c.requires.room c.requires.fits added
     (running-taken inside.point inside.facts.items inside.book c.take.new.self inside.contracts c.args.document c.self.invariant.running c.take.ensures.point
@@ -45,7 +45,8 @@ invariant_of-self-in_default-take g c =
     let document = c.args.document in
     let absent = sym (c.self.invariant.running.nominations document.portfolio document.day)
     ∙ subst (λ (d : Nomint). in_force d.portfolio d.day inside.book.documents ≡ None) c.in-Ok.ensures c.in_default-take.ensures.absent in
-    let puts = subst (λ (key : PortfolioDay). PutsNumber inside.takings.entries c.insert.new.self.entries key c.next_number-number.result) c.of.ensures c.in-Ok-insert.ensures.updates.0 in
-    kept-numbered side inside.point inside.facts.items inside.stages.entries inside.book inside.contracts inside.takings.entries inside.saved c.reserve.new.self.items c.take.new.self c.insert.new.self.entries
+    let puts = subst (λ (key : PortfolioDay). Puts inside.takings.entries c.insert.new.self.entries key (Some c.next_number-number.result)) c.of-key.ensures c.in-Ok-insert.ensures.updates.0 in
+    let removes = subst (λ (key : PortfolioDay). Puts c.insert.new.self.entries c.remove.new.self.entries key None) c.of-key.ensures c.remove.ensures.updates.0 in
+    kept-numbered side inside.point inside.facts.items inside.stages.entries inside.book inside.contracts inside.takings.entries inside.saved c.reserve.new.self.items c.take.new.self c.remove.new.self.entries
     c.self.invariant c.in-Ok-reserve.ensures.items c.in_default-take.ensures.kept
-    (takings-stray inside.facts.items document c.next_number-number.result inside.takings.entries c.insert.new.self.entries absent c.self.invariant.numbers puts)
+    (takings-back inside.facts.items document c.next_number-number.result inside.takings.entries c.insert.new.self.entries c.remove.new.self.entries absent c.self.invariant.numbers puts removes)
