@@ -1,7 +1,7 @@
 -- A message is read exactly where it stands in the relation.
 use Rattle.std.proofs.Common.{◌≡◌, ℕ, ◌≤◌, Bool, true, false, cond, List, [], ◌∷◌, length, find, nat_lt, Option, Some, None, option_and_then, Result, Ok, Err, refl, sym, ap, ◌∙◌, subst, le-ltb, ltb-false}
 use Rattle.std.specs.Prelude.{IfOk}
-use Rattle.std.specs.Str.{bytes_eq}
+use Rattle.std.specs.Str.{IsUtf8, bytes_eq}
 use Rattle.std.proofs.lemmas.Option.{same_Some, option_and_then_some}
 use Rattle.std.proofs.lemmas.Slice.Eq.{bytes_eq-Decides}
 use Rattle.serde_json.specs.Data.{Data, string}
@@ -27,6 +27,7 @@ use Rattle.gi_messages.specs.Reading.{Read, ◌>>=◌}
 use Rattle.gi_messages.specs.Decoding.{nomint, acknow, nomres, delord, delres, kind_of, of_kind, named, if_kind, if_json, decoded, Gives}
 use Rattle.gi_messages.proofs.FieldLemmas.{bind_ok, as_text}
 use Rattle.gi_messages.proofs.HoursLemmas.{ok_is}
+use Rattle.gi_messages.proofs.JsonLemmas.{json_of-refused}
 use Rattle.gi_messages.proofs.NominationLemmas.{nomint_takes, nomint_again, acknow_takes, acknow_again, nomres_takes, nomres_again}
 use Rattle.gi_messages.proofs.OrderLemmas.{delord_takes, delord_again, delres_takes, delres_again}
 
@@ -111,6 +112,17 @@ unfolding decoded
 decoded_takes bytes m e =
     let g = large_ok (nat_lt most_bytes (length bytes)) (if_json (json_of bytes)) m e in
     if_json-takes bytes (json_of bytes) m (ltb-false most_bytes (length bytes) g.0) refl g.1
+
+-- bytes that are no text are no JSON
+pub decoded_no_text : (bytes : List ℕ) → length bytes ≤ most_bytes → (IsUtf8 bytes → ⊥) → decoded bytes ≡ Err faults.NotJson
+unfolding decoded
+decoded_no_text bytes short never =
+    ap (λ b. cond b (Err faults.TooLarge) (if_json (json_of bytes))) (le-ltb most_bytes (length bytes) short) ∙ ap if_json (json_of-refused bytes (λ utf8. absurd (never utf8)))
+
+pub not_read : (bytes : List ℕ) (m : Message) → length bytes ≤ most_bytes → (IsUtf8 bytes → ⊥) → decoded bytes ≡ Ok m → ⊥
+not_read bytes m short never is =
+    let same : ◌≡◌ {A = Result Message MessageFault} (Ok m) (Err faults.NotJson) = sym is ∙ decoded_no_text bytes short never in
+    cc
 
 pub decoded_again : (bytes : List ℕ) (m : Message) → Spells bytes m → decoded bytes ≡ Ok m
 unfolding decoded

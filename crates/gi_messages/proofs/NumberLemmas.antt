@@ -1,11 +1,10 @@
 -- Numbers by their sign.
-use Rattle.std.proofs.Common.{◌≡◌, ℕ, ◌<◌, List, [], ◌∷◌, ◌++◌, length, append-nil, arith, lt-ltb, ne_eqb, Some, subst, drop, get_or, Bool, true, false, cond, ◌==◌, ◌&&◌, nat_lt, nat_le, ◌^◌, Option, None, option_and_then, refl, sym, ap, ◌∙◌}
+use Rattle.std.proofs.Common.{◌≡◌, ℕ, ◌<◌, List, [], ◌∷◌, ◌++◌, length, append-nil, arith, lt-ltb, ne_eqb, Some, subst, drop, get_or, Bool, true, false, cond, ◌==◌, ◌&&◌, nat_lt, nat_le, ◌^◌, None, option_and_then, refl, sym, ap, ◌∙◌}
 use Rattle.std.proofs.lemmas.Float.Parse.{scan_numeral-text_of}
 use Rattle.std.specs.Char.{digit_value}
-use Rattle.std.specs.Prelude.{OkIff}
 use Rattle.std.specs.Str.Parse.{AllDigits, IsNumeral, digits_value, without_leading_plus}
 use Rattle.std.specs.Float.{binary64, float_is_finite}
-use Rattle.fast_float.specs.Text.{Parts, scan, digits_of, nearest, text_of, IsWellFormed}
+use Rattle.fast_float.specs.Text.{Parts, scan, digits_of, nearest, IsWellFormed}
 use Rattle.serde_json.specs.Data.{unsigned}
 use Rattle.serde_json.specs.Find.{as_u64}
 use Rattle.serde_json.specs.Read.{number_of, number_from, float_of, is_integer}

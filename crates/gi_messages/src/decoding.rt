@@ -1,6 +1,6 @@
 //! Reading messages.
 
-ghost use Rattle.std.specs.Prelude.{◌≡◌, ◌<◌, ◌≤◌, length, IfOk, Ok, Err};
+ghost use Rattle.std.specs.Prelude.{◌≡◌, ◌<◌, ◌≤◌, length, IfOk, IsUtf8, Ok, Err};
 ghost use Rattle.gi_messages.specs.Tokens.{value_at};
 ghost use Rattle.gi_messages.specs.Reading as reading;
 ghost use Rattle.gi_messages.specs.declared.message.Message.{Message};
@@ -168,7 +168,8 @@ fn of_object(alloc: Global, object: &JsonValue<'_, '_>) -> Result<Message, Messa
 }
 
 fn read_json(alloc: Global, bytes: &[u8]) -> Result<Message, MessageFault>
-    ensures { Gives result (if_json (json_of bytes.now)) }
+    ensures exact { Gives result (if_json (json_of bytes.now)) }
+    ensures not_text { ¬ (IsUtf8 bytes.now) → result ≡ Err MessageFault.NotJson }
 {
     let mut scratch = Scratch::new(alloc);
     match json(alloc, bytes, &mut scratch)? {
@@ -181,6 +182,7 @@ fn read_json(alloc: Global, bytes: &[u8]) -> Result<Message, MessageFault>
 fn read(alloc: Global, bytes: &[u8]) -> Result<Message, MessageFault>
     ensures exact { Gives result (decoded bytes.now) }
     ensures too_large { most_bytes < length bytes.now → result ≡ Err MessageFault.TooLarge }
+    ensures not_text { length bytes.now ≤ most_bytes → ¬ (IsUtf8 bytes.now) → result ≡ Err MessageFault.NotJson }
 {
     if bytes.len() > MOST_BYTES {
         return Err(MessageFault::TooLarge);
@@ -193,7 +195,7 @@ fn read(alloc: Global, bytes: &[u8]) -> Result<Message, MessageFault>
 
 /// The message that the bytes are, or the first fault: `TooLarge` (over 16,777,216 bytes),
 /// `NotJson`, `UnknownKind`, `Field` (in the order of the kind's fields), `OutOfMemory`. Bytes that
-/// are too large take no memory.
+/// are too large, and bytes that are no UTF-8, take no memory.
 pub fn decode(alloc: Global, bytes: &[u8]) -> Result<Message, MessageFault>
     // What is read is spelled so.
     ensures found { IfOk result (λ m. Spells bytes.now m) }
@@ -203,7 +205,10 @@ pub fn decode(alloc: Global, bytes: &[u8]) -> Result<Message, MessageFault>
 
     // Which fault it is.
     ensures exact { Gives result (decoded bytes.now) }
+
+    // What is known without memory.
     ensures too_large { most_bytes < length bytes.now → result ≡ Err MessageFault.TooLarge }
+    ensures not_text { length bytes.now ≤ most_bytes → ¬ (IsUtf8 bytes.now) → result ≡ Err MessageFault.NotJson }
 {
     read(alloc, bytes)
 }

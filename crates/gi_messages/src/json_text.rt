@@ -1,6 +1,6 @@
 //! Reading JSON text.
 
-ghost use Rattle.std.specs.Prelude.{◌≡◌, ◌+◌, ◌<◌, ◌≤◌, ◌^◌, map, IfOk, IfSome, option_map};
+ghost use Rattle.std.specs.Prelude.{◌≡◌, ◌+◌, ◌<◌, ◌≤◌, ◌^◌, map, IfOk, IfSome, IsUtf8, None, Ok, option_map};
 ghost use Rattle.json.specs.Tape.{node_token};
 ghost use Rattle.serde_json.specs.Read.{max_depth};
 ghost use Rattle.gi_messages.specs.Json.{json_of};
@@ -79,7 +79,8 @@ pub fn json<'a>(
     bytes: &'a [u8],
     scratch: &'a mut Scratch,
 ) -> Result<Option<JsonText<'a>>, AllocError>
-    ensures { IfOk result (λ text. option_map value_at text ≡ json_of bytes.now) }
+    ensures value { IfOk result (λ text. option_map value_at text ≡ json_of bytes.now) }
+    ensures not_text { ¬ (IsUtf8 bytes.now) → result ≡ Ok None }
 {
     let Ok(text) = simdutf8::compat::from_utf8(bytes) else {
         return Ok(None);

@@ -1,8 +1,11 @@
 //! Reading the rows of a table.
 
-ghost use Rattle.std.specs.Prelude.{◌≡◌, ◌≤◌};
+ghost use Rattle.std.specs.Prelude.{◌≡◌, ◌<◌, ◌≤◌, Err, Ok};
 ghost use Rattle.gi_messages.specs.Tokens.{value_at, elements_at};
-ghost use Rattle.gi_messages.specs.Reading.{Gives, each, row, rows_at, table};
+ghost use Rattle.gi_messages.specs.Reading.{Gives, each, items, row, rows_at, table};
+ghost use Rattle.gi_messages.specs.declared.fault.FieldFault.TheVariants.{Wrong};
+ghost use Rattle.serde_json.specs.Data.{Items};
+ghost use Rattle.serde_json.specs.Events.{items_len};
 
 use crate::fault::FieldFault;
 use crate::fields::{code, direction, items};
@@ -62,7 +65,8 @@ fn rows_at(
     limit: usize,
     count: usize,
 ) -> Result<Vec<Row>, FieldFault>
-    ensures { Gives (λ found. found.items) result (rows_at array limit count (value_at object.now)) }
+    ensures value { Gives (λ found. found.items) result (rows_at array limit count (value_at object.now)) }
+    ensures too_many { (elements : Items) → items array (value_at object.now) ≡ Ok elements → limit < items_len elements → result ≡ Err (Wrong array) }
 {
     let Some(size) = items(object, array)?.count_within(limit) else {
         return Err(FieldFault::Wrong(array));
@@ -71,7 +75,8 @@ fn rows_at(
 }
 
 /// The table for the hours from `first` to `last` whose rows stand at a key, at most `limit` of
-/// them. The key is wrong where there are more, and where two rows have one pair and direction.
+/// them. The key is wrong where there are more, of which none is read and no memory is taken, and
+/// where two rows have one pair and direction.
 #[tactic(auto, using(crate::proofs::Elements::table_from_rows), unfolding(crate::specs::Reading::table))]
 pub fn table(
     alloc: Global,
@@ -82,7 +87,8 @@ pub fn table(
     last: u8,
 ) -> Result<Table, FieldFault>
     requires { first ≤ last }
-    ensures { Gives (λ found. found) result (table key limit first last (value_at object.now)) }
+    ensures value { Gives (λ found. found) result (table key limit first last (value_at object.now)) }
+    ensures too_many { (elements : Items) → items key (value_at object.now) ≡ Ok elements → limit < items_len elements → result ≡ Err (Wrong key) }
 {
     let count = usize::from(last) + 1 - usize::from(first);
     let rows = rows_at(alloc, object, key, limit, count)?;

@@ -1,4 +1,4 @@
-use Rattle.std.proofs.Common.{◌≡◌, ap, ◌∙◌, sym}
+use Rattle.std.proofs.Common.{sym}
 use Rattle.gi_messages.proofs.NumberLemmas.{number_of-parsed}
 use Rattle.gi_messages.proofs.json_number.digits.Goals as goal
 
