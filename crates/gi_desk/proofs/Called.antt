@@ -104,3 +104,8 @@ running-outcome side s call running = ap (λ (b : Bool). cond b (Refuses Halted)
 pub if_failed : {X E : Type 0} {P : Type 0} (r : Result X E) → P → IfErr r (λ fault. P)
 if_failed (Ok x) p = tt
 if_failed (Err fault) p = p
+
+-- and so does what follows from what holds of one
+pub if_failed_by : {X E : Type 0} {P Q : Type 0} (r : Result X E) → (P → Q) → IfErr r (λ fault. P) → IfErr r (λ fault. Q)
+if_failed_by (Ok x) follows p = tt
+if_failed_by (Err fault) follows p = follows p

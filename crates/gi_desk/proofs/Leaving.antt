@@ -57,15 +57,14 @@ told-leave side point cycle some = some_told _ (portfolios_in side cycle.confirm
 
 leave_among : (f : ℕ → List Packet) (from count n : ℕ) → from ≤ n → n < from + count → some_leave (f n) ≡ true → some_leave (flat_map f (range_with_len from count)) ≡ true
 leave_among f from zero n above below some = absurd (omega (arith, above, below))
-leave_among f from (suc count) n above below some = by_first (nat_eq n from) refl
+leave_among f from (suc count) n above below some = by_first (nat_eq n from) refl (λ later. leave_among f (from + 1) count n later (omega (arith, below)) some)
   where
-    by_first : (b : Bool) → nat_eq n from ≡ b → some_leave (f from ++ flat_map f (range_with_len (from + 1) count)) ≡ true
-    by_first true is =
+    by_first : (b : Bool) → nat_eq n from ≡ b → (from + 1 ≤ n → some_leave (flat_map f (range_with_len (from + 1) count)) ≡ true) → some_leave (f from ++ flat_map f (range_with_len (from + 1) count)) ≡ true
+    by_first true is after =
         let here : n ≡ from = grind (arith, nat_tests, is) in
         leave-first (f from) (flat_map f (range_with_len (from + 1) count)) (subst (λ (m : ℕ). some_leave (f m) ≡ true) here some)
-    by_first false is =
-        let later : from + 1 ≤ n = grind (arith, nat_tests, is, above) in
-        leave-last (f from) (flat_map f (range_with_len (from + 1) count)) (leave_among f (from + 1) count n later (omega (arith, below)) some)
+    by_first false is after =
+        let later : from + 1 ≤ n = grind (arith, nat_tests, is, above) in leave-last (f from) (flat_map f (range_with_len (from + 1) count)) (after later)
 
 pub outgoing-leave : (side : Side) (s : DeskState) (first n : ℕ) → max 1 first ≤ n → n ≤ s.saved → some_leave (let_out side s.point s.facts n) ≡ true → some_leave (outgoing side s first) ≡ true
 unfolding outgoing

@@ -169,12 +169,12 @@ after w (Deliver side n) = after_delivery w side (delivery w side n)
 after w (Restart side keep) =
     let station = station_of side w in after_if w (with_station side (after_restart station keep) w) (restarted station.desk keep)
 
--- A step may want memory where its desk may: no halt and no refused closing does, say. A delivery may where there is the
--- packet and the desk is not halted, and a restart wherever it is not refused.
+-- A step may want memory where its desk may: no halt, no refused closing and no mark that lets nothing out does, say. A
+-- delivery may where there is the packet and the desk is not halted, and a restart where it is not refused and keeps a fact.
 unfoldable pub may_want : WorldState → Step → Bool
 may_want w (Local side call) = not (is_delivery call) && desk_may_want side (station_of side w).desk call
 may_want w (Deliver side n) = is_some (delivery w side n) && not (station_of side w).desk.halted
-may_want w (Restart side keep) = is_ok (restarted (station_of side w).desk keep)
+may_want w (Restart side keep) = is_ok (restarted (station_of side w).desk keep) && nat_lt 0 keep
 
 -- The world gives this outcome and goes on to new. Want of memory leaves all as it was, and comes only for a step that may
 -- want memory, so for none that the world refuses for another cause.

@@ -1,6 +1,6 @@
 //! Which packets of a reply a station keeps: those for the peer, and those that tell.
 
-ghost use Rattle.std.specs.Prelude.{◌≡◌, ◌<◌, All, IfOk, OnErr, filter, length, position};
+ghost use Rattle.std.specs.Prelude.{◌≡◌, ◌<◌, ◌⊎◌, All, IfOk, OnErr, filter, length, position};
 ghost use Rattle.gi_desk.specs.Machine.{is_for_peer as is_for_peer_of};
 ghost use Rattle.gi_world.specs.World.{IsFromDesk, begins_with_cycle, has_bytes, tells as tells_of};
 
@@ -37,7 +37,7 @@ pub(crate) fn place_of(packets: &[Packet], bytes: &[u8]) -> Option<usize>
 
 fn for_peer(alloc: Global, packets: &[Packet]) -> Result<Vec<Packet>, AllocError>
     ensures value { IfOk result (λ kept. kept.items ≡ filter is_for_peer_of packets.now) }
-    ensures short { OnErr result (0 < length packets.now) }
+    ensures short { OnErr result (0 < length (filter is_for_peer_of packets.now)) }
 {
     let mut kept = Vec::new(alloc);
     for packet in packets {
@@ -51,7 +51,7 @@ fn for_peer(alloc: Global, packets: &[Packet]) -> Result<Vec<Packet>, AllocError
 fn telling(alloc: Global, packets: &[Packet]) -> Result<Vec<Packet>, AllocError>
     requires { All IsFromDesk packets.now }
     ensures value { IfOk result (λ kept. kept.items ≡ filter tells_of packets.now) }
-    ensures short { OnErr result (0 < length packets.now) }
+    ensures short { OnErr result (0 < length (filter tells_of packets.now)) }
 {
     let mut kept = Vec::new(alloc);
     for packet in packets {
@@ -70,7 +70,7 @@ pub(crate) fn kept(
     requires { All IsFromDesk packets.now }
     ensures sent { IfOk result (λ both. both.0.items ≡ filter is_for_peer_of packets.now) }
     ensures told { IfOk result (λ both. both.1.items ≡ filter tells_of packets.now) }
-    ensures short { OnErr result (0 < length packets.now) }
+    ensures short { OnErr result ((0 < length (filter is_for_peer_of packets.now)) ⊎ (0 < length (filter tells_of packets.now))) }
 {
     let sent = for_peer(alloc, packets)?;
     let Ok(told) = telling(alloc, packets) else {

@@ -1,6 +1,6 @@
 //! One operator: its desk, and what it let out.
 
-ghost use Rattle.std.specs.Prelude.{◌≡◌, ◌≤◌, IfOk, IsTrue, None, OnErr, OnOk, false, length, take};
+ghost use Rattle.std.specs.Prelude.{◌≡◌, ◌<◌, ◌≤◌, IfOk, IsTrue, None, OnErr, OnOk, false, length, take};
 ghost use Rattle.gi_desk.specs.Machine.{bad_fact, may_want, reply as reply_of};
 ghost use Rattle.gi_desk.specs.Writable.{FitsDesk};
 ghost use Rattle.gi_world.specs.Agreement.{IsLegal};
@@ -108,7 +108,8 @@ impl<R: Role> Station<R> {
 
     fn front(&self, keep: u32) -> Result<Vec<Fact>, AllocError>
         requires { keep ≤ length self.now.desk.facts }
-        ensures { IfOk result (λ facts. facts.items ≡ take keep self.now.desk.facts) }
+        ensures value { IfOk result (λ facts. facts.items ≡ take keep self.now.desk.facts) }
+        ensures short { OnErr result (0 < keep) }
     {
         let mut facts = Vec::with_capacity(self.alloc, keep as usize)?;
         for before in 0..keep {
@@ -119,7 +120,8 @@ impl<R: Role> Station<R> {
 
     fn replay(&self, facts: Vec<Fact>) -> Result<Desk<R>, AllocError>
         requires { bad_fact R.SIDE self.now.desk.point facts.items ≡ None }
-        ensures { IfOk result (λ desk. desk ≡ record { point = self.now.desk.point; facts = facts.items; saved = length facts.items; halted = false }) }
+        ensures value { IfOk result (λ desk. desk ≡ record { point = self.now.desk.point; facts = facts.items; saved = length facts.items; halted = false }) }
+        ensures short { OnErr result (0 < length facts.items) }
     {
         let calendar = self.desk.calendar().copy().unwrap();
         match Desk::replay(self.alloc, calendar, self.desk.point(), facts) {
@@ -134,6 +136,7 @@ impl<R: Role> Station<R> {
         requires { keep ≤ length self.now.desk.facts }
         ensures next { OnOk result (self.new ≡ after_restart self.old keep) }
         ensures kept { OnErr result (self.new ≡ self.old) }
+        ensures short { OnErr result (0 < keep) }
     {
         fronts_are_legal();
         self.desk.known();

@@ -1,6 +1,6 @@
 //! Both stations: what a step makes of them.
 
-ghost use Rattle.std.specs.Prelude.{◌≡◌, ◌≤◌, IfOk, IsTrue, OnErr, OnOk, false, length};
+ghost use Rattle.std.specs.Prelude.{◌≡◌, ◌<◌, ◌≤◌, IfOk, IsTrue, OnErr, OnOk, false, length};
 ghost use Rattle.std.specs.Option.{option_copied};
 ghost use Rattle.gi_desk.specs.Machine.{may_want, reply as reply_of};
 ghost use Rattle.gi_desk.specs.declared.call.Call.TheVariants as calls;
@@ -104,6 +104,7 @@ impl Stations {
         requires { keep ≤ length (station_of side self.now).desk.facts }
         ensures next { OnOk result (self.new ≡ with_station side (after_restart (station_of side self.old) keep) self.old) }
         ensures kept { OnErr result (self.new ≡ self.old) }
+        ensures short { OnErr result (0 < keep) }
     {
         match side {
             Side::I => self.initiating.restart(keep),

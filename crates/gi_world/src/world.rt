@@ -97,9 +97,10 @@ impl World {
     /// Makes a step: the desk's reply, or with how many facts it started again. `NotLocal`,
     /// `NoSuchPacket`, `KeepsTooFew` and `KeepsTooMany` come whatever memory there is, and
     /// `OutOfMemory` where memory runs out, also where the desk answers it: for a local call only
-    /// where the desk may, so never for a `Halt`, at a halted desk, or for a refused closing; for a
-    /// delivery wherever there is the packet, whose bytes are copied first, and the desk is not
-    /// halted. A refused step leaves the world as it was.
+    /// where the desk may, so never for a `Halt`, at a halted desk, for a refused closing, or for a
+    /// mark that lets nothing out; for a delivery wherever there is the packet, whose bytes are
+    /// copied first, and the desk is not halted; for a restart only where it keeps a fact. A refused
+    /// step leaves the world as it was.
     ///
     /// After each step every quantity that either side has confirmed or told is the lower of the two
     /// that both froze when they closed its cycle. What is confirmed stays so, and packets sent and

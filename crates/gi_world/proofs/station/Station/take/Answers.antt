@@ -5,7 +5,8 @@ use Rattle.gi_desk.specs.declared.packet.Packet.{Packet}
 use Rattle.gi_desk.specs.declared.prepared.Prepared.{Prepared}
 use Rattle.gi_desk.specs.declared.reply.Reply.{Reply}
 use Rattle.gi_world.specs.World.{IsFromDesk, StationState, tells}
-use Rattle.gi_world.proofs.MemoryWanted.{lets_out_short, some_before}
+use Rattle.gi_desk.proofs.StepLaws.{made-wants, prepared-wants}
+use Rattle.gi_world.proofs.MemoryWanted.{lets_out_short, some_before, some_of_both}
 use Rattle.gi_world.proofs.DeskPackets.{all_from_desk}
 use Rattle.gi_world.proofs.station.Station.take.Goals as goal
 
@@ -14,7 +15,7 @@ returns-in_default-clause-short g c =
     let side = g.R.Role.SIDE in
     let call = c.args.call.now in
     let is : c.in_ok-prepared.prepared.reply ≡ reply side c.self.inside.desk call = ap (λ (p : Prepared). p.reply) c.in_ok-prepared.ensures.value in
-    let some = subst (λ (packets : List Packet). 0 < length packets) (c.as_slice-out.ensures ∙ ap (λ (r : Reply). r.out) c.reply.ensures) c.in_default.ensures.short in
+    let some = subst (λ (packets : List Packet). 0 < length packets) (c.as_slice-out.ensures ∙ ap (λ (r : Reply). r.out) c.reply.ensures) (some_of_both is_for_peer tells c.as_slice-out.result.now c.in_default.ensures.short) in
     (subst (λ (s : StationState). IsTrue (may_want side s.desk call)) c.self.view_is (lets_out_short side c.self.inside.desk call _ is some))
 
 pub returns-in_default-reserve-clause-short : goal.returns-in_default-reserve-clause-short
