@@ -1,5 +1,5 @@
 -- When a call may want memory: where its reply lets packets out.
-use Rattle.std.proofs.Common.{◌≡◌, ◌<◌, ◌⊎◌, inl, inr, List, [], ◌∷◌, filter, length, Bool, true, arith, refl, subst}
+use Rattle.std.proofs.Common.{◌≡◌, ◌<◌, ◌⊎◌, inl, inr, ℕ, zero, suc, List, [], ◌∷◌, filter, get_or, length, Bool, true, false, cond, arith, refl, sym, ap, ◌∙◌, subst}
 use Rattle.std.specs.Prelude.{IsTrue}
 use Rattle.gi_pairs.specs.declared.side.Side.{Side}
 use Rattle.gi_desk.specs.Machine.{DeskState, may_want, out_of, outcome, reply, some_leave}
@@ -27,3 +27,14 @@ some_before test (x ∷ xs) some = omega arith
 
 pub some_of_both : {X : Type 0} (test other : X → Bool) (xs : List X) → (0 < length (filter test xs)) ⊎ (0 < length (filter other xs)) → 0 < length xs
 some_of_both test other xs some = elim some [ inl first ↦ some_before test xs first | inr second ↦ some_before other xs second ]
+
+-- nor is there none where an element passes
+pub some_passed : {X : Type 0} (test : X → Bool) (xs : List X) (n : ℕ) (x : X) → n < length xs → x ≡ get_or xs n x → test x ≡ true → 0 < length (filter test xs)
+some_passed test [] n x below is passes = absurd (omega (arith, below))
+some_passed test (y ∷ ys) zero x below is passes =
+    subst (λ (b : Bool). 0 < length (cond b (y ∷ filter test ys) (filter test ys))) (sym (ap test (sym is) ∙ passes)) (omega arith)
+some_passed test (y ∷ ys) (suc n) x below is passes = by_first (test y) (some_passed test ys n x (omega (arith, below)) is passes)
+  where
+    by_first : (b : Bool) → 0 < length (filter test ys) → 0 < length (cond b (y ∷ filter test ys) (filter test ys))
+    by_first true rest = omega arith
+    by_first false rest = rest

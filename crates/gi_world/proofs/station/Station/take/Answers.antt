@@ -1,4 +1,4 @@
-use Rattle.std.proofs.Common.{◌≡◌, ◌<◌, List, length, filter, All, ap, arith, subst, sym, ◌∙◌}
+use Rattle.std.proofs.Common.{◌≡◌, ◌<◌, List, length, filter, All, ap, arith, rules, subst, sym, ◌∙◌}
 use Rattle.std.specs.Prelude.{IsTrue}
 use Rattle.gi_desk.specs.Machine.{is_for_peer, may_want, reply}
 use Rattle.gi_desk.specs.declared.packet.Packet.{Packet}
@@ -41,6 +41,21 @@ returns-in_default-reserve-2-clause-short g c =
     let out = c.as_slice-out.ensures ∙ ap (λ (r : Reply). r.out) c.reply.ensures in
     let kept = subst (λ (packets : List Packet). 0 < length packets) (c.in-Ok.ensures.told ∙ ap (filter tells) out) more in
     (subst (λ (s : StationState). IsTrue (may_want side s.desk call)) c.self.view_is (lets_out_short side c.self.inside.desk call _ is (some_before tells _ kept)))
+
+pub returns-in_err-prepared-clause-short : goal.returns-in_err-prepared-clause-short
+returns-in_err-prepared-clause-short g c =
+    let side = g.R.Role.SIDE in
+    let call = c.args.call.now in
+    let short : IsTrue (may_want side c.args.self.now.desk call) =
+    subst (λ (s : StationState). IsTrue (may_want side s.desk call)) c.self.view_is (prepared-wants side c.self.inside.desk call c.in_err-prepared.ensures.short) in
+    search (rules, short)
+
+pub returns-in_default-make-clause-short : goal.returns-in_default-make-clause-short
+returns-in_default-make-clause-short g c =
+    let side = g.R.Role.SIDE in
+    let call = c.args.call.now in
+    subst (λ (s : StationState). IsTrue (may_want side s.desk call)) c.self.view_is
+    (made-wants side c.self.inside.desk call c.in_ok-prepared.prepared c.in_ok-prepared.ensures.value c.in_default-make.ensures.short)
 
 pub kept-requires : goal.kept-requires
 kept-requires g c =
