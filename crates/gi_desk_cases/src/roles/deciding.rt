@@ -83,14 +83,13 @@ fn order_taken(
         return Ok(None);
     }
     if by_role {
-        let message = Message::Delord(order);
-        let decision = Matching::decide(alloc, state, &message);
-        drop(message);
-        return Ok(Some(decision));
+        return Ok(Some(Matching::decide(
+            alloc,
+            state,
+            Message::Delord(order),
+        )));
     }
-    let decision = take_order(state, &order);
-    drop(order);
-    Ok(Some(decision))
+    Ok(Some(take_order(state, order)))
 }
 
 /// What is decided of the response that the line is; by the role, where it is asked.
@@ -108,14 +107,13 @@ fn response_taken(
         return Ok(None);
     }
     if by_role {
-        let message = Message::Delres(response);
-        let decision = Initiating::decide(alloc, state, &message);
-        drop(message);
-        return Ok(Some(decision));
+        return Ok(Some(Initiating::decide(
+            alloc,
+            state,
+            Message::Delres(response),
+        )));
     }
-    let decision = take_response(alloc, state, &response);
-    drop(response);
-    Ok(Some(decision))
+    Ok(Some(take_response(alloc, state, response)))
 }
 
 /// What the role of a side decides.

@@ -1,5 +1,4 @@
-use Rattle.std.proofs.Common.{◌<◌, filter, length, sym, ◌∙◌, rules}
-use Rattle.std.specs.Prelude.{OnErr}
+use Rattle.std.proofs.Common.{sym, ◌∙◌, rules}
 use Rattle.gi_desk.specs.Machine.{is_for_peer}
 use Rattle.gi_world.proofs.MemoryWanted.{some_passed}
 use Rattle.gi_world.proofs.passing.for_peer.Goals as goal

@@ -1,5 +1,4 @@
-use Rattle.std.proofs.Common.{◌<◌, filter, length, sym, ◌∙◌, rules}
-use Rattle.std.specs.Prelude.{OnErr}
+use Rattle.std.proofs.Common.{sym, ◌∙◌, rules}
 use Rattle.gi_world.specs.World.{tells}
 use Rattle.gi_world.proofs.MemoryWanted.{some_passed}
 use Rattle.gi_world.proofs.passing.telling.Goals as goal
