@@ -20,6 +20,7 @@ rows_fault side point old new (store.Damaged n) h k = (h, k)
 rows_fault side point old new store.BatchSize h k = (h, k)
 rows_fault side point old new store.NotLoaded h k = (h, k)
 rows_fault side point old new (store.NotNext n) h k = (h, k)
+rows_fault side point old new store.Busy h k = (h, k)
 rows_fault side point old new store.Store h k = (h, k)
 rows_fault side point old new store.OutOfMemory h k = tt
 
@@ -30,6 +31,7 @@ load_fault side point (store.Damaged n) = tt
 load_fault side point store.BatchSize = tt
 load_fault side point store.NotLoaded = tt
 load_fault side point (store.NotNext n) = tt
+load_fault side point store.Busy = tt
 load_fault side point store.Store = tt
 load_fault side point store.OutOfMemory = inl tt
 
