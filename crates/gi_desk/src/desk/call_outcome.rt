@@ -131,12 +131,11 @@ impl<R: Role> Desk<R> {
         ensures value { IfOk result (λ outcome. outcome ≡ delivered_of R.SIDE self.now.point self.now.facts (decoded bytes.now)) }
         ensures short { IfErr result (λ _. IsTrue (can_be_read bytes.now)) }
     {
-        let message = match decode(self.alloc, bytes) {
-            Ok(message) => message,
-            Err(MessageFault::OutOfMemory) => return Err(AllocError),
-            Err(fault) => return Ok(Outcome::Refuses(Refusal::Message(fault))),
-        };
-        self.received(message)
+        match decode(self.alloc, bytes) {
+            Ok(message) => self.received(message),
+            Err(MessageFault::OutOfMemory) => Err(AllocError),
+            Err(fault) => Ok(Outcome::Refuses(Refusal::Message(fault))),
+        }
     }
 
     fn resending(&self, id: &CycleId) -> Outcome

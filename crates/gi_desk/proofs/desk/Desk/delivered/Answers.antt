@@ -10,8 +10,8 @@ use Rattle.gi_desk.proofs.desk.Desk.delivered.Goals as goal
 pub received-requires : goal.received-requires
 received-requires g c = spelled-few _ _ c.in-Ok.ensures.found
 
-pub returns-clause-value : goal.returns-clause-value
-returns-clause-value g c =
+pub returns-in-Ok-clause-value : goal.returns-in-Ok-clause-value
+returns-in-Ok-clause-value g c =
     let side = g.R.Role.SIDE in
     let own = c.args.self.now.point in
     let facts = c.args.self.now.facts in
@@ -19,8 +19,8 @@ returns-clause-value g c =
     ap (λ (r : Result Message MessageFault). delivered side own facts r) (sym c.in-Ok.ensures.exact) in
     delivered-from c.received.result _ _ c.received.ensures read
 
-pub returns-clause-short : goal.returns-clause-short
-returns-clause-short g c = if_failed c.received.result (spelled-readable c.args.bytes.now c.in-Ok.message c.in-Ok.ensures.found)
+pub returns-in-Ok-clause-short : goal.returns-in-Ok-clause-short
+returns-in-Ok-clause-short g c = if_failed c.received.result (spelled-readable c.args.bytes.now c.in-Ok.message c.in-Ok.ensures.found)
 
 pub returns-in-Err-OutOfMemory-clause-short : goal.returns-in-Err-OutOfMemory-clause-short
 returns-in-Err-OutOfMemory-clause-short g c =
