@@ -1,5 +1,5 @@
 -- What is told of a stranger is what two offices are refused for.
-use Rattle.std.proofs.Common.{Err, sym, subst}
+use Rattle.std.proofs.Common.{inl, inr, Err, sym, subst}
 use Rattle.gi_pairs.specs.declared.side.Side.{Side}
 use Rattle.gi_pairs.specs.declared.side.Side.TheVariants.{I, M}
 use Rattle.gi_office.specs.Reconciling.{AreFrom, AreOfOnePoint, IsFirstStranger, IsStrangerFault, Reconciles, entries_of}
@@ -13,7 +13,7 @@ pub told_first :
 told_first initiating matching NotAPair one strange = absurd strange
 told_first initiating matching (Stranger side place) one strange =
     (one, subst (λ (s : Side). IsFirstStranger initiating matching s place) (sym strange.0) strange.1)
-told_first initiating matching OutOfMemory one strange = one
+told_first initiating matching OutOfMemory one strange = (one, inr strange)
 
 pub told_next :
     (initiating matching : SettledState) (fault : Unreconciled) → AreOfOnePoint initiating matching → AreFrom M matching.desk (entries_of initiating.lives)
@@ -21,4 +21,4 @@ pub told_next :
 told_next initiating matching NotAPair one from strange = absurd strange
 told_next initiating matching (Stranger side place) one from strange =
     (one, subst (λ (s : Side). IsFirstStranger initiating matching s place) (sym strange.0) (from, strange.1))
-told_next initiating matching OutOfMemory one from strange = one
+told_next initiating matching OutOfMemory one from strange = (one, inl strange)

@@ -1,14 +1,14 @@
 -- Two offices that are over, set against each other: whether what each was delivered was sent by the other, and what both
 -- then agree on.
-use Rattle.std.specs.Prelude.{◌≡◌, ◌≤◌, ℕ, ◌-◌, List, [], ◌∷◌, filter, take, slice_get, All, Bool, true, ◌&&◌, nat_eq, if◌then◌else◌, Option, None, Some, Result, Ok, Err}
+use Rattle.std.specs.Prelude.{◌≡◌, ◌≤◌, ℕ, ◌-◌, List, [], ◌∷◌, filter, take, slice_get, All, Bool, true, ◌&&◌, nat_eq, IsTrue, ◌⊎◌, if◌then◌else◌, Option, None, Some, Result, Ok, Err}
 use Rattle.std.specs.List.{flat_map, list_any}
 use Rattle.std.specs.Str.{bytes_eq}
 use Rattle.gi_pairs.specs.Table.{TableContents}
 use Rattle.gi_pairs.specs.declared.cycle_id.CycleId.{CycleId}
 use Rattle.gi_pairs.specs.declared.side.Side.{Side}
 use Rattle.gi_pairs.specs.declared.side.Side.TheVariants.{I, M}
-use Rattle.gi_desk.specs.Machine.{DeskState, is_for_peer}
-use Rattle.gi_desk.specs.Queries.{confirmed}
+use Rattle.gi_desk.specs.Machine.{DeskState, is_for_peer, some_leave}
+use Rattle.gi_desk.specs.Queries.{confirmed, outgoing}
 use Rattle.gi_desk.specs.declared.call.Call.{Call}
 use Rattle.gi_desk.specs.declared.call.Call.TheVariants as calls
 use Rattle.gi_desk.specs.declared.packet.Packet.{Packet}
@@ -58,11 +58,16 @@ pub record IsStranger (side : Side) (s : DeskState) (entries : List Entry) (plac
   pub strange : ¬ (IsFrom side s entry.call)
   pub before : AreFrom side s (take (place - 1) entries)
 
--- what is told of this side where what was delivered to it was not all sent by the other: its first stranger, or want of memory
+-- whether the saved facts of a side let a packet out
+abbrev pub has_sent : Side → DeskState → Bool
+has_sent side s = some_leave (outgoing side s 1)
+
+-- what is told of this side where what was delivered to it was not all sent by the other: its first stranger, or want of
+-- memory, where the other sent something
 abbrev pub IsStrangerFault : Side → Side → DeskState → List Entry → Unreconciled → Type 0
 IsStrangerFault own other s entries NotAPair = ⊥
 IsStrangerFault own other s entries (Stranger side place) = (side ≡ own) × IsStranger other s entries place
-IsStrangerFault own other s entries OutOfMemory = Unit {0}
+IsStrangerFault own other s entries OutOfMemory = IsTrue (has_sent other s)
 
 -- the first of the initiating side comes before that of the matching side
 abbrev pub IsFirstStranger : SettledState → SettledState → Side → ℕ → Type 0
@@ -73,12 +78,14 @@ IsFirstStranger initiating matching M place =
 abbrev pub AreOfOnePoint : SettledState → SettledState → Type 0
 AreOfOnePoint initiating matching = initiating.desk.point ≡ matching.desk.point
 
--- Both are of one point, and whatever was delivered was sent; else another point, or the first stranger.
+-- Both are of one point, and whatever was delivered was sent; else another point, or the first stranger. Memory is wanted only
+-- where a side sent something.
 abbrev pub Reconciles : SettledState → SettledState → Result (Unit {0}) Unreconciled → Type 0
 Reconciles initiating matching (Ok done) = AreOfOnePoint initiating matching × DeliveredIsSent initiating matching
 Reconciles initiating matching (Err NotAPair) = ¬ (AreOfOnePoint initiating matching)
 Reconciles initiating matching (Err (Stranger side place)) = AreOfOnePoint initiating matching × IsFirstStranger initiating matching side place
-Reconciles initiating matching (Err OutOfMemory) = AreOfOnePoint initiating matching
+Reconciles initiating matching (Err OutOfMemory) =
+    AreOfOnePoint initiating matching × (IsTrue (has_sent I initiating.desk) ⊎ IsTrue (has_sent M matching.desk))
 
 -- The test of that over the packets that a side sent: whether the call, where it delivers, delivers one of them.
 abbrev pub carries : List ℕ → Packet → Bool

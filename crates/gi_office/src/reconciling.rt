@@ -1,9 +1,9 @@
 //! Two offices that are over, set against each other.
 
-ghost use Rattle.std.specs.Prelude.{◌≡◌, IfErr, IfOk, MatchOption, OnOk};
+ghost use Rattle.std.specs.Prelude.{◌≡◌, IfErr, IfOk, IsTrue, MatchOption, OnOk};
 ghost use Rattle.std.specs.List.{list_any};
 ghost use Rattle.gi_desk.specs.Queries.{outgoing};
-ghost use Rattle.gi_office.specs.Reconciling.{AgreeOnOneQuantity, AreFrom, IsStranger, IsStrangerFault, Reconciles, carries, entries_of, is_from};
+ghost use Rattle.gi_office.specs.Reconciling.{AgreeOnOneQuantity, AreFrom, IsStranger, IsStrangerFault, Reconciles, carries, entries_of, has_sent, is_from};
 
 use crate::entry::Entry;
 use crate::settled::Settled;
@@ -55,7 +55,8 @@ fn stranger<R: Role, S: Role>(
     receiver: &Settled<R>,
     sender: &Settled<S>,
 ) -> Result<Option<u64>, AllocError>
-    ensures { IfOk result (λ found. MatchOption found (AreFrom S.SIDE sender.now.desk (entries_of receiver.now.lives)) (λ place. IsStranger S.SIDE sender.now.desk (entries_of receiver.now.lives) place)) }
+    ensures first { IfOk result (λ found. MatchOption found (AreFrom S.SIDE sender.now.desk (entries_of receiver.now.lives)) (λ place. IsStranger S.SIDE sender.now.desk (entries_of receiver.now.lives) place)) }
+    ensures short { IfErr result (λ _. IsTrue (has_sent S.SIDE sender.now.desk)) }
 {
     let packets = sender.desk().outgoing(1)?;
     Ok(stranger_among(sender, packets.as_slice(), receiver.entries()))
@@ -78,9 +79,10 @@ fn none_strange<R: Role, S: Role>(
 
 /// Sets the offices of the two operators against each other: whether both are of one point, else
 /// `NotAPair`, and what was delivered to each, accepted or not, is what a saved fact of the other
-/// lets out to its peer, else `Stranger`, the first; `OutOfMemory`. Where it answers `Ok`, and what
-/// each first life opened with agrees with the other side, every quantity that either side has
-/// confirmed, or told in any reply, is the lower of the two that both froze.
+/// lets out to its peer, else `Stranger`, the first; `OutOfMemory`, where a side let something out.
+/// Where it answers `Ok`, and what each first life opened with agrees with the other side, every
+/// quantity that either side has confirmed, or told in any reply, is the lower of the two that both
+/// froze.
 pub fn reconcile(
     initiating: &Settled<Initiating>,
     matching: &Settled<Matching>,
