@@ -1,5 +1,5 @@
 -- Why an open book has no report.
-use Rattle.std.proofs.Common.{◌≡◌, ◌⊎◌, inl, ℕ, List, Result, Ok, Err, IfErr, sym, subst}
+use Rattle.std.proofs.Common.{◌≡◌, inl, ℕ, List, Result, Ok, Err, IfErr, sym, subst}
 use Rattle.std.specs.Prelude.{IsErrAnd}
 use Rattle.gi_pairs.specs.declared.side.Side.{Side}
 use Rattle.gi_facts.specs.declared.fact.Fact.{Fact}
