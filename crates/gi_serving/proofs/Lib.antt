@@ -1,6 +1,7 @@
 mod Asked
 mod Dealing
 mod Endings
+mod Faulting
 mod Ordering
 mod Places
 mod Turning

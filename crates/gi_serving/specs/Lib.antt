@@ -5,6 +5,7 @@ pub mod Books
 pub mod Closing
 pub mod Ending
 pub mod FaultText
+pub mod Faulting
 pub mod Making
 pub mod Runs
 pub mod Submitting

@@ -1,14 +1,16 @@
 //! A batch at both offices at once, and the turns that save meanwhile.
 
-ghost use Rattle.std.specs.Prelude.{◌≡◌, ◌⊎◌, ◌≤◌, ◌<◌, ◌+◌, ◌++◌, ◌∷◌, [], Err, IfErr, IfOk, IsOk, Ok, OnOk, length};
+ghost use Rattle.std.specs.Prelude.{◌≡◌, ◌⊎◌, ◌≤◌, ◌<◌, ◌+◌, ◌++◌, ◌∷◌, [], Err, IfErr, IfOk, IfSome, IsOk, Ok, OnOk, is_some, length, true};
 ghost use Rattle.std.specs.Thread.{IsSync};
 ghost use Rattle.gi_pairs.specs.declared.side.Side.TheVariants.{I, M};
 ghost use Rattle.gi_serving.specs.Asking.{EndsTurns, IsTurned, NotesMarks, OtherIs};
 ghost use Rattle.gi_serving.specs.Ending.{AreSamePlaces, IsCut, IsTurnFault, place_of};
+ghost use Rattle.gi_serving.specs.Faulting.{BothGoWell, TellsTurns, TurnsEnd};
 ghost use Rattle.gi_serving.specs.Submitting.{HasMain, SessionsMake, SubmitsBatch};
 ghost use Rattle.gi_serving.specs.declared.serve_fault.ServeFault.TheVariants.{OutOfMemory, Turn};
 
 use crate::batch::submitted;
+use crate::once::Once;
 use crate::paired::both_of;
 use crate::serve_fault::ServeFault;
 use crate::turns::Turns;
@@ -27,6 +29,19 @@ use std::thread::Threads;
 
 /// Seats of an office, and a word of each body that its sessions submitted.
 type Made<L> = (Vec<Seat<L>>, Vec<Word>);
+
+/// What the turns take over: the notices, and both main seats.
+type Turning<L, K> = (Receiver<Side>, Seat<L>, Seat<K>);
+
+/// What the sessions of both offices take over.
+type Submitting<L, K> = (
+    Waker,
+    Vec<Seat<L>>,
+    Vec<Body>,
+    Waker,
+    Vec<Seat<K>>,
+    Vec<Body>,
+);
 
 /// What came of the bodies of an office, with its sessions' seats.
 type Submitted<L> = Result<Made<L>, AllocError>;
@@ -93,6 +108,7 @@ fn saved_meanwhile<L: Ledger, K: Ledger, B: Turns, C: Turns, W: Wait>(
     ensures peer_marks { OnOk result.2 (NotesMarks peer_main result.1) }
     ensures fault { IfErr result.2 IsTurnFault }
     ensures last { IfErr result.2 (λ fault. EndsTurns (B.takes I) book.new (Err fault) result.0 ⊎ EndsTurns (C.takes M) peer_book.new (Err fault) result.1) }
+    ensures ends { TurnsEnd (B.takes I) (C.takes M) book.old peer_book.old book.new peer_book.new result.2 }
 {
     let mut main = main;
     let mut peer_main = peer_main;
@@ -166,7 +182,7 @@ fn parted<L: Ledger>(seats: Vec<Seat<L>>) -> (Vec<Seat<L>>, Seat<L>)
     (seats, main)
 }
 
-/// Want of memory comes before the fault of a turn.
+/// The fault of a turn comes before want of memory.
 fn unless_cut<L: Ledger, K: Ledger>(
     submitted: (Submitted<L>, Submitted<K>),
     saved: Result<(), SaveFault>,
@@ -175,16 +191,22 @@ fn unless_cut<L: Ledger, K: Ledger>(
     ensures ours { IfOk result (λ both. submitted.0 ≡ Ok both.0) }
     ensures theirs { IfOk result (λ both. submitted.1 ≡ Ok both.1) }
     ensures saved { OnOk result (IsOk saved) }
-    ensures short { IfErr submitted.0 (λ _. result ≡ Err OutOfMemory) }
-    ensures peer_short { IfErr submitted.1 (λ _. result ≡ Err OutOfMemory) }
-    ensures turn { IfErr saved (λ fault. IsOk submitted.0 → IsOk submitted.1 → result ≡ Err (Turn fault)) }
+    ensures turn { IfErr saved (λ fault. result ≡ Err (Turn fault)) }
+    ensures short { IsOk saved → IfErr submitted.0 (λ _. result ≡ Err OutOfMemory) }
+    ensures peer_short { IsOk saved → IfErr submitted.1 (λ _. result ≡ Err OutOfMemory) }
+    ensures no_turn { IsOk saved → IfErr result (λ fault. fault ≡ OutOfMemory) }
     ensures cut { IfErr result (λ fault. IsCut (Err fault)) }
 {
     let (ours, theirs) = submitted;
-    match (both_of(ours, theirs), saved) {
-        (Ok(both), Ok(())) => Ok(both),
-        (Ok(_), Err(fault)) => Err(ServeFault::Turn(fault)),
-        (Err(_), _) => Err(ServeFault::OutOfMemory),
+    match saved {
+        Ok(()) => match both_of(ours, theirs) {
+            Ok(both) => Ok(both),
+            Err(_) => Err(ServeFault::OutOfMemory),
+        },
+        Err(fault) => {
+            drop((ours, theirs));
+            Err(ServeFault::Turn(fault))
+        }
     }
 }
 
@@ -206,7 +228,8 @@ fn whole<L: Ledger, K: Ledger>(
     ensures ours { IfOk result (λ both. HasMain submitted.0 saved.0 both.0.0.items both.0.1.items) }
     ensures theirs { IfOk result (λ both. HasMain submitted.1 saved.1 both.1.0.items both.1.1.items) }
     ensures saved { OnOk result (IsOk saved.2) }
-    ensures turn { IfErr saved.2 (λ fault. IsOk submitted.0 → IsOk submitted.1 → result ≡ Err (Turn fault)) }
+    ensures turn { IfErr saved.2 (λ fault. result ≡ Err (Turn fault)) }
+    ensures no_turn { IsOk saved.2 → IfErr result (λ fault. fault ≡ OutOfMemory) }
     ensures cut { IfErr result (λ fault. IsCut (Err fault)) }
 {
     let (main, peer_main, saved) = saved;
@@ -219,6 +242,81 @@ fn whole<L: Ledger, K: Ledger>(
         }
     };
     Ok(both_of(with_main(ours, main), with_main(theirs, peer_main))?)
+}
+
+/// The turns beside the sessions. They are lent to their threads with what they take over, so that what
+/// the turns make of the books is known behind it.
+fn joined<
+    L: Ledger + Send + Sync,
+    K: Ledger + Send + Sync,
+    B: Turns + Send,
+    C: Turns + Send,
+    X: Once<Item = Turning<L, K>> + Send,
+    Y: Once<Item = Submitting<L, K>>,
+    T: Threads + Wait + Sync,
+>(
+    rt: &T,
+    alloc: Global,
+    sessions: u8,
+    office: &Office<Initiating, L>,
+    book: &mut B,
+    peer: &Office<Matching, K>,
+    peer_book: &mut C,
+    turning: &mut X,
+    submitting: &mut Y,
+) -> (
+    (Seat<L>, Seat<K>, Result<(), SaveFault>),
+    (Submitted<L>, Submitted<K>),
+)
+    requires some { 1 ≤ sessions }
+    requires few { sessions < 16 }
+    requires turning { is_some (X.left turning.old) ≡ true }
+    requires submitting { is_some (Y.left submitting.old) ≡ true }
+    requires seats { IfSome (Y.left submitting.old) (λ it. (it.0 ≡ I) × (it.3 ≡ M) × (length it.1.items ≡ sessions) × (length it.4.items ≡ sessions)) }
+    ensures turned { IfSome (X.left turning.old) (λ it. (place_of result.0.0 ≡ place_of it.1) × (place_of result.0.1 ≡ place_of it.2)
+        × OnOk result.0.2 (NotesMarks it.1 result.0.0) × OnOk result.0.2 (NotesMarks it.2 result.0.1)) }
+    ensures fault { IfErr result.0.2 IsTurnFault }
+    ensures ends { TurnsEnd (B.takes I) (C.takes M) book.old peer_book.old book.new peer_book.new result.0.2 }
+    ensures submitted { IfSome (Y.left submitting.old) (λ it. IfOk result.1.0 (λ submitted. AreSamePlaces it.1.items submitted.0.items)
+        × IfOk result.1.1 (λ submitted. AreSamePlaces it.4.items submitted.0.items)
+        × IfOk result.1.0 (λ submitted. SessionsMake I sessions it.2.items it.1.items submitted.1.items submitted.0.items)
+        × IfOk result.1.1 (λ submitted. SessionsMake M sessions it.5.items it.4.items submitted.1.items submitted.0.items)) }
+{
+    thread::join_mut(
+        rt,
+        &mut || -> (Seat<L>, Seat<K>, Result<(), SaveFault>)
+            requires { is_some (X.left turning.now) ≡ true }
+            ensures { IfSome (X.left turning.entry.now) (λ it. (place_of result.0 ≡ place_of it.1) × (place_of result.1 ≡ place_of it.2)
+                × OnOk result.2 (NotesMarks it.1 result.0) × OnOk result.2 (NotesMarks it.2 result.1)) × IfErr result.2 IsTurnFault
+                × TurnsEnd (B.takes I) (C.takes M) book.entry.now peer_book.entry.now book.exit.now peer_book.exit.now result.2 }
+        {
+            let (notices, main, peer_main) = turning.once();
+            saved_meanwhile(rt, notices, office, book, main, peer, peer_book, peer_main)
+        },
+        &mut || -> (Submitted<L>, Submitted<K>)
+            requires { IsSync T.row × (1 ≤ sessions) × (sessions < 16) × (is_some (Y.left submitting.now) ≡ true)
+                × IfSome (Y.left submitting.now) (λ it. (it.0 ≡ I) × (it.3 ≡ M) × (length it.1.items ≡ sessions) × (length it.4.items ≡ sessions)) }
+            ensures { IfSome (Y.left submitting.entry.now) (λ it. IfOk result.0 (λ submitted. AreSamePlaces it.1.items submitted.0.items)
+                × IfOk result.1 (λ submitted. AreSamePlaces it.4.items submitted.0.items)
+                × IfOk result.0 (λ submitted. SessionsMake I sessions it.2.items it.1.items submitted.1.items submitted.0.items)
+                × IfOk result.1 (λ submitted. SessionsMake M sessions it.5.items it.4.items submitted.1.items submitted.0.items)) }
+        {
+            let (waker, seats, bodies, peer_waker, peer_seats, peer_bodies) = submitting.once();
+            both_submitted(
+                rt,
+                alloc,
+                sessions,
+                office,
+                waker,
+                seats,
+                bodies,
+                peer,
+                peer_waker,
+                peer_seats,
+                peer_bodies,
+            )
+        },
+    )
 }
 
 /// Where no thread can be started the sessions come first, so that the turns wait for nobody.
@@ -250,37 +348,27 @@ pub(crate) fn at_once<
     ensures submits { IfOk result (λ both. SubmitsBatch I sessions bodies.items seats.items both.0.1.items both.0.0.items) }
     ensures peer_submits { IfOk result (λ both. SubmitsBatch M sessions peer_bodies.items peer_seats.items both.1.1.items both.1.0.items) }
     ensures cut { IfErr result (λ fault. IsCut (Err fault)) }
+    ensures well { OnOk result (BothGoWell (B.takes I) (C.takes M) book.old peer_book.old book.new peer_book.new) }
+    ensures tells { IfErr result (TellsTurns (B.takes I) (C.takes M) book.old peer_book.old book.new peer_book.new) }
 {
     let (waker, peer_waker, notices) = wakers(alloc)?;
     let (seats, main) = parted(seats);
     let (peer_seats, peer_main) = parted(peer_seats);
-    let (saved, submitted) = thread::join(
+    let mut turning = Some((notices, main, peer_main));
+    let mut submitting = Some((waker, seats, bodies, peer_waker, peer_seats, peer_bodies));
+    let (saved, submitted) = joined(
         rt,
-        move || -> (Seat<L>, Seat<K>, Result<(), SaveFault>)
-            ensures { (place_of result.0 ≡ place_of main) × (place_of result.1 ≡ place_of peer_main)
-                × OnOk result.2 (NotesMarks main result.0) × OnOk result.2 (NotesMarks peer_main result.1) × IfErr result.2 IsTurnFault }
-        { saved_meanwhile(rt, notices, office, book, main, peer, peer_book, peer_main) },
-        move || -> (Submitted<L>, Submitted<K>)
-            requires { IsSync T.row × (waker ≡ I) × (peer_waker ≡ M) × (1 ≤ sessions) × (sessions < 16) × (length seats.items ≡ sessions) × (length peer_seats.items ≡ sessions) }
-            ensures { IfOk result.0 (λ submitted. AreSamePlaces seats.items submitted.0.items)
-                × IfOk result.1 (λ submitted. AreSamePlaces peer_seats.items submitted.0.items)
-                × IfOk result.0 (λ submitted. SessionsMake I sessions bodies.items seats.items submitted.1.items submitted.0.items)
-                × IfOk result.1 (λ submitted. SessionsMake M sessions peer_bodies.items peer_seats.items submitted.1.items submitted.0.items) }
-        {
-            both_submitted(
-                rt,
-                alloc,
-                sessions,
-                office,
-                waker,
-                seats,
-                bodies,
-                peer,
-                peer_waker,
-                peer_seats,
-                peer_bodies,
-            )
-        },
+        alloc,
+        sessions,
+        office,
+        book,
+        peer,
+        peer_book,
+        &mut turning,
+        &mut submitting,
     );
+    // (handed to drop, by one call each: going out of scope here would be checked field by field)
+    drop(turning);
+    drop(submitting);
     whole(saved, submitted)
 }

@@ -5,6 +5,7 @@ ghost use Rattle.gi_pairs.specs.declared.side.Side.TheVariants.{I, M};
 ghost use Rattle.gi_serving.specs.Asking.{EndsAtLast, MarksLast, Sends};
 ghost use Rattle.gi_serving.specs.Closing.{IsClosed};
 ghost use Rattle.gi_serving.specs.Ending.{AreSamePlaces, EndsTurnsOf, IsCut};
+ghost use Rattle.gi_serving.specs.Faulting.{BothGoWell, TellsTurns};
 ghost use Rattle.gi_serving.specs.Making.{MakesBatch, MakesLine, SavesAndSends, new_offices, offices_of};
 ghost use Rattle.gi_serving.specs.Runs.{side_in};
 ghost use Rattle.gi_serving.specs.Submitting.{SubmitsBatch};
@@ -91,6 +92,8 @@ fn submit_from<
     ensures submits { IfOk result (λ words. SubmitsBatch I sessions bodies.items seats.old.items words.0.items seats.new.items) }
     ensures peer_submits { IfOk result (λ words. SubmitsBatch M sessions peer_bodies.items peer_seats.old.items words.1.items peer_seats.new.items) }
     ensures cut { IfErr result (λ fault. IsCut (Err fault)) }
+    ensures well { OnOk result (BothGoWell (B.takes I) (C.takes M) book.old peer_book.old book.new peer_book.new) }
+    ensures tells { IfErr result (TellsTurns (B.takes I) (C.takes M) book.old peer_book.old book.new peer_book.new) }
 {
     let all = mem::replace(seats, Vec::new(alloc));
     let peer_all = mem::replace(peer_seats, Vec::new(alloc));
@@ -156,6 +159,8 @@ impl<L: Ledger, K: Ledger, B: Turns + Drop, C: Turns + Drop> Both<L, K, B, C> {
         ensures made { IfOk result (λ text. MakesLine (side_in line.now.instruction) line.now
             (offices_of self.old.initiating self.old.matching) (string_bytes text) (offices_of self.new.initiating self.new.matching)) }
         ensures cut { IfErr result (λ fault. fault ≡ ServeFault.OutOfMemory) }
+        ensures book { self.new.initiating.book ≡ self.old.initiating.book }
+        ensures peer_book { self.new.matching.book ≡ self.old.matching.book }
     {
         let said = match side_of(&line.instruction) {
             Side::I => self.initiating.line(rt, line),
@@ -197,6 +202,10 @@ impl<L: Ledger, K: Ledger, B: Turns + Drop, C: Turns + Drop> Both<L, K, B, C> {
         ensures fault { IfErr result (EndsTurnsOf
             (λ why. EndsAtLast (B.takes I) self.new.initiating.book (Err why) self.new.initiating.seats.items)
             (λ why. EndsAtLast (C.takes M) self.new.matching.book (Err why) self.new.matching.seats.items)) }
+
+        // Where one ended by a fault that is told, and where memory ran out none did.
+        ensures well { OnOk result (BothGoWell (B.takes I) (C.takes M) self.old.initiating.book self.old.matching.book self.new.initiating.book self.new.matching.book) }
+        ensures tells { IfErr result (TellsTurns (B.takes I) (C.takes M) self.old.initiating.book self.old.matching.book self.new.initiating.book self.new.matching.book) }
 
         // The turns of the initiating office end, and end well, before those of the matching office begin.
         ensures first { OnErr result ((self.new.matching ≡ self.old.matching) ⊎ MarksLast self.old.initiating.seats.items self.new.initiating.seats.items) }
@@ -252,6 +261,8 @@ impl<
         ensures submits { IfOk result (λ words. SubmitsBatch I self.old.sessions bodies.items self.old.initiating.seats.items words.0.items self.new.initiating.seats.items) }
         ensures peer_submits { IfOk result (λ words. SubmitsBatch M self.old.sessions peer_bodies.items self.old.matching.seats.items words.1.items self.new.matching.seats.items) }
         ensures cut { IfErr result (λ fault. IsCut (Err fault)) }
+        ensures well { OnOk result (BothGoWell (B.takes I) (C.takes M) self.old.initiating.book self.old.matching.book self.new.initiating.book self.new.matching.book) }
+        ensures tells { IfErr result (TellsTurns (B.takes I) (C.takes M) self.old.initiating.book self.old.matching.book self.new.initiating.book self.new.matching.book) }
     {
         let (alloc, sessions) = (self.alloc, self.sessions);
         let initiating = &mut self.initiating;
@@ -284,6 +295,8 @@ impl<
         ensures made { IfOk result (λ text. MakesBatch self.old.sessions lines.now
             (offices_of self.old.initiating self.old.matching) (string_bytes text) (offices_of self.new.initiating self.new.matching)) }
         ensures cut { IfErr result (λ fault. IsCut (Err fault)) }
+        ensures well { OnOk result (BothGoWell (B.takes I) (C.takes M) self.old.initiating.book self.old.matching.book self.new.initiating.book self.new.matching.book) }
+        ensures tells { IfErr result (TellsTurns (B.takes I) (C.takes M) self.old.initiating.book self.old.matching.book self.new.initiating.book self.new.matching.book) }
     {
         let (bodies, peer_bodies) = bodies_of_both(self.alloc, lines)?;
         let (words, peer_words) = self.submit(rt, bodies, peer_bodies)?;

@@ -37,6 +37,7 @@ mod at_once;
 mod batch;
 mod both;
 mod closing;
+mod once;
 mod paired;
 mod pieces;
 mod running;

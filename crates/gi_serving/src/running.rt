@@ -8,6 +8,7 @@ ghost use Rattle.gi_office.specs.Opening.{new_seats};
 ghost use Rattle.gi_simulation.specs.Simulation.{moved_on, new_link};
 ghost use Rattle.gi_serving.specs.Asking.{Answers, AsksLast, Carries, EndsAtLast, EndsTurns, LetsOut, MakesAt, MakesSeats, MarksLast, NotesMarks, Sends, out_behind, way_after};
 ghost use Rattle.gi_serving.specs.Ending.{AreSamePlaces, IsTurnFault, place_of};
+ghost use Rattle.gi_serving.specs.Faulting.{EndBy, GoWell};
 ghost use Rattle.gi_serving.specs.Making.{state_of};
 ghost use Rattle.gi_serving.specs.Runs.{is_made, is_told, side_in};
 ghost use Rattle.gi_serving.specs.Words.{word_in};
@@ -90,6 +91,8 @@ fn saved_all<R: Role, L: Ledger, B: Turns, W: Wait>(
     ensures marks { OnOk result.1 (NotesMarks seat result.0) }
     ensures fault { IfErr result.1 IsTurnFault }
     ensures last { EndsTurns (B.takes R.SIDE) book.new result.1 result.0 }
+    ensures well { OnOk result.1 (GoWell (B.takes R.SIDE) book.old book.new) }
+    ensures ended { IfErr result.1 (EndBy (B.takes R.SIDE) book.old book.new) }
 {
     let mut main = seat;
     for _ in rt.forever() {
@@ -203,6 +206,7 @@ impl<R: Role, L: Ledger, B: Turns + Drop> Running<R, L, B> {
     fn ask<W: Wait>(&mut self, rt: &W, call: Call) -> Result<Option<Word>, AllocError>
         requires { 0 < length self.old.seats.items }
         ensures office { self.new.office ≡ self.old.office }
+        ensures book { self.new.book ≡ self.old.book }
         ensures seats { AreSamePlaces self.old.seats.items self.new.seats.items }
         ensures sent { self.new.sent ≡ self.old.sent }
         ensures way { self.new.way ≡ self.old.way }
@@ -218,6 +222,7 @@ impl<R: Role, L: Ledger, B: Turns + Drop> Running<R, L, B> {
     fn ask_copy<W: Wait>(&mut self, rt: &W, call: &Call) -> Result<Option<Word>, AllocError>
         requires { 0 < length self.old.seats.items }
         ensures office { self.new.office ≡ self.old.office }
+        ensures book { self.new.book ≡ self.old.book }
         ensures seats { AreSamePlaces self.old.seats.items self.new.seats.items }
         ensures sent { self.new.sent ≡ self.old.sent }
         ensures way { self.new.way ≡ self.old.way }
@@ -230,6 +235,7 @@ impl<R: Role, L: Ledger, B: Turns + Drop> Running<R, L, B> {
 
     fn set(&mut self, plan: &Plan) -> Result<Option<Word>, AllocError>
         ensures office { self.new.office ≡ self.old.office }
+        ensures book { self.new.book ≡ self.old.book }
         ensures seats { self.new.seats ≡ self.old.seats }
         ensures sent { self.new.sent ≡ self.old.sent }
         ensures way { OnOk result (self.new.way ≡ record { carrier = self.old.way.carrier; plan = plan.now }) }
@@ -247,6 +253,7 @@ impl<R: Role, L: Ledger, B: Turns + Drop> Running<R, L, B> {
     ) -> Result<Option<Word>, AllocError>
         requires { 0 < length self.old.seats.items }
         ensures office { self.new.office ≡ self.old.office }
+        ensures book { self.new.book ≡ self.old.book }
         ensures seats { AreSamePlaces self.old.seats.items self.new.seats.items }
         ensures sent { self.new.sent ≡ self.old.sent }
         ensures way { self.new.way ≡ self.old.way }
@@ -262,6 +269,7 @@ impl<R: Role, L: Ledger, B: Turns + Drop> Running<R, L, B> {
     fn carry<W: Wait>(&mut self, rt: &W) -> Result<Option<Word>, AllocError>
         requires { 0 < length self.old.seats.items }
         ensures office { self.new.office ≡ self.old.office }
+        ensures book { self.new.book ≡ self.old.book }
         ensures seats { AreSamePlaces self.old.seats.items self.new.seats.items }
         ensures sent { self.new.sent ≡ self.old.sent }
         ensures way { OnOk result (self.new.way ≡ moved_on self.old.way) }
@@ -279,6 +287,7 @@ impl<R: Role, L: Ledger, B: Turns + Drop> Running<R, L, B> {
     ) -> Result<Option<Word>, AllocError>
         requires { 0 < length self.old.seats.items }
         ensures office { self.new.office ≡ self.old.office }
+        ensures book { self.new.book ≡ self.old.book }
         ensures seats { AreSamePlaces self.old.seats.items self.new.seats.items }
         ensures sent { self.new.sent ≡ self.old.sent }
         ensures way { OnOk result (self.new.way ≡ way_after instruction.now self.old.way) }
@@ -298,6 +307,7 @@ impl<R: Role, L: Ledger, B: Turns + Drop> Running<R, L, B> {
         requires some { 0 < length self.old.seats.items }
         requires side { side_in line.now.instruction ≡ R.SIDE }
         ensures office { self.new.office ≡ self.old.office }
+        ensures book { self.new.book ≡ self.old.book }
         ensures seats { AreSamePlaces self.old.seats.items self.new.seats.items }
         ensures made { IfOk result (λ text. MakesAt R.SIDE line.now (state_of self.old) (string_bytes text) (state_of self.new)) }
     {
@@ -314,6 +324,8 @@ impl<R: Role, L: Ledger, B: Turns + Drop> Running<R, L, B> {
         ensures marks { OnOk result (MarksLast self.old.seats.items self.new.seats.items) }
         ensures fault { IfErr result IsTurnFault }
         ensures last { EndsAtLast (B.takes R.SIDE) self.new.book result self.new.seats.items }
+        ensures well { OnOk result (GoWell (B.takes R.SIDE) self.old.book self.new.book) }
+        ensures ended { IfErr result (EndBy (B.takes R.SIDE) self.old.book self.new.book) }
     {
         let main = self.seats.pop().unwrap();
         let (main, saved) = saved_all(rt, &self.office, &mut self.book, main);

@@ -5,7 +5,9 @@ ghost use Rattle.sqlite.specs.Held.{state};
 ghost use Rattle.gi_store.specs.Book.{IsRead, counted};
 ghost use Rattle.gi_store.specs.Clean.{IsClean};
 ghost use Rattle.gi_serving.specs.Batches.{submission as submission_in};
+ghost use Rattle.gi_pairs.specs.declared.side.Side.TheVariants.{I, M};
 ghost use Rattle.gi_serving.specs.Ending.{AreSamePlaces, Closes, IsCut, IsOver, IsTold};
+ghost use Rattle.gi_serving.specs.Faulting.{BothGoWell, TellsTurns};
 ghost use Rattle.gi_serving.specs.Making.{AddsFirst, MakesFirst, Runs, RunsSome, new_offices, offices_of};
 ghost use Rattle.gi_serving.specs.Runs.{lead, pieces};
 
@@ -72,6 +74,8 @@ fn made<
     ensures made { IfOk result (λ text. MakesFirst both.old.sessions lines.now (max batch 1)
         (offices_of both.old.initiating both.old.matching) (string_bytes text) (offices_of both.new.initiating both.new.matching)) }
     ensures cut { IfErr result (λ fault. IsCut (Err fault)) }
+    ensures well { OnOk result (BothGoWell (B.takes I) (C.takes M) both.old.initiating.book both.old.matching.book both.new.initiating.book both.new.matching.book) }
+    ensures tells { IfErr result (TellsTurns (B.takes I) (C.takes M) both.old.initiating.book both.old.matching.book both.new.initiating.book both.new.matching.book) }
 {
     if batch == 0 {
         both.line(rt, &lines[0])
@@ -99,6 +103,8 @@ fn made_and_saved<
     ensures made { IfOk result (λ text. AddsFirst both.old.sessions lines.now (max batch 1)
         (offices_of both.old.initiating both.old.matching) [] (string_bytes text) (offices_of both.new.initiating both.new.matching)) }
     ensures cut { IfErr result (λ fault. IsCut (Err fault)) }
+    ensures well { OnOk result (BothGoWell (B.takes I) (C.takes M) both.old.initiating.book both.old.matching.book both.new.initiating.book both.new.matching.book) }
+    ensures tells { IfErr result (TellsTurns (B.takes I) (C.takes M) both.old.initiating.book both.old.matching.book both.new.initiating.book both.new.matching.book) }
 {
     let said = match made(rt, both, lines, batch) {
         Ok(said) => said,
@@ -135,6 +141,8 @@ fn step<
         (offices_of both.old.initiating both.old.matching) (string_bytes text.old) (string_bytes text.new) (offices_of both.new.initiating both.new.matching)) }
     ensures kept { OnErr result (string_bytes text.new ≡ string_bytes text.old) }
     ensures cut { IfErr result (λ fault. IsCut (Err fault)) }
+    ensures well { OnOk result (BothGoWell (B.takes I) (C.takes M) both.old.initiating.book both.old.matching.book both.new.initiating.book both.new.matching.book) }
+    ensures tells { IfErr result (TellsTurns (B.takes I) (C.takes M) both.old.initiating.book both.old.matching.book both.new.initiating.book both.new.matching.book) }
 {
     let said = match made_and_saved(rt, both, lines, batch) {
         Ok(said) => said,
@@ -172,6 +180,8 @@ fn run<
     ensures whole { OnOk result (Runs both.old.sessions (pieces lines.now)
         (offices_of both.old.initiating both.old.matching) (string_bytes text.new) (offices_of both.new.initiating both.new.matching)) }
     ensures cut { IfErr result (λ fault. IsCut (Err fault)) }
+    ensures well { OnOk result (BothGoWell (B.takes I) (C.takes M) both.old.initiating.book both.old.matching.book both.new.initiating.book both.new.matching.book) }
+    ensures tells { IfErr result (TellsTurns (B.takes I) (C.takes M) both.old.initiating.book both.old.matching.book both.new.initiating.book both.new.matching.book) }
     ensures left { IfErr result (λ fault. V.told watch.new < length lines.now) }
     ensures over { OnOk result (V.told watch.new ≡ length lines.now) }
     ensures counted { V.whole watch.new ≡ length lines.now }
@@ -295,11 +305,11 @@ fn serve_by<
 }
 
 /// Serves a script by both offices, each with so many sessions, from 1 to 15, from desks of its point that
-/// are not halted and whose facts are all saved, and their books, which are loaded and have these facts. The text has a line of each
-/// step, and then the last lines of both offices, handed all their seats. Where memory runs out, or a turn
-/// that saves answers a fault, that is the end, and the text has the lines of what was done before. The
-/// watch is told after each batch and each other line how many lines are made and told of, of how many:
-/// of a run that was not cut off, all.
+/// are not halted and whose facts are all saved, and their books, which are loaded and have these facts. The
+/// text has a line of each step, and then the last lines of both offices, handed all their seats. Where a
+/// turn that saves answers a fault, or memory runs out, that is the end, a turn's fault before want of
+/// memory, and the text has the lines of what was done before. The watch is told after each batch and each
+/// other line how many lines are made and told of, of how many: of a run that was not cut off, all.
 pub fn serve<S: Alter + Drop + Send, T: Threads + Wait + Sync, V: Watch>(
     rt: &T,
     alloc: Global,

@@ -11,8 +11,9 @@ use sqlite::Alter;
 use std::sync::Wait;
 use std::sync::ledger::Ledger;
 
-/// A book, of which no contract of this crate says what is in it, but with which facts it was loaded.
-/// The books of both offices are of two types here, so that none stands in the other's place.
+/// A book. What it holds once it is loaded, and what a turn makes of it, the ghost members say: no contract
+/// of this crate but those of its impl and of `serve` looks further into it. The books of both offices are
+/// of two types here, so that none stands in the other's place.
 pub(crate) trait Turns {
     ghost use Rattle.std.specs.Prelude.{◌≡◌, IfErr, List, OnOk, Result};
     ghost use Rattle.gi_facts.specs.declared.fact.Fact.{Fact};

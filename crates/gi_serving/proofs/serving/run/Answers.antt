@@ -1,6 +1,8 @@
 use Rattle.std.proofs.Common.{arith, rules, ◌≡◌, ◌≤◌, ◌+◌, ◌-◌, max, length, take, drop, string_bytes, ℕ, ap, refl, ◌∙◌, sym, subst}
 use Rattle.std.proofs.lemmas.List.{take_rest}
 use Rattle.gi_serving.specs.Making.{AddsFirst, offices_of}
+use Rattle.gi_pairs.specs.declared.side.Side.TheVariants.{I, M}
+use Rattle.gi_serving.proofs.Faulting.{both_kept, both_then, tells_then}
 use Rattle.gi_serving.proofs.Places.{same_again, same_length}
 use Rattle.gi_serving.proofs.Walking.{begun, next_made, so_far, to_the_end}
 use Rattle.gi_serving.proofs.serving.run.Goals as goal
@@ -13,6 +15,9 @@ loop-at-init g c =
       sessions = refl;
       ours = refl;
       theirs = refl;
+      well =
+          both_kept (g.B.Turns.takes I) (g.C.Turns.takes M) c.args.both.now.initiating.book c.args.both.now.initiating.book
+          c.args.both.now.matching.book c.args.both.now.matching.book refl refl;
       watched = c.requires.begun;
       counted = c.requires.counted;
       made = begun c.args.both.now.sessions c.args.lines.now start (string_bytes c.args.text.now) c.requires.none;
@@ -43,6 +48,11 @@ returns-in-Err-clause-told g c =
     so_far c.args.both.now.sessions c.args.lines.now c.loop-at.at (g.V.Watch.told c.loop-at.watch) start reached (string_bytes c.loop-at.text) (string_bytes c.step.new.text)
     c.loop-at.invariant.watched c.in-Err.ensures.kept c.loop-at.invariant.made
 
+pub returns-in-Err-clause-tells : goal.returns-in-Err-clause-tells
+returns-in-Err-clause-tells g c =
+    tells_then (g.B.Turns.takes I) (g.C.Turns.takes M) c.args.both.now.initiating.book c.loop-at.both.initiating.book c.step.new.both.initiating.book
+    c.args.both.now.matching.book c.loop-at.both.matching.book c.step.new.both.matching.book c.in-Err.fault c.loop-at.invariant.well c.in-Err.ensures.tells
+
 pub loop-at-preserved : goal.loop-at-preserved
 loop-at-preserved g c =
     let sessions = c.args.both.now.sessions in
@@ -64,6 +74,9 @@ loop-at-preserved g c =
       sessions = c.in_default.ensures.sessions ∙ c.loop-at.invariant.sessions;
       ours = same_again _ _ _ c.loop-at.invariant.ours c.in_default.ensures.ours;
       theirs = same_again _ _ _ c.loop-at.invariant.theirs c.in_default.ensures.theirs;
+      well =
+          both_then (g.B.Turns.takes I) (g.C.Turns.takes M) c.args.both.now.initiating.book c.loop-at.both.initiating.book c.step.new.both.initiating.book
+          c.args.both.now.matching.book c.loop-at.both.matching.book c.step.new.both.matching.book c.loop-at.invariant.well c.in_default.ensures.well;
       watched = c.made.ensures.lines;
       counted = whole;
       made =

@@ -1,6 +1,8 @@
 use Rattle.std.proofs.Common.{◌≡◌, ◌≤◌, ◌-◌, length, string_bytes}
 use Rattle.gi_serving.specs.Ending.{AreSamePlaces}
+use Rattle.gi_serving.specs.Faulting.{BothGoWell}
 use Rattle.gi_serving.specs.Making.{RunsTo, offices_of}
+use Rattle.gi_pairs.specs.declared.side.Side.TheVariants.{I, M}
 use Rattle.gi_serving.proofs.serving.run.Given as goal
 
 abbrev pub invariant-loop-at : goal.invariant-loop-at
@@ -9,6 +11,7 @@ invariant-loop-at g l = record {
   sessions : l.both.sessions ≡ l.initial.both.sessions;
   ours : AreSamePlaces l.initial.both.initiating.seats.items l.both.initiating.seats.items;
   theirs : AreSamePlaces l.initial.both.matching.seats.items l.both.matching.seats.items;
+  well : BothGoWell (g.B.Turns.takes I) (g.C.Turns.takes M) l.initial.both.initiating.book l.initial.both.matching.book l.both.initiating.book l.both.matching.book;
   watched : g.V.Watch.told l.watch ≡ l.at;
   counted : g.V.Watch.whole l.watch ≡ length l.fn.lines;
   made : RunsTo l.initial.both.sessions l.fn.lines l.at (offices_of l.initial.both.initiating l.initial.both.matching) (string_bytes l.text) (offices_of l.both.initiating l.both.matching);
