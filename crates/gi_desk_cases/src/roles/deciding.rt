@@ -83,11 +83,7 @@ fn order_taken(
         return Ok(None);
     }
     if by_role {
-        return Ok(Some(Matching::decide(
-            alloc,
-            state,
-            Message::Delord(order),
-        )));
+        return Ok(Some(Matching::decide(alloc, state, Message::Delord(order))));
     }
     Ok(Some(take_order(state, order)))
 }
@@ -107,11 +103,7 @@ fn response_taken(
         return Ok(None);
     }
     if by_role {
-        return Ok(Some(Initiating::decide(
-            alloc,
-            state,
-            Message::Delres(response),
-        )));
+        return Ok(Some(Initiating::decide(alloc, state, Message::Delres(response))));
     }
     Ok(Some(take_response(alloc, state, response)))
 }
