@@ -1,2 +1,3 @@
-pub mod Told
+mod Opened
 mod Unasked
+pub mod Told

@@ -1,3 +1,4 @@
+pub mod Opening
 pub mod Status
 pub mod Serving
 pub mod Tasks

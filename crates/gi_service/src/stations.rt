@@ -4,6 +4,8 @@ ghost use Rattle.std.specs.Prelude.{◌≡◌, IfErr, IfOk, false, length, strin
 ghost use Rattle.sqlite.specs.Held.{state};
 ghost use Rattle.gi_store.specs.Book.{IsRead, counted};
 ghost use Rattle.gi_store.specs.Clean.{IsClean};
+ghost use Rattle.gi_pairs.specs.declared.side.Side.TheVariants.{I, M};
+ghost use Rattle.gi_service.specs.Opening.{IsFirstSideFault, IsKeptFrom, IsSideFault};
 ghost use Rattle.gi_service.specs.Serving.{IsBooksFault, IsServedFrom, IsStationFault};
 
 use crate::places::Place;
@@ -21,6 +23,7 @@ use std::alloc::Global;
 use std::sync::Wait;
 use std::thread::Threads;
 
+/// The desk of a side, and the book that it is replayed from.
 fn station<R: Role, P: Place>(
     alloc: Global,
     point: Code,
@@ -31,7 +34,9 @@ fn station<R: Role, P: Place>(
     ensures runs { IfOk result (λ it. it.0.halted ≡ false) }
     ensures loaded { IfOk result (λ it. it.1.loaded ≡ counted (length it.0.facts)) }
     ensures facts { IfOk result (λ it. IsClean P.Store.Store it.1.connection → IsRead (state P.Store.Store it.1.connection) it.0.facts) }
+    ensures opened { IfOk result (λ it. IsKeptFrom P.Store.Store (P.opens place.now R.SIDE) it.1) }
     ensures fault { IfErr result (IsStationFault R.SIDE point) }
+    ensures first { IfErr result (IsSideFault (P.opens place.now R.SIDE) (P.refuses place.now R.SIDE) R.SIDE point) }
 {
     let mut book = place.book(R::SIDE)?;
     let facts = book.load()?;
@@ -41,8 +46,46 @@ fn station<R: Role, P: Place>(
     }
 }
 
+/// Those of both sides, the initiating one's first.
+fn stations<P: Place>(
+    alloc: Global,
+    point: Code,
+    place: &P,
+) -> Result<
+    (
+        (Desk<Initiating>, BookStore<P::Store>),
+        (Desk<Matching>, BookStore<P::Store>),
+    ),
+    Fault,
+>
+    ensures point { IfOk result (λ it. it.0.0.point ≡ point) }
+    ensures saved { IfOk result (λ it. it.0.0.saved ≡ length it.0.0.facts) }
+    ensures runs { IfOk result (λ it. it.0.0.halted ≡ false) }
+    ensures loaded { IfOk result (λ it. it.0.1.loaded ≡ counted (length it.0.0.facts)) }
+    ensures facts { IfOk result (λ it. IsClean P.Store.Store it.0.1.connection → IsRead (state P.Store.Store it.0.1.connection) it.0.0.facts) }
+    ensures opened { IfOk result (λ it. IsKeptFrom P.Store.Store (P.opens place.now I) it.0.1) }
+    ensures peer_point { IfOk result (λ it. it.1.0.point ≡ point) }
+    ensures peer_saved { IfOk result (λ it. it.1.0.saved ≡ length it.1.0.facts) }
+    ensures peer_runs { IfOk result (λ it. it.1.0.halted ≡ false) }
+    ensures peer_loaded { IfOk result (λ it. it.1.1.loaded ≡ counted (length it.1.0.facts)) }
+    ensures peer_facts { IfOk result (λ it. IsClean P.Store.Store it.1.1.connection → IsRead (state P.Store.Store it.1.1.connection) it.1.0.facts) }
+    ensures peer_opened { IfOk result (λ it. IsKeptFrom P.Store.Store (P.opens place.now M) it.1.1) }
+    ensures fault { IfErr result (IsBooksFault point) }
+    ensures first { IfErr result (IsFirstSideFault (P.opens place.now) (P.refuses place.now) point) }
+{
+    let initiating = station::<Initiating, P>(alloc, point, place)?;
+    match station::<Matching, P>(alloc, point, place) {
+        Ok(matching) => Ok((initiating, matching)),
+        // (handed to drop, by one call: going out of scope here would be checked field by field on each way out)
+        Err(fault) => {
+            drop(initiating);
+            Err(fault)
+        }
+    }
+}
+
 /// Serves a script over the books of both sides, the initiating one's loaded before the matching
-/// one's is opened. The fault is of one of the books, or `OutOfMemory`, before the first step.
+/// one's is opened. The fault is of one of the books, or `OutOfMemory`, before the first step: the first of them.
 pub(crate) fn served<P: Place, T: Threads + Wait + Sync, V: Watch>(
     threads: &T,
     watch: &mut V,
@@ -53,9 +96,9 @@ pub(crate) fn served<P: Place, T: Threads + Wait + Sync, V: Watch>(
 ) -> Result<Served, Fault>
     ensures served { IfOk result (λ served. IsServedFrom sessions script.now (string_bytes served.text) served.end) }
     ensures fault { IfErr result (IsBooksFault script.now.point) }
+    ensures first { IfErr result (IsFirstSideFault (P.opens place.now) (P.refuses place.now) script.now.point) }
 {
-    let initiating = station::<Initiating, P>(alloc, script.point(), place)?;
-    let matching = station::<Matching, P>(alloc, script.point(), place)?;
+    let (initiating, matching) = stations(alloc, script.point(), place)?;
     Ok(serve(
         threads,
         alloc,
