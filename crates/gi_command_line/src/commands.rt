@@ -109,17 +109,18 @@ Standard input is a script as for `simulate`, without `save`, `deliver` and `res
 running offices save by themselves, and only what the carriers give is delivered. Each longest run
 of `submit` lines is a batch, which N sessions of each office (1 to 8, 2 where no number is given)
 make at the same time, each portfolio by one of them. The offices go on with the books in the files
-PREFIX-I.db and PREFIX-M.db, which are made where they are not there; with no PREFIX, the books are
-in memory.
+PREFIX-I.db and PREFIX-M.db, which are both made where neither is there; with no PREFIX, the books
+are in memory.
 
 Standard output gets a line for each step, with no numbers of facts: the number of the script's
 line, the side, and what came of it. Then come two lines with what each side holds, and three that
 tell whether each office's records agree with its desk, and the two offices with each other.
 
-Faults, the first of: Read, TooLarge, Point, `line N: Unreadable`, as for `simulate`; for the book
-of I and then for that of M, Busy (another process has it open), Version, Gap N, Damaged N, Store or
-BadFact N, as for `report`; Write; and what a running office could not do, told after the lines of
-what was done before.";
+Faults, the first of: Read, TooLarge, Point, `line N: Unreadable`, as for `simulate`; MissingBook I or
+M (it is not there, and the other side's has facts: nothing is made); for the book of I and then for
+that of M, Busy (another process has it open), Version, Gap N, Damaged N, Store or BadFact N, as for
+`report`; Write; and what a running office could not do, told after the lines of what was done
+before.";
 
 fn word<'a>(alloc: Global, name: &'a str, help: &'a str) -> Arg<'a>
     ensures rule { rule_of result ≡ word_rule name.entry.now }

@@ -4,7 +4,7 @@ ghost use Rattle.gi_commands.specs.Fault.{replay_fault, script_fault, start_faul
 use gi_day::{CalendarFault, DayFault};
 use gi_desk::ReplayFault;
 use gi_messages::MessageFault;
-use gi_pairs::CodeText;
+use gi_pairs::{CodeText, Side};
 use gi_script::ScriptFault;
 use gi_store::StoreFault;
 use gi_table_commands::{Fault as TableFault, Line};
@@ -51,6 +51,9 @@ pub enum Fault {
     /// The file is no book of version 1, or it failed.
     #[error(transparent)]
     Store(StoreFault),
+    /// Of the two books of `serve` the one of this side is not there, and the other one has facts.
+    #[error("MissingBook {0}")]
+    MissingBook(Side),
     /// No desk records the book's fact of this number after those before it.
     #[error("BadFact {0}")]
     BadFact(u32),
@@ -165,14 +168,14 @@ impl From<AllocError> for Fault {
 impl Fault {
     ghost use Rattle.gi_commands.specs.Fault.{status_of};
 
-    /// The exit status of the program: 2 for a wrong command line, 3 for a book that failed or is
-    /// none, 4 for want of memory, else 1.
+    /// The exit status of the program: 2 for a wrong command line, 3 for a book that failed, is
+    /// none or is missing, 4 for want of memory, else 1.
     pub fn status(&self) -> u8
         ensures { result ≡ status_of self.now }
     {
         match self {
             Fault::CommandLine => 2,
-            Fault::Store(_) | Fault::BadFact(_) => 3,
+            Fault::Store(_) | Fault::MissingBook(_) | Fault::BadFact(_) => 3,
             Fault::OutOfMemory => 4,
             _ => 1,
         }

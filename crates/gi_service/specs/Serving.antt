@@ -1,5 +1,5 @@
 -- What both running offices write of a script, and the faults of that in their order.
-use Rattle.std.specs.Prelude.{◌≡◌, ◌<◌, ◌≤◌, ◌⊎◌, ℕ, List, length, Option, Some, IfSome, Result, Ok, Err}
+use Rattle.std.specs.Prelude.{◌≡◌, ◌<◌, ◌≤◌, ◌⊎◌, ℕ, Bool, true, false, List, length, Option, Some, None, IfSome, Result, Ok, Err}
 use Rattle.std.specs.Io.KnownBytes.{Appends, Keeps}
 use Rattle.gi_pairs.specs.declared.side.Side.{Side}
 use Rattle.gi_pairs.specs.declared.side.Side.TheVariants.{I, M}
@@ -57,9 +57,22 @@ IsStationFault side point _ = ⊥
 abbrev pub IsBooksFault : List ℕ → Fault → Type 0
 IsBooksFault point why = IsStationFault I point why ⊎ IsStationFault M point why
 
--- a script is read, and one of the books is not
+-- of which side the book is missing, by whether each is there
+abbrev pub missing_of : Bool → Bool → Option Side
+missing_of true false = Some M
+missing_of false true = Some I
+missing_of true true = None
+missing_of false false = None
+
+-- why books in files are not opened, of which one is missing
+abbrev pub IsPrefixFault : Fault → Type 0
+IsPrefixFault (fault.MissingBook side) = Unit {0}
+IsPrefixFault fault.OutOfMemory = Unit {0}
+IsPrefixFault _ = ⊥
+
+-- a script is read, and one of the books is missing or is not read
 abbrev pub HasBooksFault : List ℕ → Fault → Type 0
-HasBooksFault input why = (script : ScriptContents) × IsInputOf script input × IsBooksFault script.point why
+HasBooksFault input why = (script : ScriptContents) × IsInputOf script input × (IsPrefixFault why ⊎ IsBooksFault script.point why)
 
 abbrev pub IsTextFault : List ℕ → Fault → Type 0
 IsTextFault input why = IsScriptFault input why ⊎ HasBooksFault input why

@@ -52,7 +52,7 @@ fn text_of<R: Read, T: Threads + Wait + Sync, V: Watch>(
             alloc,
             &script,
             sessions,
-            &InFiles { rt, prefix },
+            &InFiles::at(rt, prefix)?,
         ),
     }
 }
@@ -75,8 +75,8 @@ fn tell<W: Write>(served: Served, output: &mut W) -> Result<(), ProgramFault>
 /// Runs both offices by the script on the input, each with so many sessions, over the books in the
 /// files whose names begin so, else in memory, and writes what is told of it: of a run that was cut
 /// off, what was told before. The faults come in this order: those of reading the input and the
-/// script; those of the initiating side's book, and then of the matching side's; `Write`; and what
-/// ended the run. The watch is told how far it is.
+/// script; `MissingBook`; those of the initiating side's book, and then of the matching side's; `Write`;
+/// and what ended the run. The watch is told how far it is.
 pub fn serve_script<R: Read, W: Write, T: Threads + Wait + Sync, V: Watch>(
     rt: &HostRuntime,
     threads: &T,
