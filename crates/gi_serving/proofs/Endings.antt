@@ -1,7 +1,7 @@
 -- How it ended, from what was made and what closing both offices came to.
 use Rattle.std.proofs.Common.{arith, ◌≡◌, ◌<◌, ℕ, ◌+◌, ◌-◌, List, [], ◌∷◌, ◌++◌, drop, length, map, Result, Ok, Err, inl, inr, ap, ◌∙◌, sym, subst}
 use Rattle.std.specs.List.{range_with_len}
-use Rattle.std.specs.Prelude.{IfOk}
+use Rattle.std.specs.Prelude.{IfErr, IfOk}
 use Rattle.std.proofs.lemmas.List.{length-append}
 use Rattle.std.proofs.lemmas.List.FromFn.{length-map-range_with_len}
 use Rattle.gi_office.specs.Keeping.{SeatState}
@@ -14,6 +14,7 @@ use Rattle.gi_pairs.specs.declared.side.Side.TheVariants.{I, M}
 use Rattle.gi_script.specs.declared.line.Line.{Line}
 use Rattle.gi_serving.specs.Closing.{AreLastLines, IsClosed, IsReconciled, end_of, reconciled_line}
 use Rattle.gi_serving.specs.Ending.{AreSamePlaces, Closes, IsCut, IsOfTurn, IsOver, place_of}
+use Rattle.gi_serving.specs.Faulting.{IsOfTurns, Takes}
 use Rattle.gi_serving.specs.Making.{OfficesState, Runs, RunsSome, new_offices}
 use Rattle.gi_serving.specs.Runs.{pieces}
 use Rattle.gi_serving.specs.declared.serve_fault.ServeFault.{ServeFault}
@@ -62,6 +63,25 @@ not_cut parts seats handed peer_parts peer_seats peer_handed last end closed cut
     by (Err fault) matching h = ended (Err (faults.Unsettled fault)) h.1
     by (Ok initiating) (Err fault) h = ended (Err (faults.Unsettled fault)) h.1
     by (Ok initiating) (Ok matching) h = answered h.answer (ended (end_of h.answer) h.end_is)
+
+-- what closing both offices comes to is no fault of a turn
+pub closed_so : {B C : Type 0} (takes : Takes B) (peer_takes : Takes C) (first : B) (peer_first : C) (sessions parts peer_parts : ℕ) (reached : OfficesState) (old new : List ℕ) (end : Result (Unit {0}) ServeFault)
+    → Closes parts peer_parts sessions reached old new end → IfErr end (IsOfTurns takes peer_takes first peer_first)
+closed_so takes peer_takes first peer_first sessions parts peer_parts reached old new end (inl h) =
+    subst (λ (e : Result (Unit {0}) ServeFault). IfErr e (IsOfTurns takes peer_takes first peer_first)) (sym h.1) tt
+closed_so takes peer_takes first peer_first sessions parts peer_parts reached old new end (inr h) = by h.closed.initiating h.closed.matching h.closed.last
+  where
+    ended : (e : Result (Unit {0}) ServeFault) → end ≡ e → IfErr e (IsOfTurns takes peer_takes first peer_first) → IfErr end (IsOfTurns takes peer_takes first peer_first)
+    ended e same is = subst (λ (r : Result (Unit {0}) ServeFault). IfErr r (IsOfTurns takes peer_takes first peer_first)) (sym same) is
+
+    answered : (answer : Result (Unit {0}) Unreconciled) → IfErr (end_of answer) (IsOfTurns takes peer_takes first peer_first)
+    answered (Ok done) = tt
+    answered (Err fault) = tt
+
+    by : (initiating matching : Result SettledState Unsettled) → AreLastLines initiating matching h.last end → IfErr end (IsOfTurns takes peer_takes first peer_first)
+    by (Err fault) matching told = ended (Err (faults.Unsettled fault)) told.1 tt
+    by (Ok initiating) (Err fault) told = ended (Err (faults.Unsettled fault)) told.1 tt
+    by (Ok initiating) (Ok matching) told = ended (end_of told.answer) told.end_is (answered told.answer)
 
 pub told_so : (sessions parts peer_parts count : ℕ) (lines : List Line) (start reached : OfficesState) (text new : List ℕ) (result : Result (Unit {0}) ServeFault)
     → start ≡ new_offices sessions → RunsSome sessions lines count start text → Closes parts peer_parts sessions reached text new result → IsCut result

@@ -4,7 +4,7 @@ use Rattle.std.specs.Prelude.{IfErr, IsErrAnd, IsOk, OnOk}
 use Rattle.gi_office.specs.Keeping.{SeatState}
 use Rattle.gi_office.specs.declared.save_fault.SaveFault.{SaveFault}
 use Rattle.gi_serving.specs.Asking.{IsTurned, OtherIs}
-use Rattle.gi_serving.specs.Faulting.{BothGoWell, EndBy, GoThrough, GoWell, OneEndsBy, Takes, TellsTurns, TurnsEnd}
+use Rattle.gi_serving.specs.Faulting.{BothGoWell, EndBy, GoThrough, GoWell, OneEndsBy, Takes, TellsTurns, TurnsEnd, IsOfTurns}
 use Rattle.gi_serving.specs.declared.serve_fault.ServeFault.{ServeFault}
 use Rattle.gi_serving.specs.declared.serve_fault.ServeFault.TheVariants as faults
 use Rattle.gi_pairs.specs.declared.side.Side.{Side}
@@ -81,6 +81,13 @@ pub tells_short : {B C A : Type 0} (takes : Takes B) (peer_takes : Takes C) (fir
     → IfErr r (TellsTurns takes peer_takes first peer_first last peer_last)
 tells_short takes peer_takes first last peer_first peer_last (Ok done) is well = tt
 tells_short takes peer_takes first last peer_first peer_last (Err fault) is well = subst (TellsTurns takes peer_takes first peer_first last peer_last) (sym is) well
+
+pub of_turns : {B C : Type 0} (takes : Takes B) (peer_takes : Takes C) (first last : B) (peer_first peer_last : C) (fault : ServeFault)
+    → TellsTurns takes peer_takes first peer_first last peer_last fault → IsOfTurns takes peer_takes first peer_first fault
+of_turns takes peer_takes first last peer_first peer_last (faults.Turn fault) told = (last, peer_last, told)
+of_turns takes peer_takes first last peer_first peer_last faults.OutOfMemory told = tt
+of_turns takes peer_takes first last peer_first peer_last (faults.Unsettled why) told = tt
+of_turns takes peer_takes first last peer_first peer_last (faults.Unreconciled why) told = tt
 
 pub tells_refused : {B C A : Type 0} (takes : Takes B) (peer_takes : Takes C) (first last : B) (peer_first peer_last : C) (r : Result A ServeFault)
     → IsErrAnd r (λ fault. fault ≡ faults.OutOfMemory) → BothGoWell takes peer_takes first peer_first last peer_last

@@ -48,6 +48,11 @@ abbrev pub TurnsEnd : {B C : Type 0} → Takes B → Takes C → B → C → B �
 TurnsEnd takes peer_takes first peer_first last peer_last (Ok done) = BothGoWell takes peer_takes first peer_first last peer_last
 TurnsEnd takes peer_takes first peer_first last peer_last (Err fault) = OneEndsBy takes peer_takes first peer_first last peer_last fault
 
+-- A turn's fault is one by which a turn ended, beginning from these books; another fault is none of a turn.
+abbrev pub IsOfTurns : {B C : Type 0} → Takes B → Takes C → B → C → ServeFault → Type 0
+IsOfTurns {B} {C} takes peer_takes first peer_first (faults.Turn fault) = (last : B) × (peer_last : C) × OneEndsBy takes peer_takes first peer_first last peer_last fault
+IsOfTurns takes peer_takes first peer_first _ = Unit {0}
+
 -- What is told where a run is cut off: of a turn that ended by a fault that fault, and no other; that memory ran out only where none did.
 abbrev pub TellsTurns : {B C : Type 0} → Takes B → Takes C → B → C → B → C → ServeFault → Type 0
 TellsTurns takes peer_takes first peer_first last peer_last (faults.Turn fault) = OneEndsBy takes peer_takes first peer_first last peer_last fault

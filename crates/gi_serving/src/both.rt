@@ -137,6 +137,8 @@ impl<L: Ledger, K: Ledger, B: Turns + Drop, C: Turns + Drop> Both<L, K, B, C> {
         requires peer_book { C.holds matching.book matching.desk.facts }
         ensures sessions { IfOk result (λ both. both.sessions ≡ sessions) }
         ensures new { IfOk result (λ both. offices_of both.initiating both.matching ≡ new_offices sessions) }
+        ensures book { IfOk result (λ both. both.initiating.book ≡ initiating.book) }
+        ensures peer_book { IfOk result (λ both. both.matching.book ≡ matching.book) }
     {
         let alloc = initiating.alloc;
         let initiating = Running::<Initiating, L, B>::open(initiating, sessions);

@@ -156,6 +156,7 @@ fn just_opened<R: Role, L: Ledger, B: Drop>(
     way: Link,
 ) -> Running<R, L, B>
     ensures office { result.office ≡ office }
+    ensures book { result.book ≡ book }
     ensures seats { result.seats ≡ seats }
     ensures sent { result.sent ≡ 0 }
     ensures way { result.way ≡ way }
@@ -180,6 +181,7 @@ impl<R: Role, L: Ledger, B: Turns + Drop> Running<R, L, B> {
         requires runs { station.desk.halted ≡ false }
         requires book { B.holds station.book station.desk.facts }
         ensures office { IfOk result (λ running. running.office.seats ≡ sessions + 1) }
+        ensures book { IfOk result (λ running. running.book ≡ station.book) }
         ensures seats { IfOk result (λ running. running.seats.items ≡ new_seats (sessions + 1)) }
         ensures sent { IfOk result (λ running. running.sent ≡ 0) }
         ensures way { IfOk result (λ running. running.way ≡ new_link) }

@@ -7,7 +7,8 @@ ghost use Rattle.gi_store.specs.Clean.{IsClean};
 ghost use Rattle.gi_serving.specs.Batches.{submission as submission_in};
 ghost use Rattle.gi_pairs.specs.declared.side.Side.TheVariants.{I, M};
 ghost use Rattle.gi_serving.specs.Ending.{AreSamePlaces, Closes, IsCut, IsOver, IsTold};
-ghost use Rattle.gi_serving.specs.Faulting.{BothGoWell, TellsTurns};
+ghost use Rattle.gi_serving.specs.Faulting.{BothGoWell, IsOfTurns, TellsTurns};
+ghost use Rattle.gi_office.specs.Saving.{TakesTurn};
 ghost use Rattle.gi_serving.specs.Making.{AddsFirst, MakesFirst, Runs, RunsSome, new_offices, offices_of};
 ghost use Rattle.gi_serving.specs.Runs.{lead, pieces};
 
@@ -245,6 +246,9 @@ fn end_of<
     ensures told { IsCut result → RunsSome both.sessions lines.now (V.told watch.new) (new_offices both.sessions) (string_bytes text.new) }
     ensures all { ¬ IsCut result → V.told watch.new ≡ length lines.now }
     ensures counted { V.whole watch.new ≡ length lines.now }
+
+    // The fault of a turn is one by which a turn ended.
+    ensures turn { IfErr result (IsOfTurns (B.takes I) (C.takes M) both.initiating.book both.matching.book) }
 {
     let mut both = both;
     match run(rt, &mut both, lines, text, watch) {
@@ -297,6 +301,7 @@ fn serve_by<
     ensures told { IsCut result → RunsSome sessions lines.now (V.told watch.new) (new_offices sessions) (string_bytes text.new) }
     ensures all { ¬ IsCut result → V.told watch.new ≡ length lines.now }
     ensures counted { V.whole watch.new ≡ length lines.now }
+    ensures turn { IfErr result (IsOfTurns (B.takes I) (C.takes M) initiating.book matching.book) }
 {
     match Both::<L, K, B, C>::open(sessions, initiating, matching) {
         Ok(both) => end_of(rt, both, lines, text, watch),
@@ -335,6 +340,9 @@ pub fn serve<S: Alter + Drop + Send, T: Threads + Wait + Sync, V: Watch>(
     ensures told { IsCut result.end → RunsSome sessions script.now.lines (V.told watch.new) (new_offices sessions) (string_bytes result.text) }
     ensures all { ¬ IsCut result.end → V.told watch.new ≡ length script.now.lines }
     ensures counted { V.whole watch.new ≡ length script.now.lines }
+
+    // The fault of a turn is one by which a turn can end, after turns that went well, from the books as they were handed over.
+    ensures turn { IfErr result.end (IsOfTurns (TakesTurn I S.Store) (TakesTurn M S.Store) initiating.1 matching.1) }
 {
     let lines = script.lines();
     watch.made(0, lines.len());

@@ -1,7 +1,9 @@
 use Rattle.std.proofs.Common.{ℕ, Err, length, string_bytes, ap, ◌∙◌, subst}
 use Rattle.gi_serving.specs.Ending.{Closes}
 use Rattle.gi_serving.specs.Making.{OfficesState, RunsSome, offices_of}
-use Rattle.gi_serving.proofs.Endings.{cut, new_length, over, told_so}
+use Rattle.gi_pairs.specs.declared.side.Side.TheVariants.{I, M}
+use Rattle.gi_serving.proofs.Faulting.{of_turns}
+use Rattle.gi_serving.proofs.Endings.{closed_so, cut, new_length, over, told_so}
 use Rattle.gi_serving.proofs.serving.end_of.Goals as goal
 
 pub run-requires-clause-ours : goal.run-requires-clause-ours
@@ -37,3 +39,13 @@ returns-in-Err-clause-over g c =
 
 pub returns-in-Err-clause-all : goal.returns-in-Err-clause-all
 returns-in-Err-clause-all g c = λ no. absurd (no c.in-Err.ensures.cut)
+
+pub returns-in-Ok-clause-turn : goal.returns-in-Ok-clause-turn
+returns-in-Ok-clause-turn g c =
+    closed_so (g.B.Turns.takes I) (g.C.Turns.takes M) c.args.both.initiating.book c.args.both.matching.book c.run.new.both.sessions g.L.Ledger.parts g.K.Ledger.parts
+    (offices_of c.run.new.both.initiating c.run.new.both.matching) (string_bytes c.run.new.text) (string_bytes c.closed.new.text) c.closed.result c.closed.ensures
+
+pub returns-in-Err-clause-turn : goal.returns-in-Err-clause-turn
+returns-in-Err-clause-turn g c =
+    of_turns (g.B.Turns.takes I) (g.C.Turns.takes M) c.args.both.initiating.book c.run.new.both.initiating.book c.args.both.matching.book c.run.new.both.matching.book c.in-Err.fault
+    c.in-Err.ensures.tells

@@ -1,6 +1,8 @@
-use Rattle.std.proofs.Common.{ℕ, refl, string_bytes, subst}
+use Rattle.std.proofs.Common.{IfErr, ℕ, refl, string_bytes, subst}
 use Rattle.gi_serving.specs.Ending.{IsCut, IsOver}
 use Rattle.gi_serving.specs.Making.{RunsSome, new_offices}
+use Rattle.gi_pairs.specs.declared.side.Side.TheVariants.{I, M}
+use Rattle.gi_serving.specs.Faulting.{IsOfTurns}
 use Rattle.gi_serving.proofs.Endings.{out_of_memory}
 use Rattle.gi_serving.proofs.Walking.{none_made}
 use Rattle.gi_serving.proofs.serving.serve_by.Goals as goal
@@ -21,3 +23,8 @@ returns-in-Ok-clause-told g c =
 
 pub returns-in-Err-clause-all : goal.returns-in-Err-clause-all
 returns-in-Err-clause-all g c = λ no. absurd (no tt)
+
+pub returns-in-Ok-clause-turn : goal.returns-in-Ok-clause-turn
+returns-in-Ok-clause-turn g c =
+    subst (λ (b : _). IfErr c.end_of.result (IsOfTurns (g.B.Turns.takes I) (g.C.Turns.takes M) b c.args.matching.book)) c.in-Ok.ensures.book
+    (subst (λ (b : _). IfErr c.end_of.result (IsOfTurns (g.B.Turns.takes I) (g.C.Turns.takes M) c.in-Ok.both.initiating.book b)) c.in-Ok.ensures.peer_book c.end_of.ensures.turn)
