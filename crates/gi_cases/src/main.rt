@@ -36,7 +36,7 @@ fn answers<W: Threads + Wait + Clock + Sync>(
         "desks" => answered(rt, Desks::new(alloc), cases),
         "drawn" => answered(rt, DrawnDays, cases),
         "facts" => answered(rt, Facts::new(), cases),
-        "messages" => answered(rt, Messages::new(), cases),
+        "messages" => answered(rt, Repeated::of(Messages::new()), cases),
         "nominations" => answered(rt, Repeated::of(Nominations::new()), cases),
         "offices" => office_answers(handle, alloc, cases),
         "processing" => answered(rt, Repeated::of(Processing::new()), cases),
