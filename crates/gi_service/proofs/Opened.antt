@@ -17,6 +17,7 @@ of_store side point (store.Damaged n) = tt
 of_store side point store.BatchSize = tt
 of_store side point store.NotLoaded = tt
 of_store side point (store.NotNext n) = tt
+of_store side point store.Busy = tt
 of_store side point store.Store = tt
 of_store side point store.OutOfMemory = tt
 

@@ -70,9 +70,13 @@ IsPrefixFault (fault.MissingBook side) = Unit {0}
 IsPrefixFault fault.OutOfMemory = Unit {0}
 IsPrefixFault _ = ⊥
 
--- a script is read, and one of the books is missing or is not read
+-- one of the books in files is missing, or is not read
+abbrev pub IsFilesFault : List ℕ → Fault → Type 0
+IsFilesFault point why = IsPrefixFault why ⊎ IsBooksFault point why
+
+-- a script is read, and one of the books is not
 abbrev pub HasBooksFault : List ℕ → Fault → Type 0
-HasBooksFault input why = (script : ScriptContents) × IsInputOf script input × (IsPrefixFault why ⊎ IsBooksFault script.point why)
+HasBooksFault input why = (script : ScriptContents) × IsInputOf script input × IsFilesFault script.point why
 
 abbrev pub IsTextFault : List ℕ → Fault → Type 0
 IsTextFault input why = IsScriptFault input why ⊎ HasBooksFault input why

@@ -1,6 +1,6 @@
 ghost use Rattle.std.specs.Prelude.{◌≡◌, IfErr, IfOk, IfSome, Ok, OnOk, string_bytes};
 ghost use Rattle.std.specs.Io.KnownBytes.{Appends};
-ghost use Rattle.gi_service.specs.Serving.{IsFirstServeFault, IsInputOf, IsScriptFault, IsServedText, IsTextFault, IsToldFault, LeavesServed, Serves};
+ghost use Rattle.gi_service.specs.Serving.{IsFilesFault, IsFirstServeFault, IsInputOf, IsScriptFault, IsServedFrom, IsServedText, IsTextFault, IsToldFault, LeavesServed, Serves};
 
 use crate::places::{InFiles, InMemory};
 use crate::program_fault::ProgramFault;
@@ -21,6 +21,21 @@ fn script_of<R: Read>(alloc: Global, input: &mut R) -> Result<Script, Fault>
 {
     let bytes = read_input(alloc, input, &mut Calls::none())?;
     Ok(read_office_script(alloc, bytes.as_slice())?)
+}
+
+fn served_in_files<T: Threads + Wait + Sync, V: Watch>(
+    rt: &HostRuntime,
+    threads: &T,
+    watch: &mut V,
+    script: &Script,
+    sessions: Sessions,
+    prefix: &str,
+) -> Result<Served, Fault>
+    ensures served { IfOk result (λ served. IsServedFrom sessions script.now (string_bytes served.text) served.end) }
+    ensures fault { IfErr result (IsFilesFault script.now.point) }
+{
+    let place = InFiles::at(rt, prefix)?;
+    served(threads, watch, rt.alloc(), script, sessions, &place)
 }
 
 fn text_of<R: Read, T: Threads + Wait + Sync, V: Watch>(
@@ -46,14 +61,7 @@ fn text_of<R: Read, T: Threads + Wait + Sync, V: Watch>(
             sessions,
             &InMemory { alloc },
         ),
-        Some(prefix) => served(
-            threads,
-            watch,
-            alloc,
-            &script,
-            sessions,
-            &InFiles::at(rt, prefix)?,
-        ),
+        Some(prefix) => served_in_files(rt, threads, watch, &script, sessions, prefix),
     }
 }
 
