@@ -12,7 +12,8 @@ name (a wrong command line is told in more words), and nothing on standard outpu
 a writer fails, an office that runs gives up, or books differ.
 
 Exit status: 0 done, 1 refused input, a reader or writer that failed, or offices or books that do
-not agree, 2 wrong command line, 3 a book that failed or is none, 4 want of memory.
+not agree, 2 wrong command line, 3 a book that failed, is none, is missing or is in use, 4 want of
+memory.
 
 Examples: gi_dispatch match < examples/match.txt
           gi_dispatch hours 2026-01-15
@@ -74,9 +75,9 @@ hour by hour) or `refused` (how many submissions of each portfolio were refused)
 input is a script as for `simulate`, whose steps are made and not told. With --book and --point the
 side's desk is read from its book instead, standard input is not read, and `refused` has no lines.
 
-Faults: those of `simulate`. With a book, the first of: CodeText (CODE is no code), Version, Gap N,
-Damaged N or Store (the file is not there, is no database, or cannot be read), BadFact N (no desk
-records fact N after those before it), Write. The book is read from a copy in memory: no file is made
+Faults: those of `simulate`. With a book, the first of: CodeText (CODE is no code), Version (no book,
+as an empty file), Gap N, Damaged N or Store (the file is not there, is no database, or cannot be
+read), BadFact N (no desk records fact N after those before it), Write. The book is read from a copy in memory: no file is made
 or changed, and another command may have it open.";
 
 const EXPLAIN_HELP: &str = "\

@@ -13,7 +13,7 @@ pub told_first :
 told_first initiating matching NotAPair one strange = absurd strange
 told_first initiating matching (Stranger side place) one strange =
     (one, subst (λ (s : Side). IsFirstStranger initiating matching s place) (sym strange.0) strange.1)
-told_first initiating matching OutOfMemory one strange = (one, inr strange)
+told_first initiating matching OutOfMemory one strange = (one, inl strange)
 
 pub told_next :
     (initiating matching : SettledState) (fault : Unreconciled) → AreOfOnePoint initiating matching → AreFrom M matching.desk (entries_of initiating.lives)
@@ -21,4 +21,4 @@ pub told_next :
 told_next initiating matching NotAPair one from strange = absurd strange
 told_next initiating matching (Stranger side place) one from strange =
     (one, subst (λ (s : Side). IsFirstStranger initiating matching s place) (sym strange.0) (from, strange.1))
-told_next initiating matching OutOfMemory one from strange = (one, inl strange)
+told_next initiating matching OutOfMemory one from strange = (one, inr (from, strange))

@@ -79,13 +79,14 @@ abbrev pub AreOfOnePoint : SettledState → SettledState → Type 0
 AreOfOnePoint initiating matching = initiating.desk.point ≡ matching.desk.point
 
 -- Both are of one point, and whatever was delivered was sent; else another point, or the first stranger. Memory is wanted only
--- where a side sent something.
+-- for what the matching side sent, where it sent something; else, where none is strange at the initiating side, for what that side sent.
 abbrev pub Reconciles : SettledState → SettledState → Result (Unit {0}) Unreconciled → Type 0
 Reconciles initiating matching (Ok done) = AreOfOnePoint initiating matching × DeliveredIsSent initiating matching
 Reconciles initiating matching (Err NotAPair) = ¬ (AreOfOnePoint initiating matching)
 Reconciles initiating matching (Err (Stranger side place)) = AreOfOnePoint initiating matching × IsFirstStranger initiating matching side place
 Reconciles initiating matching (Err OutOfMemory) =
-    AreOfOnePoint initiating matching × (IsTrue (has_sent I initiating.desk) ⊎ IsTrue (has_sent M matching.desk))
+    AreOfOnePoint initiating matching
+    × (IsTrue (has_sent M matching.desk) ⊎ (AreFrom M matching.desk (entries_of initiating.lives) × IsTrue (has_sent I initiating.desk)))
 
 -- The test of that over the packets that a side sent: whether the call, where it delivers, delivers one of them.
 abbrev pub carries : List ℕ → Packet → Bool

@@ -10,12 +10,14 @@ use Rattle.sqlite.specs.Held.{Held}
 use Rattle.sqlite.specs.Files.{Finds, file_state}
 use Rattle.gi_facts.specs.declared.fact.Fact.{Fact}
 use Rattle.gi_store.specs.Book.{IsRead}
+use Rattle.gi_store.specs.Keeping.{Keeps}
 
--- These are the facts of the book in the database that the bytes of a file and of the log beside it hold.
+-- These are the facts of the book in the database that the bytes of a file and of the log beside it hold; no row is made or
+-- changed before they are read.
 pub record AreFactsIn (db log : List ℕ) (facts : List Fact) : Type 0 where
   pub files : Files Memory
   pub file : memory_bytes files.db ≡ db
   pub journal : memory_bytes files.log ≡ log
   pub opened : Held (FileStore Memory memory.ghosts)
   pub read : Held (FileStore Memory memory.ghosts)
-  pub found : HasCleanDisk (file_state read) → Finds files opened × IsRead (file_state read) facts
+  pub found : HasCleanDisk (file_state read) → Finds files opened × Keeps (file_state opened) (file_state read) × IsRead (file_state read) facts

@@ -24,7 +24,6 @@ fn disk_of(alloc: Global, bytes: &[u8]) -> Result<Memory, StoreFault>
 {
     let mut disk = Memory::new(alloc);
     disk.write_at(0, bytes).map_err(io_fault)?;
-    disk.sync().map_err(io_fault)?;
     Ok(disk)
 }
 

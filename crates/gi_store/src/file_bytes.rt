@@ -7,6 +7,7 @@ use crate::store_fault::StoreFault;
 use std::alloc::Global;
 use std::fs;
 use std::io::{self, Read};
+use std::os::unix::fs::MetadataExt;
 
 /// What a book's file and the log beside it hold.
 #[derive(Drop)]
@@ -30,15 +31,30 @@ pub fn io_fault(error: io::Error) -> StoreFault
     }
 }
 
+/// The plain file of a name, or `None` where nothing is there. A second name is `Store`: the log stands
+/// beside one name alone. What is no plain file is not opened, since a pipe would wait for a writer.
+fn plain_file(rt: &HostRuntime, name: &str) -> Result<Option<fs::File>, StoreFault>
+    ensures { IfErr result IsRefusal }
+{
+    match fs::symlink_metadata(rt, name) {
+        Ok(found) if found.is_file() && found.nlink() == 1 => {}
+        Ok(_) => return Err(StoreFault::Store),
+        Err(error) if error.kind() == io::ErrorKind::NotFound => return Ok(None),
+        Err(error) => return Err(io_fault(error)),
+    }
+    match fs::File::open(rt, name) {
+        Ok(file) => Ok(Some(file)),
+        Err(error) => Err(io_fault(error)),
+    }
+}
+
 /// The first bytes of a file, so many at most: none where it is not there.
 fn first_bytes(rt: &HostRuntime, name: &str, most: u64) -> Result<Vec<u8>, StoreFault>
     ensures { IfErr result IsRefusal }
 {
     let mut bytes = Vec::new(rt.alloc());
-    let file = match fs::File::open(rt, name) {
-        Ok(file) => file,
-        Err(error) if error.kind() == io::ErrorKind::NotFound => return Ok(bytes),
-        Err(error) => return Err(io_fault(error)),
+    let Some(file) = plain_file(rt, name)? else {
+        return Ok(bytes);
     };
     match file.take(most).read_to_end(&mut bytes) {
         Ok(_) => Ok(bytes),
@@ -46,23 +62,32 @@ fn first_bytes(rt: &HostRuntime, name: &str, most: u64) -> Result<Vec<u8>, Store
     }
 }
 
+/// Whether a rollback journal has something to play back: it is there, and does not begin with a zero.
+fn is_hot(rt: &HostRuntime, journal: &str) -> Result<bool, StoreFault>
+    ensures { IfErr result IsRefusal }
+{
+    let first = first_bytes(rt, journal, 1)?;
+    Ok(!first.is_empty() && first[0] != 0)
+}
+
 /// Both files' bytes, and no change of either. A log that is not there has none. `Store` where the
-/// file is not there, is no plain file, or has a rollback journal beside it, which only SQLite can play
-/// back; where a file cannot be read; and where the log was begun anew each time that both were read.
+/// file is not there, where one of the two is no plain file or has a second name, or cannot be read;
+/// where a rollback journal stands beside them, which only SQLite can play back; and where the log was
+/// begun anew each time that both were read.
 pub fn file_bytes(rt: &HostRuntime, name: &str) -> Result<FileBytes, StoreFault>
     ensures { IfErr result IsRefusal }
 {
     let real = fs::canonicalize(rt, name).map_err(io_fault)?;
     let journal = format!(in rt.alloc(); "{}-journal", real.as_str())?;
-    if fs::exists(rt, journal.as_str()).unwrap_or(true) {
-        return Err(StoreFault::Store);
-    }
     let log_name = format!(in rt.alloc(); "{}-wal", real.as_str())?;
     for _ in 0..MOST_TRIES {
-        let head = first_bytes(rt, log_name.as_str(), HEAD)?;
-        let file = fs::read(rt, real.as_str()).map_err(io_fault)?;
-        let log = first_bytes(rt, log_name.as_str(), u64::MAX)?;
-        if first_bytes(rt, log_name.as_str(), HEAD)? == head {
+        let head = first_bytes(rt, &log_name, HEAD)?;
+        let file = first_bytes(rt, real.as_str(), u64::MAX)?;
+        let log = first_bytes(rt, &log_name, u64::MAX)?;
+        if is_hot(rt, &journal)? {
+            return Err(StoreFault::Store);
+        }
+        if first_bytes(rt, &log_name, HEAD)? == head {
             return Ok(FileBytes { file, log });
         }
     }

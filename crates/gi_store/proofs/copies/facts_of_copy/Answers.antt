@@ -16,6 +16,6 @@ returns-clause-facts c =
       journal = found.2;
       opened = c.in_ok-connection.connection;
       read = c.read_book-facts.new.connection;
-      found = λ clean. (found.3 (c.read_book-facts.ensures.early clean), read clean);
+      found = λ clean. (found.3 (c.read_book-facts.ensures.early clean), c.read_book-facts.ensures.kept clean, read clean);
     })
     c.read_book-facts.ensures.facts
