@@ -66,10 +66,17 @@ class Cases:
             raise Wrong("what is asked between the calls changes their answers")
         return [answers[first : first + count] for first, count in places]
 
-    def all(self, most):
-        """Refuses each allocation in turn."""
+    def all(self, most, least):
+        """Refuses each allocation in turn, or evenly some; so many calls at least have to be made again, counted as of all."""
         self.stood = self.before(self.calls)
-        return self.refusing.each(self.refusing.numbers(self.count, most), self.one), self.count
+        numbers = self.refusing.numbers(self.count, most)
+        counts = self.refusing.each(numbers, self.one)
+        if counts["not reached"]:
+            raise Wrong(f"{counts['not reached']} allocations were not asked for again")
+        again = sum(count for what, count in counts.items() if what not in ("ended", "done without"))
+        if again * numbers.step < least:
+            raise Wrong(f"only {again} calls were made again")
+        return counts, self.count
 
     def one(self, number):
         """What came of one refusal."""
@@ -88,7 +95,8 @@ class Cases:
         """What came of a call that was refused memory and is made again."""
         if answer == self.driver_wants(at):
             return "ended"
-        if not answer or not WANTS.match(answer[-1]):
+        # (a refused call tells nothing else)
+        if len(answer) != 1 or not WANTS.match(answer[0]):
             raise Wrong(f"allocation {number}: {self.calls[at][:60]!r} is answered {answer[:2]!r}")
         self.compare(number, at, answer, self.behind(at, answer), self.rest(at))
         return "made again"
@@ -209,7 +217,7 @@ class Book(Cases):
 class Offices(Cases):
     """Offices: a call is made again; so is a turn that saves, unless its desk is halted since the book refused it."""
 
-    # (a wait for a fact that no turn saved would have no end)
+    # (a wait for a fact that no turn saved would have no end; so what a wait answers without memory is not tried)
     LEFT_OUT = ("wait_saved",)
 
     def driver_wants(self, at):

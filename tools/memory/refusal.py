@@ -60,6 +60,8 @@ class Refusing:
 
     def numbers(self, count, most):
         """The numbers to refuse of so many: all, or evenly some where they are more than `most`."""
+        if not count:
+            raise Wrong("it asks for no memory, or the library is not there")
         return range(1, count + 1, 1 if self.is_all else max(1, -(-count // most)))
 
     def each(self, numbers, one):
