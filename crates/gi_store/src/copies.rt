@@ -12,7 +12,7 @@ use crate::file_bytes::io_fault;
 use crate::loading::read_book;
 use crate::store_fault::StoreFault;
 use gi_facts::Fact;
-use sqlite::{Connection, FileStore};
+use sqlite::{Connection, Error, ErrorCode, FileStore};
 use sqlite_disk::{Disk, Files, Memory};
 use sqlite_pager::Options;
 use std::alloc::Global;
@@ -25,6 +25,17 @@ fn disk_of(alloc: Global, bytes: &[u8]) -> Result<Memory, StoreFault>
     let mut disk = Memory::new(alloc);
     disk.write_at(0, bytes).map_err(io_fault)?;
     Ok(disk)
+}
+
+/// What memory fails of as a disk is want of memory: `open_files` tells a failed disk where a call on it
+/// failed, and one in memory fails for nothing else.
+fn fault_of_copy(error: Error) -> StoreFault
+    ensures { IsRefusal result }
+{
+    match error {
+        Error::SqliteFailure(ErrorCode::SystemIoFailure) => StoreFault::OutOfMemory,
+        _ => StoreFault::from(error),
+    }
 }
 
 /// The database that the bytes of its file and of the log beside it hold, opened in memory.
@@ -46,7 +57,7 @@ pub fn copied(
         Err(failed) => {
             let (error, left) = failed;
             drop(left);
-            Err(StoreFault::from(error))
+            Err(fault_of_copy(error))
         }
     }
 }
