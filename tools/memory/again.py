@@ -2,13 +2,14 @@
 call that was: the first that is answered otherwise, and its answer must be that memory is wanted. A second run of the same allocation,
 whose lines are as many bytes, has more lines behind that call: what stands is asked, and must be what stood before; the call is made
 again, and must be answered as it is with all memory; and so must be what follows. What took its values by move cannot be made again,
-and is told. Where the driver of the cases itself wants memory, or a call that it makes nothing of, the program ends."""
-import contextlib
+and is gone. Where the driver of the cases itself wants memory, as for the text of a message that was read, the program ends, or makes nothing
+of the call, which is made again too."""
 import re
 import shutil
 import tempfile
 
-from refusal import ENDS, Wrong
+from book_files import Wrong
+from refusal import ENDS
 
 # an answer that tells of want of memory, by the desk, a world, a book or an office
 WANTS = re.compile(r"(Refused |Store |Office )?OutOfMemory$")
@@ -19,6 +20,8 @@ class Cases:
 
     # the call, if any, from which on the file is left out, and words whose calls are
     UNTIL, LEFT_OUT = None, ()
+    # words of calls of which each allocation is refused, also where only some of the file's are
+    EACH = ()
 
     def __init__(self, refusing, subject, path):
         self.refusing, self.words = refusing, ["gi_cases", subject]
@@ -27,11 +30,13 @@ class Cases:
         calls = calls[: calls.index(self.UNTIL)] if self.UNTIL in calls else calls
         self.calls = [it for it in calls if not any(word in it.split() for word in self.LEFT_OUT)]
         # (all inputs have one length, so that reading them takes the same allocations)
-        self.size = 2 * sum(len(it.encode()) + 1 for it in self.calls) + 20000
+        self.size = 2 * sum(len(it.encode()) + 1 for it in self.calls) + 60000
         whole = self.run(self.calls, 0)
         if whole is None:
             raise Wrong("it does not end with all memory")
         self.answers, self.count = whole
+        # the calls that were refused memory and told it
+        self.wanting = set()
 
     def questions(self, _at):
         """What is asked of what stands before a call."""
@@ -55,28 +60,48 @@ class Cases:
             raise Wrong(f"allocation {number}: status {done.status}, {done.errors!r}")
         return answers_of(calls, done.output.decode()), done.count if done.is_told or not number else 0
 
-    def before(self, calls):
-        """What stands before each call, as it is asked."""
+    def before(self):
+        """What stands before each call, and behind the last one, as it is asked."""
         asked, places = [], []
-        for at, call in enumerate(calls):
+        for at in range(len(self.calls) + 1):
             places.append((len(asked), len(self.questions(at))))
-            asked += [*self.questions(at), call]
+            asked += [*self.questions(at), *self.calls[at : at + 1]]
         answers, _ = self.run(asked, 0)
-        if [answers[first + count] for first, count in places] != self.answers:
+        if [answers[first + count] for first, count in places[:-1]] != self.answers:
             raise Wrong("what is asked between the calls changes their answers")
         return [answers[first : first + count] for first, count in places]
 
-    def all(self, most, least):
-        """Refuses each allocation in turn, or evenly some; so many calls at least have to be made again, counted as of all."""
-        self.stood = self.before(self.calls)
-        numbers = self.refusing.numbers(self.count, most)
-        counts = self.refusing.each(numbers, self.one)
+    def up_to(self, at):
+        """How many allocations are asked for up to the end of the calls before this one."""
+        return self.run(self.calls[:at], 0)[1]
+
+    def in_each(self):
+        """The numbers of all allocations in the calls of EACH."""
+        calls = [at for at, call in enumerate(self.calls) if any(word in call.split()[:2] for word in self.EACH)]
+        return {number for at in calls for number in range(self.up_to(at) + 1, self.up_to(at + 1) + 1)}
+
+    def all(self, most, least, ways):
+        """Refuses each allocation in turn, or evenly some and those in the calls of EACH; so many calls at least have to be made again,
+        counted as of all, and each of these ways has to be gone."""
+        self.stood = self.before()
+        evenly = self.refusing.numbers(self.count, most)
+        counts = self.refusing.each(sorted(self.in_each().union(evenly)), self.one)
         if counts["not reached"]:
             raise Wrong(f"{counts['not reached']} allocations were not asked for again")
         again = sum(count for what, count in counts.items() if what not in ("ended", "done without"))
-        if again * numbers.step < least:
+        if again * evenly.step < least:
             raise Wrong(f"only {again} calls were made again")
+        for way in ways:
+            if not counts[way]:
+                raise Wrong(f"no refusal was {way}")
+        for name, places in self.wanted().items():
+            if not self.wanting.intersection(places):
+                raise Wrong(f"{name} never told that it wants memory")
         return counts, self.count
+
+    def wanted(self):
+        """Names, and of each the places of calls of which one at least has to be refused memory, and to tell it."""
+        return {}
 
     def one(self, number):
         """What came of one refusal."""
@@ -89,17 +114,22 @@ class Cases:
         at = next((at for at, it in enumerate(answers) if it != self.answers[at]), None)
         if at is None:
             return "done without"
+        if any(map(WANTS.match, answers[at][-1:])):
+            self.wanting.add(at)
         return self.made_again(number, at, answers[at])
 
     def made_again(self, number, at, answer):
         """What came of a call that was refused memory and is made again."""
         if answer == self.driver_wants(at):
             return "ended"
-        # (a refused call tells nothing else)
-        if len(answer) != 1 or not WANTS.match(answer[0]):
-            raise Wrong(f"allocation {number}: {self.calls[at][:60]!r} is answered {answer[:2]!r}")
+        self.wants_alone(number, at, answer)
         self.compare(number, at, answer, self.behind(at, answer), self.rest(at))
         return "made again"
+
+    def wants_alone(self, number, at, answer):
+        """A refused call tells that it wants memory, and nothing else."""
+        if len(answer) != 1 or not WANTS.match(answer[0]):
+            raise Wrong(f"allocation {number}: {self.calls[at][:60]!r} is answered {answer[:2]!r}")
 
     def driver_wants(self, _at):
         """What the driver of the cases answers to this call, where it goes on without the memory that it wanted itself."""
@@ -125,12 +155,29 @@ class Cases:
             if its_answer is not None and its_got != its_answer:
                 raise Wrong(f"allocation {number}, {self.calls[at][:60]!r} again: {call[:60]!r} is answered {its_got[:2]!r}, not {its_answer[:2]!r}")
 
+    def one_way(self, number, at, answer, ways, rest):
+        """Which of these ways, by the lines behind the call, the run goes."""
+        told = []
+        for way, behind in ways.items():
+            try:
+                self.compare(number, at, answer, behind, rest)
+                return way
+            except Wrong as wrong:
+                told.append(str(wrong))
+        raise Wrong("; ".join(told))
+
 
 class Messages(Cases):
     """Messages: the one that was read before stays."""
 
     def questions(self, at):
         return ["fields"] if at else []
+
+    def wanted(self):
+        """A message of each kind. (An order or a response in the office's own text is read in one pass, and as JSON where that is refused
+        memory; so it tells nothing.)"""
+        kinds = ("NOMINT", "ACKNOW", "NOMRES", "DELORD", "DELRES")
+        return {kind: [at for at, call in enumerate(self.calls) if f'"kind":"{kind}"' in call] for kind in kinds}
 
 
 class Worlds(Cases):
@@ -200,18 +247,7 @@ class Book(Cases):
         found = (call, self.answers[at])
         # (where the driver wanted the memory, for the facts themselves, the book is still loaded)
         ways = {"saved again": [*wants_loading, *before, found], "saved all the same": [*wants_loading, *after, taken], "ended": [before[1], found]}
-        return self.one_way(number, at, answer, ways)
-
-    def one_way(self, number, at, answer, ways):
-        """Which of these ways the run goes."""
-        told = []
-        for way, behind in ways.items():
-            try:
-                self.compare(number, at, answer, behind, self.rest(at))
-                return way
-            except Wrong as wrong:
-                told.append(str(wrong))
-        raise Wrong("; ".join(told))
+        return self.one_way(number, at, answer, ways, self.rest(at))
 
 
 class Offices(Cases):
@@ -219,30 +255,80 @@ class Offices(Cases):
 
     # (a wait for a fact that no turn saved would have no end; so what a wait answers without memory is not tried)
     LEFT_OUT = ("wait_saved",)
+    EACH = ("open", "fact", "contract", "submit", "close", "deliver", "join_lives", "reconcile")
+    SIDES = ("I", "later", "M")
 
-    def driver_wants(self, at):
-        # (a fact that is not read, and a book that is not opened)
-        return ["no such call"] if self.calls[at].split()[1:2] in (["fact"], ["load"]) else None
+    def questions(self, at):
+        return [line for side in self.SIDES for line in self.asked_of(side, self.calls[:at])]
+
+    def asked_of(self, side, made):
+        """What is asked of an office, and of its book: how many calls each seat noted, and what it was given; of one that is settled
+        all entries, and which facts are saved there."""
+        made = [it for it in made if it.startswith(f"{side} ") or (it.startswith("later ") and "join_lives" in made)]
+        opened = next((it for it in made if it.startswith(f"{side} open ")), None)
+        book = [f"{side} load"] if f"{side} book" in made else []
+        if not opened:
+            return book
+        if f"{side} settle" in made:
+            # (no office has as many entries or facts as twice its lines)
+            places = range(1, 2 * len(made) + 1)
+            return [*book, f"{side} entries", *(f"{side} {word} {it}" for word in ("entry", "acknowledged") for it in places)]
+        seats = range(1, int(opened.split()[-1]) + 1)
+        return [*book, *(f"{side} {word} {seat}" for word in ("notes", "receipts") for seat in seats)]
+
+    def stands(self, at, question):
+        """What a question is answered with all memory before this call."""
+        return self.stood[at][self.questions(at).index(question)]
+
+    def wanted(self):
+        """Of each kind of call one."""
+        made = {}
+        for at, call in enumerate(self.calls):
+            for word in call.split()[:2]:
+                if word in ("open", "contract", "submit", "close", "deliver", "save_turn", "join_lives"):
+                    made.setdefault(word, []).append(at)
+        return made
 
     def made_again(self, number, at, answer):
         side, _, call = self.calls[at].partition(" ")
+        if answer == ["no such call"]:
+            return self.made_by_driver(number, at, answer)
+        self.wants_alone(number, at, answer)
         if call.startswith("open ") or self.calls[at] == "join_lives":
-            self.compare(number, at, answer, [], [])
-            return "told"
-        if not call.startswith("save_turn") or not WANTS.match(answer[-1]):
-            return super().made_again(number, at, answer)
-        if answer[-1].startswith("Store "):
-            behind = [(self.calls[at], ["Halted"]), (f"{side} load", None), (self.calls[at], ["Halted"])]
-            self.compare(number, at, answer, behind, [])
-            return "halted"
-        self.compare(number, at, answer, [(self.calls[at], self.answers[at]), (f"{side} load", self.loaded(at, side))], self.rest(at))
-        return "marked later"
+            gone = [self.calls[at], "I entries", "later entries"] if not call else [self.calls[at], f"{side} notes 1", f"{side} settle"]
+            self.compare(number, at, answer, [(it, ["no such call"]) for it in gone], [])
+            return "gone"
+        if call.startswith("save_turn"):
+            return self.turned(number, at, answer)
+        return super().made_again(number, at, answer)
 
-    def loaded(self, at, side):
-        """What the book is loaded as behind a turn with all memory."""
-        lines = [*self.calls[: at + 1], f"{side} load"]
-        answers, _ = self.run(lines, 0)
-        return answers[-1]
+    def made_by_driver(self, number, at, answer):
+        """The driver of the cases wanted the memory: for a fact that it reads, or for a book that it opened by the call before and
+        said nothing."""
+        side, _, call = self.calls[at].partition(" ")
+        if call.startswith("fact "):
+            self.compare(number, at, answer, self.behind(at, answer), self.rest(at))
+            return "read again"
+        if call == "load" and self.calls[at - 1] == f"{side} book" and number <= self.up_to(at):
+            again = [*zip(self.calls[at - 1 : at + 1], self.answers[at - 1 : at + 1])]
+            self.compare(number, at, answer, again, self.rest(at))
+            return "opened again"
+        raise Wrong(f"allocation {number}: there is no call {self.calls[at][:60]!r}")
+
+    def turned(self, number, at, answer):
+        """A turn that saves. Where the book refused it the desk is halted, and the halt noted. Else the next turn answers what this one
+        had to; it finds the facts in the book already where a mark was refused, and writes nothing."""
+        side = self.calls[at].split()[0]
+        load, notes = f"{side} load", f"{side} notes {self.calls[at].split()[-1]}"
+        before, after = (load, self.stands(at, load)), (load, self.stands(at + 1, load))
+        if answer[-1].startswith("Store "):
+            halted = (self.calls[at], ["Halted"])
+            noted = (notes, [str(int(self.stands(at, notes)[0]) + 1)])
+            ways = {"halted": before, "halted, and saved": after}
+            return self.one_way(number, at, answer, {way: [halted, noted, it, halted] for way, it in ways.items()}, [])
+        turn = [(self.calls[at], self.answers[at]), *zip(self.questions(at + 1), self.stood[at + 1])]
+        self.compare(number, at, answer, turn, self.rest(at))
+        return self.one_way(number, at, answer, {"saved later": [before, *turn], "marked later": [after, *turn]}, self.rest(at))
 
 
 def answers_of(calls, text):

@@ -6,13 +6,17 @@ import os
 import subprocess
 import sys
 
+from book_files import Wrong
+
 HERE = os.path.dirname(os.path.realpath(__file__))
 TOP = os.path.dirname(os.path.dirname(HERE))
-PROGRAMS = {it: f"{TOP}/crates/{it}/out/{it}" for it in ("gi_dispatch", "gi_cases")}
+PROGRAMS = {it: f"{TOP}/crates/{it}/out/{it}" for it in ("gi_dispatch", "gi_match", "gi_cases")}
 SECONDS, WORKERS = 60, 2
-# how each program ends for want of memory: its status, and its faults (of gi_cases also those of its words and of its input)
+# how each program ends for want of memory: its status, and its faults (of gi_cases also those of its words and of its input; gi_match
+# says what gi_dispatch says)
 ENDS = {
     "gi_dispatch": (4, [b"gi_dispatch: OutOfMemory\n"]),
+    "gi_match": (4, [b"gi_dispatch: OutOfMemory\n"]),
     "gi_cases": (1, [b"gi_cases: OutOfMemory\n", b"gi_cases: NoSubject\n", b"gi_cases: Read\n"]),
 }
 # of `serve` also what a turn that saves wanted, or its book
@@ -21,10 +25,6 @@ OF_A_TURN = [b"gi_dispatch: Office OutOfMemory\n", b"gi_dispatch: Store OutOfMem
 RECONCILED = b"reconciled ok\n"
 # what came of a run: its status (None where it did not end), what it wrote, and whether the allocation was refused in it
 Done = collections.namedtuple("Done", "status output errors is_told count")
-
-
-class Wrong(Exception):
-    """What no run may do."""
 
 
 class Refusing:
@@ -93,7 +93,9 @@ def ended(words, number, done, whole, last):
     faults = faults + (OF_A_TURN if words[1] == "serve" else [])
     if not done.is_told:
         raise Wrong(f"allocation {number}: nothing was refused, and it ended otherwise")
-    if done.status != status or done.errors not in faults or not is_front(done.output, whole.output, last):
+    # (books are closed once the run is over: all is written then)
+    is_closing = words[1:2] == ["serve"] and "--books" in words and done.output == whole.output
+    if done.status != status or done.errors not in faults or not (is_closing or is_front(done.output, whole.output, last)):
         raise Wrong(f"allocation {number}: status {done.status}, {done.errors!r}, {len(done.output)} bytes written")
     return "told"
 
