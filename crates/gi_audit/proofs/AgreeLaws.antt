@@ -19,11 +19,11 @@ use Rattle.gi_world.specs.World.{other, station_of}
 use Rattle.gi_world.proofs.ConfirmedLaws.{HaveMetFrozen, confirms-lower}
 use Rattle.gi_world.proofs.Fronts.{front-frozen, front-met, saved-front}
 use Rattle.gi_audit.specs.Agreeing.{Agree, world_of}
-use Rattle.gi_audit.specs.Audit.{first_difference}
 use Rattle.gi_audit.specs.Cycles.{AreClosedAtEither}
 use Rattle.gi_audit.specs.Finding.{difference, differs, finding, found_by, undisputed}
 use Rattle.gi_audit.specs.declared.difference.Difference.{Difference}
 use Rattle.gi_audit.specs.declared.finding.Finding.TheVariants.{OpenAtBoth}
+use Rattle.gi_audit.specs.Verdict.{first_difference}
 use Rattle.gi_audit.specs.Laws.{AgreeingDesksConfirmOneQuantity, OpenAtBothIsOpen, TheMatchingSideConfirmsFirst, WorldsAgree}
 use Rattle.gi_audit.proofs.FindingLemmas.{AgreeAt, agrees-at, no-difference}
 
@@ -70,7 +70,7 @@ at_all_agree s t theirs all = record {
   after = λ id table met. ((all id).initiating_met table met).sent;
 }
 
-agree_at_all : (s t : DeskState) → Agree s t → (id : CycleId) → AgreeAt s t id
+pub agree_at_all : (s t : DeskState) → Agree s t → (id : CycleId) → AgreeAt s t id
 agree_at_all s t agree id = record {
   matching_met = λ table met. let is = agree.matching_met id table met in record { closed = is.0; sent = is.0; same = is.1 };
   initiating_met = λ table met. let is = agree.initiating_met id table met in record { closed = is.0; sent = agree.after id table met; same = is.1 };
@@ -88,7 +88,7 @@ mapped_from : (own : TableContents) (met : Option TableContents) (table : TableC
 mapped_from own None table e = absurd cc
 mapped_from own (Some peer) table e = (peer, refl)
 
-confirmed_from : (side : Side) (s : DeskState) (id : CycleId) (table : TableContents) → confirmed side s id ≡ Some table → (peer : TableContents) × (peer_of id (saved_facts s) ≡ Some peer)
+pub confirmed_from : (side : Side) (s : DeskState) (id : CycleId) (table : TableContents) → confirmed side s id ≡ Some table → (peer : TableContents) × (peer_of id (saved_facts s) ≡ Some peer)
 unfolding confirmed
 confirmed_from side s id table e = mapped_from (frozen_table side s.facts id) (peer_of id (saved_facts s)) table e
 
@@ -184,10 +184,3 @@ worlds-agree w sound =
         after = restarted_after s t sound.after;
       },
     )
-
--- ---- an audit
-
-pub found-exactly : (s t : DeskState) (ids gone : List CycleId) (first : Option CycleId) → IsLegal I s → IsLegal M t → AreClosedAtEither s t ids → gone ≡ ids → first ≡ first_difference s t gone
-    → (first ≡ None) ↔ Agree s t
-found-exactly s t ids gone first ours theirs closed same is =
-    subst (λ (found : Option CycleId). (found ≡ None) ↔ Agree s t) (sym (is ∙ ap (first_difference s t) same)) (agreed-exactly s t ids ours theirs closed)

@@ -7,6 +7,7 @@ pub mod CycleLemmas
 pub mod TotalLemmas
 pub mod LineLemmas
 pub mod AgreeLaws
+pub mod Verdicts
 pub mod RunLemmas
 pub mod FirstPlaces
 pub mod ToldPlaces

@@ -1,15 +1,16 @@
 -- One more line, and one more cycle.
-use Rattle.std.proofs.Common.{◌≡◌, ◌<◌, ◌+◌, ℕ, List, [], ◌∷◌, ◌++◌, length, take, find, get_or, append-nil, Bool, cond, Option, Some, None, sym, ap, ◌∙◌}
-use Rattle.std.specs.List.{flat_map}
+use Rattle.std.proofs.Common.{◌≡◌, ◌<◌, ◌+◌, ℕ, List, [], ◌∷◌, ◌++◌, length, take, find, get_or, append-nil, Bool, ◌||◌, cond, Option, Some, None, sym, ap, ◌∙◌}
+use Rattle.std.specs.List.{flat_map, list_any}
 use Rattle.std.specs.Option.{option_or}
 use Rattle.std.proofs.lemmas.List.Concat.{flat_map-append}
-use Rattle.std.proofs.lemmas.List.Folds.{find-append}
+use Rattle.std.proofs.lemmas.List.Folds.{find-append, list_any_more}
 use Rattle.gi_pairs.specs.declared.cycle_id.CycleId.{CycleId}
 use Rattle.gi_desk.specs.Machine.{DeskState}
 use Rattle.gi_desk.proofs.HistoryLaws.{one_more}
-use Rattle.gi_audit.specs.Audit.{cycle_line, cycle_lines, first_difference, line_of}
-use Rattle.gi_audit.specs.Finding.{differs, finding, is_difference}
+use Rattle.gi_audit.specs.Audit.{cycle_line, cycle_lines, line_of}
+use Rattle.gi_audit.specs.Finding.{agrees, differs, finding, is_agreed, is_difference}
 use Rattle.gi_audit.specs.Place.{place_found}
+use Rattle.gi_audit.specs.Verdict.{any_agrees, first_difference}
 use Rattle.gi_audit.specs.declared.finding.Finding.{Finding}
 use Rattle.gi_audit.specs.declared.place.Place.{Place}
 
@@ -33,3 +34,13 @@ first_more s t ids i id found first now next below is first_is found_is now_is n
     ∙ ap (λ (f : Finding). option_or (find test (take i ids)) (cond (is_difference f) (Some id) None)) found_is
     ∙ sym (find-append test (take i ids) (id ∷ []))
     ∙ ap (find test) (sym (one_more ids i id below is))
+
+pub agreed_more : (s t : DeskState) (ids : List CycleId) (i : ℕ) (id : CycleId) (found : Finding) (agreed next : Bool) → i < length ids → id ≡ get_or ids i id
+    → agreed ≡ any_agrees s t (take i ids) → found ≡ finding s t id → next ≡ (agreed || is_agreed found) → next ≡ any_agrees s t (take (i + 1) ids)
+unfolding agrees
+agreed_more s t ids i id found agreed next below is agreed_is found_is next_is =
+    let test : CycleId → Bool = agrees s t in
+    let before : Bool = list_any test (take i ids) in
+    next_is ∙ (λ k. agreed_is k || is_agreed (found_is k))
+    ∙ ap (λ (other : CycleId). before || test other) is
+    ∙ sym (list_any_more test ids i id below)

@@ -85,5 +85,16 @@ is_difference (Agreed im mi) = false
 is_difference OpenAtInitiating = false
 is_difference OpenAtBoth = false
 
+abbrev pub is_agreed : Finding → Bool
+is_agreed (Agreed im mi) = true
+is_agreed OpenAtInitiating = false
+is_agreed OpenAtBoth = false
+is_agreed (Differs difference) = false
+
+-- a table of the cycle differs
 unfoldable pub differs : DeskState → DeskState → CycleId → Bool
 differs initiating matching id = is_difference (finding initiating matching id)
+
+-- the cycle is agreed: both have confirmed it, and no table differs
+unfoldable pub agrees : DeskState → DeskState → CycleId → Bool
+agrees initiating matching id = is_agreed (finding initiating matching id)

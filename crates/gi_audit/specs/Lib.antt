@@ -4,6 +4,7 @@ pub mod Finding
 pub mod FindingText
 pub mod Place
 pub mod Cycles
+pub mod Verdict
 pub mod Audit
 pub mod LetOut
 pub mod Laws

@@ -1,9 +1,10 @@
 //! The audit of two desks.
 
-ghost use Rattle.std.specs.Prelude.{◌≡◌, ◌↔◌, IfOk, false, if◌then◌else◌, string_bytes};
+ghost use Rattle.std.specs.Prelude.{◌≡◌, ◌↔◌, ◌||◌, IfOk, false, if◌then◌else◌, string_bytes};
 ghost use Rattle.gi_audit.specs.Agreeing.{Agree, ConfirmOneQuantity};
-ghost use Rattle.gi_audit.specs.Audit.{IsAudit, cycle_lines, first_difference, last_line as last_line_of, line_of};
-ghost use Rattle.gi_audit.specs.Finding.{is_difference};
+ghost use Rattle.gi_audit.specs.Audit.{IsAudit, cycle_lines, last_line as last_line_of, line_of};
+ghost use Rattle.gi_audit.specs.Finding.{is_agreed, is_difference};
+ghost use Rattle.gi_audit.specs.Verdict.{IsToldExactly, any_agrees, first_difference, names_difference};
 
 use crate::comparing::{found_at, place_found};
 use crate::cycles::closed_at_either;
@@ -11,6 +12,7 @@ use crate::finding::Finding;
 use crate::knowing::known;
 use crate::laws::agreeing_desks_confirm_one_quantity;
 use crate::place::Place;
+use crate::verdict::Verdict;
 use gi_desk::Desk;
 use gi_initiator::Initiating;
 use gi_matcher::Matching;
@@ -23,8 +25,19 @@ use std::alloc::{AllocError, Global};
 pub struct Audited {
     /// A line for each cycle that either has closed, by gas day and number, and a last one.
     pub text: String,
-    /// The first cycle of which a table differs: none where the desks agree.
-    pub first: Option<CycleId>,
+    /// What they come to, which the last line tells.
+    pub verdict: Verdict,
+}
+
+/// What is found of some cycles.
+#[derive(Drop)]
+struct Found {
+    /// A line for each.
+    text: String,
+    /// The first of which a table differs.
+    first: Option<CycleId>,
+    /// One of them is agreed.
+    agreed: bool,
 }
 
 fn line(
@@ -45,15 +58,17 @@ fn line(
     }
 }
 
-fn last_line(alloc: Global, first: &Option<CycleId>) -> Result<String, AllocError>
-    ensures { IfOk result (λ line. string_bytes line ≡ last_line_of first.now) }
+fn last_line(alloc: Global, verdict: &Verdict) -> Result<String, AllocError>
+    ensures { IfOk result (λ line. string_bytes line ≡ last_line_of verdict.now) }
 {
-    match first {
-        Some(id) => {
+    match verdict {
+        Verdict::Agreed => format!(in alloc; "agreed\n"),
+        Verdict::Open => format!(in alloc; "open\n"),
+        Verdict::Empty => format!(in alloc; "empty\n"),
+        Verdict::Differs(id) => {
             let (day, cycle) = (id.day, id.cycle);
             format!(in alloc; "differs at {day} {cycle}\n")
         }
-        None => format!(in alloc; "agreed\n"),
     }
 }
 
@@ -68,36 +83,52 @@ fn differing(id: &CycleId, found: Finding) -> Option<CycleId>
     }
 }
 
+/// Whether any is agreed, with one more.
+fn or_agreed(agreed: bool, found: Finding) -> bool
+    ensures { result ≡ (agreed || is_agreed found) }
+{
+    agreed || found.is_agreed()
+}
+
 fn lines(
     alloc: Global,
     initiating: &Desk<Initiating>,
     matching: &Desk<Matching>,
     ids: &[CycleId],
-) -> Result<Audited, AllocError>
+) -> Result<Found, AllocError>
     requires initiating { initiating.now.halted ≡ false }
     requires matching { matching.now.halted ≡ false }
-    ensures text { IfOk result (λ audit. string_bytes audit.text ≡ cycle_lines initiating.now matching.now ids.now) }
-    ensures first { IfOk result (λ audit. audit.first ≡ first_difference initiating.now matching.now ids.now) }
+    ensures text { IfOk result (λ them. string_bytes them.text ≡ cycle_lines initiating.now matching.now ids.now) }
+    ensures first { IfOk result (λ them. them.first ≡ first_difference initiating.now matching.now ids.now) }
+    ensures agreed { IfOk result (λ them. them.agreed ≡ any_agrees initiating.now matching.now ids.now) }
 {
     let mut text = String::new(alloc);
     let mut first = None;
+    let mut agreed = false;
     for id in ids {
         let found = found_at(alloc, initiating, matching, id)?;
         let place = place_found(alloc, initiating, matching, id, found)?;
         let line = line(alloc, id, found, place)?;
         text.push_str(line.as_str())?;
         first = first.or(differing(id, found));
+        agreed = or_agreed(agreed, found);
     }
-    Ok(Audited { text, first })
+    Ok(Found {
+        text,
+        first,
+        agreed,
+    })
 }
 
 /// Sets two desks that are not halted against each other, as those are that a book was replayed to:
 /// a line for each cycle that either has closed, by gas day and number, with what is found of it,
-/// and a last one, `agreed` or the first cycle of which a table differs.
+/// and a last one: `agreed`, `open`, `empty`, or the first cycle of which a table differs.
 ///
-/// They agree exactly where each table that either side met is the one that the other side froze,
+/// None differs exactly where each table that either side met is the one that the other side froze,
 /// and what the initiating side met the matching side met before. Then every quantity that either
-/// side has confirmed is the lower of the two that both froze.
+/// side has confirmed is the lower of the two that both froze. Where neither has closed a cycle, or
+/// there is none that both have confirmed, this says nothing of a quantity that both rely on: it is
+/// told as `Empty` or `Open`, and never as `Agreed`.
 pub fn audit(
     alloc: Global,
     initiating: &Desk<Initiating>,
@@ -105,16 +136,22 @@ pub fn audit(
 ) -> Result<Audited, AllocError>
     requires initiating { initiating.now.halted ≡ false }
     requires matching { matching.now.halted ≡ false }
-    ensures written { IfOk result (λ audit. IsAudit initiating.now matching.now (string_bytes audit.text) audit.first) }
-    ensures verdict { IfOk result (λ audit. (audit.first ≡ None) ↔ Agree initiating.now matching.now) }
-    ensures one_quantity { IfOk result (λ audit. audit.first ≡ None → ConfirmOneQuantity initiating.now matching.now) }
+    ensures written { IfOk result (λ audit. IsAudit initiating.now matching.now (string_bytes audit.text) audit.verdict) }
+    ensures verdict { IfOk result (λ audit. (names_difference audit.verdict ≡ false) ↔ Agree initiating.now matching.now) }
+    ensures told { IfOk result (λ audit. IsToldExactly initiating.now matching.now audit.verdict) }
+    ensures one_quantity { IfOk result (λ audit. names_difference audit.verdict ≡ false → ConfirmOneQuantity initiating.now matching.now) }
 {
     agreeing_desks_confirm_one_quantity();
     known(initiating);
     known(matching);
     let ids = closed_at_either(alloc, initiating, matching)?;
-    let Audited { mut text, first } = lines(alloc, initiating, matching, &ids)?;
-    let last = last_line(alloc, &first)?;
+    let Found {
+        mut text,
+        first,
+        agreed,
+    } = lines(alloc, initiating, matching, &ids)?;
+    let verdict = Verdict::of(first, agreed, &ids);
+    let last = last_line(alloc, &verdict)?;
     text.push_str(last.as_str())?;
-    Ok(Audited { text, first })
+    Ok(Audited { text, verdict })
 }

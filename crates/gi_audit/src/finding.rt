@@ -32,12 +32,19 @@ impl fmt::Display for Finding {
 
 impl Finding {
     ghost use Rattle.std.specs.Prelude.{◌≡◌};
-    ghost use Rattle.gi_audit.specs.Finding.{is_difference};
+    ghost use Rattle.gi_audit.specs.Finding.{is_agreed, is_difference};
 
     /// Whether a table differs.
     pub fn is_difference(&self) -> bool
         ensures { result ≡ is_difference self.now }
     {
         matches!(self, Finding::Differs(_))
+    }
+
+    /// Whether both have confirmed the cycle, and no table differs.
+    pub fn is_agreed(&self) -> bool
+        ensures { result ≡ is_agreed self.now }
+    {
+        matches!(self, Finding::Agreed { .. })
     }
 }

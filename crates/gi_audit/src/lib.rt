@@ -11,7 +11,8 @@
 //!
 //! Where all of these are the same, every quantity that either side has confirmed is the lower of
 //! the two that both froze ([`agreeing_desks_confirm_one_quantity`]). And they always are, where
-//! both desks came of the steps of a world ([`worlds_agree`]).
+//! both desks came of the steps of a world ([`worlds_agree`]). So they are where nothing is closed, or
+//! nothing confirmed by both: the [`Verdict`] tells these apart from books that agree on something.
 #![tactic(auto)]
 
 mod auditing;
@@ -26,6 +27,7 @@ mod place;
 mod running;
 mod sending;
 mod total;
+mod verdict;
 
 pub use auditing::{Audited, audit};
 pub use laws::{
@@ -33,3 +35,4 @@ pub use laws::{
     the_matching_side_confirms_first, worlds_agree,
 };
 pub use running::audit_run;
+pub use verdict::Verdict;

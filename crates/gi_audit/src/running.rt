@@ -1,6 +1,6 @@
 //! The audit of the books that both offices are left with after a run.
 
-ghost use Rattle.std.specs.Prelude.{◌≡◌, ◌↔◌, Err, IfOk, IsTrue, None, OnOk, string_bytes};
+ghost use Rattle.std.specs.Prelude.{◌≡◌, ◌↔◌, Err, IfOk, IsTrue, OnOk, false, string_bytes};
 ghost use Rattle.gi_desk.specs.Machine.{started_again};
 ghost use Rattle.gi_world.specs.Agreement.{IsSound};
 ghost use Rattle.gi_world.specs.Runs.{run};
@@ -8,6 +8,7 @@ ghost use Rattle.gi_world.specs.World.{after, after_restart, new_world, station_
 ghost use Rattle.gi_world.specs.declared.world_fault.WorldFault.TheVariants.{OutOfMemory};
 ghost use Rattle.gi_audit.specs.Audit.{IsAudit};
 ghost use Rattle.gi_audit.specs.LetOut.{HaveLetOut};
+ghost use Rattle.gi_audit.specs.Verdict.{names_difference};
 
 use crate::auditing::{Audited, audit};
 use crate::knowing::known;
@@ -77,13 +78,14 @@ fn start_both_again(world: &mut World) -> Result<(), AllocError>
 }
 
 /// Makes the steps in a world that has just been opened; then both sides start again from what is
-/// saved, and are left so, and these two desks are set against each other. They agree, whatever the
-/// steps are: an audit of two offices' books gives no false alarm. There is none where memory runs out.
+/// saved, and are left so, and these two desks are set against each other. Nothing differs, whatever
+/// the steps are: an audit of two offices' books gives no false alarm. There is none where memory runs
+/// out.
 pub fn audit_run(alloc: Global, world: &mut World, steps: &[Step]) -> Result<Audited, AllocError>
     requires { world.now ≡ new_world world.now.initiating.desk.point }
     ensures books { IfOk result (λ audited. let w = run world.old steps.now in
-        IsAudit (started_again w.initiating.desk w.initiating.desk.saved) (started_again w.matching.desk w.matching.desk.saved) (string_bytes audited.text) audited.first) }
-    ensures agreed { IfOk result (λ audited. audited.first ≡ None) }
+        IsAudit (started_again w.initiating.desk w.initiating.desk.saved) (started_again w.matching.desk w.matching.desk.saved) (string_bytes audited.text) audited.verdict) }
+    ensures agreed { IfOk result (λ audited. names_difference audited.verdict ≡ false) }
     ensures initiating { OnOk result (let w = run world.old steps.now in world.new.initiating.desk ≡ started_again w.initiating.desk w.initiating.desk.saved) }
     ensures matching { OnOk result (let w = run world.old steps.now in world.new.matching.desk ≡ started_again w.matching.desk w.matching.desk.saved) }
     ensures out { OnOk result (HaveLetOut (run world.old steps.now) world.new) }

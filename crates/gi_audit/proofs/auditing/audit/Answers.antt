@@ -1,16 +1,33 @@
-use Rattle.std.proofs.Common.{◌≡◌, ◌↔◌, None}
-use Rattle.gi_audit.specs.Agreeing.{Agree}
-use Rattle.gi_audit.proofs.AgreeLaws.{found-exactly}
+use Rattle.gi_audit.proofs.Verdicts.{verdict-exactly, verdict-is, verdict-told}
 use Rattle.gi_audit.proofs.auditing.audit.Goals as goal
 
 pub returns-clause-verdict : goal.returns-clause-verdict
 returns-clause-verdict c =
-    found-exactly c.args.initiating.now c.args.matching.now c.in_ok-ids.ids.items c.deref.result.now c.in_ok-text.field-0.first c.known.ensures.legal c.known-2.ensures.legal
-    c.in_ok-ids.ensures c.deref.ensures.value c.in_ok-text.ensures.first
+    let s = c.args.initiating.now in
+    let t = c.args.matching.now in
+    let ids = c.in_ok-ids.ids.items in
+    let verdict = c.of-verdict.result in
+    let is = verdict-is s t ids c.deref.result.now c.deref-2.result.now c.in_ok-text.field-0.first c.in_ok-text.field-0.agreed verdict
+    c.deref.ensures.value c.deref-2.ensures.value c.in_ok-text.ensures.first c.in_ok-text.ensures.agreed c.of-verdict.ensures in
+    verdict-exactly s t ids verdict c.known.ensures.legal c.known-2.ensures.legal c.in_ok-ids.ensures is
+
+pub returns-clause-told : goal.returns-clause-told
+returns-clause-told c =
+    let s = c.args.initiating.now in
+    let t = c.args.matching.now in
+    let ids = c.in_ok-ids.ids.items in
+    let verdict = c.of-verdict.result in
+    let is = verdict-is s t ids c.deref.result.now c.deref-2.result.now c.in_ok-text.field-0.first c.in_ok-text.field-0.agreed verdict
+    c.deref.ensures.value c.deref-2.ensures.value c.in_ok-text.ensures.first c.in_ok-text.ensures.agreed c.of-verdict.ensures in
+    verdict-told s t ids verdict c.known.ensures.legal c.known-2.ensures.legal c.in_ok-ids.ensures is
 
 pub returns-clause-one_quantity : goal.returns-clause-one_quantity
 returns-clause-one_quantity c = λ none.
-    let exactly : (c.in_ok-text.field-0.first ≡ None) ↔ Agree c.args.initiating.now c.args.matching.now =
-    found-exactly c.args.initiating.now c.args.matching.now c.in_ok-ids.ids.items c.deref.result.now c.in_ok-text.field-0.first c.known.ensures.legal c.known-2.ensures.legal
-    c.in_ok-ids.ensures c.deref.ensures.value c.in_ok-text.ensures.first in
-    c.agreeing_desks_confirm_one_quantity.ensures c.args.initiating.now c.args.matching.now c.known.ensures.legal c.known-2.ensures.legal c.known.ensures.fits c.known-2.ensures.fits (exactly.0 none)
+    let s = c.args.initiating.now in
+    let t = c.args.matching.now in
+    let ids = c.in_ok-ids.ids.items in
+    let verdict = c.of-verdict.result in
+    let is = verdict-is s t ids c.deref.result.now c.deref-2.result.now c.in_ok-text.field-0.first c.in_ok-text.field-0.agreed verdict
+    c.deref.ensures.value c.deref-2.ensures.value c.in_ok-text.ensures.first c.in_ok-text.ensures.agreed c.of-verdict.ensures in
+    let exactly = verdict-exactly s t ids verdict c.known.ensures.legal c.known-2.ensures.legal c.in_ok-ids.ensures is in
+    c.agreeing_desks_confirm_one_quantity.ensures s t c.known.ensures.legal c.known-2.ensures.legal c.known.ensures.fits c.known-2.ensures.fits (exactly.0 none)

@@ -1,5 +1,5 @@
 use Rattle.std.proofs.Common.{◌∙◌, List, ap, string_bytes, ◌++◌, ℕ}
-use Rattle.gi_audit.proofs.LineLemmas.{first_more, lines_more}
+use Rattle.gi_audit.proofs.LineLemmas.{agreed_more, first_more, lines_more}
 use Rattle.gi_audit.proofs.auditing.lines.Goals as goal
 
 pub loop-id-preserved : goal.loop-id-preserved
@@ -14,4 +14,7 @@ loop-id-preserved c =
       first =
           first_more s t c.args.ids.now c.loop-id.id-index c.id-item.result c.in_ok-found.found c.loop-id.first c.differing.result c.or-first.result
           c.loop-id-test.true c.id-item.is c.loop-id.invariant.first c.in_ok-found.ensures c.differing.ensures c.or-first.ensures;
+      agreed =
+          agreed_more s t c.args.ids.now c.loop-id.id-index c.id-item.result c.in_ok-found.found c.loop-id.agreed c.or_agreed-agreed.result
+          c.loop-id-test.true c.id-item.is c.loop-id.invariant.agreed c.in_ok-found.ensures c.or_agreed-agreed.ensures;
     }

@@ -29,7 +29,7 @@ returns-clause-books c =
     c.matching.ensures ∙ c.in_ok-start_both_again.ensures.matching
     ∙ ap (λ (v : WorldState). started_again v.matching.desk v.matching.desk.saved) c.in_ok-make_all.ensures.next in
     IfOk-weaker c.audit.result _ _ (λ audited is.
-    subst (λ (both : DeskState × DeskState). IsAudit both.0 both.1 (string_bytes audited.text) audited.first) (λ k. (ours k, theirs k)) is)
+    subst (λ (both : DeskState × DeskState). IsAudit both.0 both.1 (string_bytes audited.text) audited.verdict) (λ k. (ours k, theirs k)) is)
     c.audit.ensures.written
 
 pub returns-clause-agreed : goal.returns-clause-agreed
