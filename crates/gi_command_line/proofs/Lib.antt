@@ -1,1 +1,3 @@
 mod Building
+mod FirstFacts
+mod Numerals

@@ -2,12 +2,14 @@
 use Rattle.std.specs.Prelude.{ℕ, Bool, List, Option, None, Some, option_map}
 use Rattle.gi_pairs.specs.declared.direction.Direction.{Direction}
 use Rattle.gi_pairs.specs.declared.side.Side.{Side}
+use Rattle.gi_command_line.specs.declared.expected.ExpectedFacts.{ExpectedFacts}
 use Rattle.gi_command_line.specs.declared.request.BookFile.{BookFile}
 use Rattle.gi_command_line.specs.declared.request.Format.{Format}
 use Rattle.gi_command_line.specs.declared.request.NamedQuantity.{NamedQuantity}
 use Rattle.gi_command_line.specs.declared.request.ReportKind.{ReportKind}
 use Rattle.gi_command_line.specs.declared.request.Request.{Request}
 use Rattle.gi_command_line.specs.declared.request.Request.TheVariants as request
+use Rattle.gi_command_line.specs.declared.request.Service.{Service}
 use Rattle.gi_command_line.specs.declared.request.Task.{Task}
 use Rattle.gi_command_line.specs.declared.request.Task.TheVariants as task
 
@@ -22,7 +24,8 @@ pub record QuantityWords : Type 0 where
 
 -- one of the commands but `serve`: a script's steps, with a trace or without; a report of this kind, in this format and of
 -- this side, or what a quantity comes from at a side, over a script or over the book in a file, for this point; the audit of
--- the initiating and the matching operator's books in files, for this point; or a command in wrong words
+-- the initiating and the matching operator's books in files, for this point; what a book in a file is, with the number of its
+-- first facts that are expected to have a digest, and the digest; or a command in wrong words
 pub data Asked : Type 0 where
   match_tables : Asked
   hours : List ℕ → Asked
@@ -30,6 +33,7 @@ pub data Asked : Type 0 where
   report : ReportKind → Format → Side → Option (List ℕ × List ℕ) → Asked
   explain : Side → QuantityWords → Option (List ℕ × List ℕ) → Asked
   audit : List ℕ → List ℕ → List ℕ → Asked
+  about_book : List ℕ → Option (ℕ × List ℕ) → Asked
   mistaken : Asked
 
 -- what a request asks for
@@ -47,6 +51,9 @@ quantity_words named = record {
   hour = named.hour;
 }
 
+abbrev pub expected_words : ExpectedFacts → ℕ × List ℕ
+expected_words expected = (expected.facts, expected.digest.now)
+
 abbrev pub meaning : Request → Asked
 meaning request.Match = match_tables
 meaning (request.Hours day) = hours day.now
@@ -54,14 +61,30 @@ meaning (request.Simulate trace) = simulate trace
 meaning (request.Report wanted) = report wanted.kind wanted.format wanted.side (book_of wanted.book)
 meaning (request.Explain wanted) = explain wanted.side (quantity_words wanted.quantity) (book_of wanted.book)
 meaning (request.Audit books) = audit books.initiating.now books.matching.now books.point.now
+meaning (request.Book question) = about_book question.file.now (option_map expected_words question.expected)
 meaning (request.Mistaken why) = mistaken
 
--- any of the commands: one of these, or both offices run by a script, each with so many sessions, and their books in the
--- files whose names begin so, else in memory
+-- how both offices run: each with so many sessions, and their books in the files whose names begin so, else in memory; for so
+-- many seconds a book that is in use is tried again, and books are made or only old ones are taken
+pub record ServiceWords : Type 0 where
+  pub sessions : ℕ
+  pub books : Option (List ℕ)
+  pub wait : ℕ
+  pub only_old : Bool
+
+abbrev pub service_words : Service → ServiceWords
+service_words service = record {
+  sessions = service.sessions;
+  books = option_map (λ s. s.now) service.books;
+  wait = service.wait;
+  only_old = service.only_old;
+}
+
+-- any of the commands: one of these, or both offices run by a script
 pub data Wanted : Type 0 where
   at_once : Asked → Wanted
-  serve : ℕ → Option (List ℕ) → Wanted
+  serve : ServiceWords → Wanted
 
 abbrev pub task_meaning : Task → Wanted
 task_meaning (task.AtOnce request) = at_once (meaning request)
-task_meaning (task.Serve service) = serve service.sessions (option_map (λ s. s.now) service.books)
+task_meaning (task.Serve service) = serve (service_words service)

@@ -1,5 +1,5 @@
 -- What the words of a command line mean.
-use Rattle.std.specs.Prelude.{◌≡◌, ◌≢◌, ◌⊎◌, ℕ, Bool, List, [], ◌∷◌, Option, None, Some, true, false, if◌then◌else◌, unwrap_or, codes}
+use Rattle.std.specs.Prelude.{◌≡◌, ◌≢◌, ◌⊎◌, ℕ, Bool, List, [], ◌∷◌, Option, None, Some, true, false, if◌then◌else◌, option_map, unwrap_or, codes}
 use Rattle.std.specs.Str.{bytes_eq}
 use Rattle.clap.specs.Words.{App, IsAmong, Kinds, Row, Rule, fault_of, first_of, new_app, new_rule, subcommand_of, with_rule, with_subcommand}
 use Rattle.clap.specs.declared.builder.action.ArgAction.TheVariants.{SetTrue}
@@ -9,10 +9,12 @@ use Rattle.gi_pairs.specs.Direction.{direction_named}
 use Rattle.gi_pairs.specs.Side.{side_named}
 use Rattle.gi_pairs.specs.declared.direction.Direction.{Direction}
 use Rattle.gi_pairs.specs.declared.side.Side.{Side}
-use Rattle.gi_command_line.specs.Asked.{Asked, QuantityWords, Wanted, at_once, audit, explain, hours, match_tables, mistaken, report, serve, simulate}
+use Rattle.gi_command_line.specs.Asked.{Asked, QuantityWords, Wanted, about_book, at_once, audit, explain, hours, match_tables, mistaken, report, serve, simulate}
+use Rattle.gi_command_line.specs.Expected.{expected_named}
 use Rattle.gi_command_line.specs.Numbers.{cycle_named, hour_named}
 use Rattle.gi_command_line.specs.ReportWords.{format_named, kind_named}
 use Rattle.gi_command_line.specs.Sessions.{default_sessions, sessions_named}
+use Rattle.gi_command_line.specs.Wait.{no_wait, wait_named}
 use Rattle.gi_command_line.specs.declared.request.Format.{Format}
 use Rattle.gi_command_line.specs.declared.request.Format.TheVariants.{Text}
 use Rattle.gi_command_line.specs.declared.request.ReportKind.{ReportKind}
@@ -60,8 +62,14 @@ the_explain = with_book (with_hour (with_pair (with_rule (new_app (codes "explai
 abbrev pub the_audit : App
 the_audit = with_rule (with_rule (with_rule (new_app (codes "audit")) (needed (codes "initiating"))) (needed (codes "matching"))) (needed (codes "point"))
 
+abbrev pub the_book : App
+the_book = with_rule (with_rule (new_app (codes "book")) (word (codes "FILE"))) (option (codes "expect"))
+
+-- the sessions and the books; how long is waited for these, and whether only old ones are taken
 abbrev pub the_serve : App
-the_serve = with_rule (with_rule (new_app (codes "serve")) (option (codes "sessions"))) (option (codes "books"))
+the_serve =
+    let in_books = with_rule (with_rule (new_app (codes "serve")) (option (codes "sessions"))) (option (codes "books")) in
+    with_rule (with_rule in_books (option (codes "wait"))) (flag (codes "old"))
 
 -- the program's own name and version, and its commands
 abbrev pub named : App
@@ -70,7 +78,8 @@ named = let new = new_app (codes "gi_dispatch") in record new { top = record new
 abbrev pub the_program : App
 the_program =
     let with_simulate = with_subcommand (with_subcommand (with_subcommand named the_match.top) the_hours.top) the_simulate.top in
-    with_subcommand (with_subcommand (with_subcommand (with_subcommand with_simulate the_report.top) the_explain.top) the_audit.top) the_serve.top
+    let with_audit = with_subcommand (with_subcommand (with_subcommand with_simulate the_report.top) the_explain.top) the_audit.top in
+    with_subcommand (with_subcommand with_audit the_book.top) the_serve.top
 
 -- why the words ask for no command, as `clap` tells it: none of these where they ask for one
 abbrev pub objections : List (List ℕ) → Kinds
@@ -154,17 +163,36 @@ explain_asked rows = explain_of (side_named (value_of (codes "SIDE") rows)) (qua
 abbrev pub audit_asked : List Row → Asked
 audit_asked rows = audit (value_of (codes "initiating") rows) (value_of (codes "matching") rows) (value_of (codes "point") rows)
 
+-- no facts are expected where none are named
+abbrev pub expected_asked : Option (List ℕ) → Option (Option (ℕ × List ℕ))
+expected_asked None = Some None
+expected_asked (Some word) = option_map Some (expected_named word)
+
+abbrev pub about_book_of : List ℕ → Option (Option (ℕ × List ℕ)) → Asked
+about_book_of file None = mistaken
+about_book_of file (Some expected) = about_book file expected
+
+abbrev pub about_book_asked : List Row → Asked
+about_book_asked rows = about_book_of (value_of (codes "FILE") rows) (expected_asked (first_of (codes "expect") rows))
+
 -- two sessions where no number is named
 abbrev pub sessions_asked : Option (List ℕ) → Option ℕ
 sessions_asked None = Some default_sessions
 sessions_asked (Some word) = sessions_named word
 
-abbrev pub service_of : Option ℕ → Option (List ℕ) → Wanted
-service_of None books = at_once mistaken
-service_of (Some sessions) books = serve sessions books
+-- no wait where none is named
+abbrev pub wait_asked : Option (List ℕ) → Option ℕ
+wait_asked None = Some no_wait
+wait_asked (Some word) = wait_named word
+
+abbrev pub service_of : Option ℕ → Option ℕ → Option (List ℕ) → Bool → Wanted
+service_of None wait books only_old = at_once mistaken
+service_of (Some sessions) None books only_old = at_once mistaken
+service_of (Some sessions) (Some wait) books only_old = serve (record { sessions = sessions; books = books; wait = wait; only_old = only_old })
 
 abbrev pub serve_asked : List Row → Wanted
-serve_asked rows = service_of (sessions_asked (first_of (codes "sessions") rows)) (first_of (codes "books") rows)
+serve_asked rows =
+    service_of (sessions_asked (first_of (codes "sessions") rows)) (wait_asked (first_of (codes "wait") rows)) (first_of (codes "books") rows) (is_set (first_of (codes "old") rows))
 
 -- a command is asked for by its name, and `match` also by no name
 abbrev pub asked_at_once : List ℕ → List Row → Asked
@@ -173,7 +201,8 @@ asked_at_once name rows =
     else (if bytes_eq name (codes "simulate") then simulate (is_set (first_of (codes "trace") rows))
     else (if bytes_eq name (codes "report") then report_asked rows
     else (if bytes_eq name (codes "explain") then explain_asked rows
-    else (if bytes_eq name (codes "audit") then audit_asked rows else match_tables))))
+    else (if bytes_eq name (codes "audit") then audit_asked rows
+    else (if bytes_eq name (codes "book") then about_book_asked rows else match_tables)))))
 
 abbrev pub asked_by : List ℕ → List Row → Wanted
 asked_by name rows = if bytes_eq name (codes "serve") then serve_asked rows else at_once (asked_at_once name rows)

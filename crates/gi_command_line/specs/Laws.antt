@@ -1,15 +1,17 @@
 -- What holds of all words.
-use Rattle.std.specs.Prelude.{◌≡◌, ℕ, List, [], ◌∷◌, ◌++◌, None, Some, true, false, codes}
+use Rattle.std.specs.Prelude.{◌≡◌, ◌≤◌, ℕ, Bool, List, [], ◌∷◌, ◌++◌, Option, None, Some, true, false, codes, decimal}
 use Rattle.clap.specs.declared.error.kind.ErrorKind.TheVariants.{MissingRequiredArgument}
 use Rattle.gi_pairs.specs.Direction.{direction_text}
 use Rattle.gi_pairs.specs.Side.{side_text}
 use Rattle.gi_pairs.specs.declared.direction.Direction.{Direction}
 use Rattle.gi_pairs.specs.declared.side.Side.{Side}
-use Rattle.gi_command_line.specs.Asked.{QuantityWords, Wanted, at_once, audit, explain, hours, match_tables, mistaken, report, serve, simulate}
+use Rattle.gi_command_line.specs.Asked.{QuantityWords, ServiceWords, Wanted, about_book, at_once, audit, explain, hours, match_tables, mistaken, report, serve, simulate}
 use Rattle.gi_command_line.specs.CommandLine.{MeansHours, MeansMatch, asked, objections}
+use Rattle.gi_command_line.specs.Expected.{expected_named, is_digest, most_facts}
 use Rattle.gi_command_line.specs.Numbers.{cycle_named, hour_named}
 use Rattle.gi_command_line.specs.ReportWords.{format_text, kind_text}
 use Rattle.gi_command_line.specs.Sessions.{default_sessions}
+use Rattle.gi_command_line.specs.Wait.{IsWait, no_wait, wait_named}
 use Rattle.gi_command_line.specs.declared.request.Format.{Format}
 use Rattle.gi_command_line.specs.declared.request.Format.TheVariants.{Text}
 use Rattle.gi_command_line.specs.declared.request.ReportKind.{ReportKind}
@@ -25,11 +27,6 @@ HoursIsTaken = (words : List (List ℕ)) (day : List ℕ) → MeansHours words d
 
 abbrev pub HoursNeedADay : Type 0
 HoursNeedADay = (program : List ℕ) → objections (program ∷ codes "hours" ∷ []) ≡ MissingRequiredArgument ∷ []
-
--- to the program's name with the word `serve` nothing is objected, and it asks for two sessions, and for books in memory
-abbrev pub ServeIsTaken : Type 0
-ServeIsTaken =
-    (program : List ℕ) → (objections (program ∷ codes "serve" ∷ []) ≡ []) × (asked (program ∷ codes "serve" ∷ []) ≡ serve default_sessions None)
 
 -- to the program's name with the word `simulate` nothing is objected, and it asks for no trace; with `--trace` behind it, for one
 abbrev pub SimulateIsTaken : Type 0
@@ -172,3 +169,83 @@ abbrev pub AuditNeedsBothBooks : Type 0
 AuditNeedsBothBooks =
     (program initiating point : List ℕ)
     → objections (program ∷ codes "audit" ∷ with_value (codes "initiating") initiating ∷ with_value (codes "point") point ∷ []) ≡ MissingRequiredArgument ∷ []
+
+-- ---- `book`
+
+-- behind `--` no word is an option
+abbrev pub about_book_words : List ℕ → List (List ℕ) → List ℕ → List (List ℕ)
+about_book_words program options file = program ∷ codes "book" ∷ (options ++ codes "--" ∷ file ∷ [])
+
+-- a file asks for what the book in it is; with a number of facts and a digest, these are expected
+abbrev pub AboutBookIsTaken : Type 0
+AboutBookIsTaken = (program file : List ℕ) → AreTaken (about_book_words program [] file) (at_once (about_book file None))
+
+abbrev pub ExpectedIsTaken : Type 0
+ExpectedIsTaken =
+    (program file expected : List ℕ) (facts : ℕ) (digest : List ℕ) → expected_named expected ≡ Some (facts, digest)
+    → AreTaken (about_book_words program (with_value (codes "expect") expected ∷ []) file) (at_once (about_book file (Some (facts, digest))))
+
+-- without `--` too, as `book day-I.db`
+abbrev pub PlainAboutBookIsTaken : Type 0
+PlainAboutBookIsTaken = (program file : List ℕ) → AreTaken (program ∷ codes "book" ∷ (codes "day" ++ file) ∷ []) (at_once (about_book (codes "day" ++ file) None))
+
+-- what names no facts is asked for in wrong words; without a file, it is the file that is missing
+abbrev pub ExpectedIsWrong : Type 0
+ExpectedIsWrong =
+    (program file expected : List ℕ) → expected_named expected ≡ None
+    → AreTaken (about_book_words program (with_value (codes "expect") expected ∷ []) file) (at_once mistaken)
+
+abbrev pub AboutBookNeedsAFile : Type 0
+AboutBookNeedsAFile = (program : List ℕ) → objections (program ∷ codes "book" ∷ []) ≡ MissingRequiredArgument ∷ []
+
+-- a number's decimal text, a colon and a digest name just these, and no other text does
+abbrev pub expected_text : ℕ → List ℕ → List ℕ
+expected_text facts digest = decimal facts ++ (58 ∷ digest)
+
+abbrev pub ExpectedIsNamed : Type 0
+ExpectedIsNamed =
+    (facts : ℕ) (digest : List ℕ) → facts ≤ most_facts → is_digest digest ≡ true → expected_named (expected_text facts digest) ≡ Some (facts, digest)
+
+abbrev pub ExpectedIsItsText : Type 0
+ExpectedIsItsText =
+    (word digest : List ℕ) (facts : ℕ) → expected_named word ≡ Some (facts, digest)
+    → (word ≡ expected_text facts digest) × (facts ≤ most_facts) × (is_digest digest ≡ true)
+
+-- ---- `serve`
+
+abbrev pub serve_words : List ℕ → List (List ℕ) → List (List ℕ)
+serve_words program options = program ∷ codes "serve" ∷ options
+
+-- how both offices run where no sessions are named
+abbrev pub serves : Option (List ℕ) → ℕ → Bool → Wanted
+serves books wait only_old = serve (record { sessions = default_sessions; books = books; wait = wait; only_old = only_old })
+
+-- `serve` alone asks for two sessions, for books in memory, for no wait, and for no old books
+abbrev pub ServeIsTaken : Type 0
+ServeIsTaken = (program : List ℕ) → AreTaken (serve_words program []) (serves None no_wait false)
+
+-- with `--wait`, for these seconds, over books in files or in memory; seconds that are none are wrong words
+abbrev pub WaitIsTaken : Type 0
+WaitIsTaken =
+    (program prefix wait : List ℕ) (seconds : ℕ) → wait_named wait ≡ Some seconds
+    → AreTaken (serve_words program (with_value (codes "books") prefix ∷ with_value (codes "wait") wait ∷ [])) (serves (Some prefix) seconds false)
+
+abbrev pub WaitIsWrong : Type 0
+WaitIsWrong =
+    (program prefix wait : List ℕ) → wait_named wait ≡ None
+    → AreTaken (serve_words program (with_value (codes "books") prefix ∷ with_value (codes "wait") wait ∷ [])) (at_once mistaken)
+
+-- seconds are named by their decimal text, and by no other
+abbrev pub WaitIsNamed : Type 0
+WaitIsNamed = (seconds : ℕ) → IsWait seconds → wait_named (decimal seconds) ≡ Some seconds
+
+abbrev pub WaitIsItsText : Type 0
+WaitIsItsText = (word : List ℕ) (seconds : ℕ) → wait_named word ≡ Some seconds → (word ≡ decimal seconds) × IsWait seconds
+
+-- with `--old`, for old books alone
+abbrev pub OldIsTaken : Type 0
+OldIsTaken =
+    (program prefix : List ℕ) → AreTaken (serve_words program (with_value (codes "books") prefix ∷ codes "--old" ∷ [])) (serves (Some prefix) no_wait true)
+
+abbrev pub OldInMemoryIsTaken : Type 0
+OldInMemoryIsTaken = (program : List ℕ) → AreTaken (serve_words program (codes "--old" ∷ [])) (serves None no_wait true)

@@ -1,5 +1,8 @@
--- The numbers of cycles and hours, as words.
-use Rattle.std.specs.Prelude.{ℕ, ◌+◌, ◌*◌, ◌-◌, List, [], ◌∷◌, Bool, ◌&&◌, nat_le, if◌then◌else◌, Option, None, Some}
+-- Numbers, as words.
+use Rattle.std.specs.Prelude.{ℕ, ◌+◌, ◌*◌, ◌-◌, List, [], ◌∷◌, Bool, true, false, not, ◌&&◌, ◌==◌, nat_le, if◌then◌else◌, Option, None, Some}
+use Rattle.std.specs.Char.{is_ascii_digit}
+use Rattle.std.specs.List.{list_all}
+use Rattle.std.specs.Str.Parse.{digits_value}
 
 -- a byte between two
 abbrev pub is_between : ℕ → ℕ → ℕ → Bool
@@ -23,3 +26,19 @@ cycle_named word = within 0 36 (number_named word)
 
 unfoldable pub hour_named : List ℕ → Option ℕ
 hour_named word = within 1 25 (number_named word)
+
+-- ---- numbers of any length
+
+-- there is a digit, and a zero in front stands alone
+abbrev pub begins_right : List ℕ → Bool
+begins_right [] = false
+begins_right (only ∷ []) = true
+begins_right (first ∷ second ∷ rest) = not (first == 48)
+
+-- decimal digits, with no sign and no zero in front
+abbrev pub is_number : List ℕ → Bool
+is_number word = begins_right word && list_all is_ascii_digit word
+
+-- the number that they write, where it is at most so great
+abbrev pub number_up_to : ℕ → List ℕ → Option ℕ
+number_up_to most word = if is_number word && nat_le (digits_value 10 word) most then Some (digits_value 10 word) else None

@@ -1,7 +1,7 @@
 //! The commands that the program knows, their words and options, and what their help teaches.
 ghost use Rattle.std.specs.Prelude.{◌≡◌, IfOk, false, true};
 ghost use Rattle.clap.specs.Words.{App, app_of, new_app, rule_of, with_rule, with_subcommand};
-ghost use Rattle.gi_command_line.specs.CommandLine.{flag as flag_rule, named, needed as needed_rule, option as option_rule, the_audit, the_explain, the_hours, the_match, the_program, the_report, the_serve, the_simulate, with_book as with_book_rules, with_hour as with_hour_rules, with_pair as with_pair_rules, word as word_rule};
+ghost use Rattle.gi_command_line.specs.CommandLine.{flag as flag_rule, named, needed as needed_rule, option as option_rule, the_audit, the_book, the_explain, the_hours, the_match, the_program, the_report, the_serve, the_simulate, with_book as with_book_rules, with_hour as with_hour_rules, with_pair as with_pair_rules, word as word_rule};
 
 use clap::{Arg, ArgAction, Command};
 use std::alloc::{AllocError, Global};
@@ -9,11 +9,11 @@ use std::alloc::{AllocError, Global};
 const PROGRAM_HELP: &str = "\
 With no command `match` is meant. A fault is one line on standard error, `gi_dispatch: ` and its
 name (a wrong command line is told in more words), and nothing on standard output, unless memory or
-a writer fails, an office that runs gives up, or books differ.
+a writer fails, an office that runs gives up, books differ, or a book is not as expected.
 
-Exit status: 0 done, 1 refused input, a reader or writer that failed, or offices or books that do
-not agree, 2 wrong command line, 3 a book that failed, is none, is missing or is in use, 4 want of
-memory.
+Exit status: 0 done, 1 refused input, a reader or writer that failed, offices or books that do not
+agree, or a book that is not as expected, 2 wrong command line, 3 a book that failed, is none, is
+missing or is in use, 4 want of memory.
 
 Examples: gi_dispatch match < examples/match.txt
           gi_dispatch hours 2026-01-15
@@ -21,6 +21,7 @@ Examples: gi_dispatch match < examples/match.txt
           gi_dispatch report confirmed I < examples/day.script
           gi_dispatch explain I A B IM 2026-01-15 35 24 < examples/day.script
           gi_dispatch audit --initiating day-I.db --matching day-M.db --point BORDER-1
+          gi_dispatch book day-I.db
           gi_dispatch serve < scenarios/serve/plain_exchange.script";
 
 const HOURS_HELP: &str = "\
@@ -75,10 +76,10 @@ hour by hour) or `refused` (how many submissions of each portfolio were refused)
 input is a script as for `simulate`, whose steps are made and not told. With --book and --point the
 side's desk is read from its book instead, standard input is not read, and `refused` has no lines.
 
-Faults: those of `simulate`. With a book, the first of: CodeText (CODE is no code), Version (no book,
-as an empty file), Gap N, Damaged N or Store (the file is not there, is no database, or cannot be
-read), BadFact N (no desk records fact N after those before it), Write. The book is read from a copy in memory: no file is made
-or changed, and another command may have it open.";
+Faults: those of `simulate`. With a book, the first of: CodeText (CODE is no code), Version (no
+book, as an empty file), Gap N, Damaged N or Store (the file is not there, is no database, or cannot
+be read), BadFact N (no desk records fact N after those before it), Write. The book is read from a
+copy in memory: no file is made or changed, and another command may have it open.";
 
 const EXPLAIN_HELP: &str = "\
 What one quantity comes from at SIDE, `I` or `M`: that of the initiating operator's portfolio
@@ -98,12 +99,39 @@ Compares the books of both operators, as an outsider would: it trusts neither, a
 side's desk from its facts. The books have to be of one moment, when no office runs. Standard output
 gets a line for each cycle that either has closed: agreed, with the sum of its confirmed quantities
 by direction in kWh; open at I or at both; or what differs, with the numbers of the facts, the first
-row and hour, and both quantities. The last line is `agreed` (exit status 0), or `differs at DAY
-CYCLE` for the first cycle that differs (exit status 1). Standard input is not read.
+row and hour, and both quantities. The last line is `agreed` (a cycle is, and none differs) or `open`
+(cycles are closed, none is agreed, and none differs), with exit status 0; or `empty` (neither has
+closed a cycle) or `differs at DAY CYCLE` for the first cycle that differs, with exit status 1.
+Standard input is not read.
 
 Faults, the first of: CodeText (CODE is no code); Version, Gap N, Damaged N or Store, as for
 `report`, of the initiating operator's book, then of the matching one's; BadFact N of the one, then
-of the other; Write; Differs, once the lines are written.";
+of the other; Write; Differs or Empty, once the lines are written.";
+
+const BOOK_HELP: &str = "\
+What the book in FILE is. Standard output gets seven lines, such as these, always in this order:
+
+  owner I BORDER-1      whose it is: side and point; `?` of a book that an older program made
+  facts 152             how many facts are saved
+  digest 3f..           SHA-256 over them, one after the other: 64 digits, 0-9 and a-f
+  closed 12             how many cycles are closed
+  confirmed 11          how many of them are confirmed
+  room 999848 62        how many more facts, and how many more portfolios, the book takes
+  log 4120              bytes of the log beside it, FILE-wal; 0 where there is none
+
+A book only grows, so its first N facts keep their digest, whatever comes behind them. With
+--expect the first N (0 to 1000000, with no zero in front) have to be there and to have this DIGEST:
+note what `facts` and `digest` tell, and ask for it later, or of a copy. Standard input is not read.
+The book is read from a copy in memory: no file is made or changed, and another command may have it
+open.
+
+Faults, the first of: Version, Gap N, Damaged N, Store or BadFact N, as for `report`; Write;
+Unexpected (there are fewer than N facts, or they have another digest), after the lines.
+
+Exit status: 0 done, 1 Unexpected or Write, 2 wrong command line, 3 any other fault of the book, 4
+want of memory.
+
+Example: gi_dispatch book day-I.db";
 
 const SERVE_HELP: &str = "\
 Standard input is a script as for `simulate`, without `save`, `deliver` and `restart` lines: two
@@ -111,17 +139,19 @@ running offices save by themselves, and only what the carriers give is delivered
 of `submit` lines is a batch, which N sessions of each office (1 to 8, 2 where no number is given)
 make at the same time, each portfolio by one of them. The offices go on with the books in the files
 PREFIX-I.db and PREFIX-M.db, which are both made where neither is there; with no PREFIX, the books
-are in memory.
+are in memory. With --old neither is made, and both have to be there. With --wait a book that
+another process has open is tried again for SECONDS (0 to 3600; 0 where no number is given) before
+it is Busy. Without --books both have no effect.
 
 Standard output gets a line for each step, with no numbers of facts: the number of the script's
 line, the side, and what came of it. Then come two lines with what each side holds, and three that
 tell whether each office's records agree with its desk, and the two offices with each other.
 
-Faults, the first of: Read, TooLarge, Point, `line N: Unreadable`, as for `simulate`; MissingBook I or
-M (it is not there, and the other side's has facts: nothing is made); for the book of I and then for
-that of M, Busy (another process has it open), Version, Gap N, Damaged N, Store or BadFact N, as for
-`report`; Write; and what a running office could not do, told after the lines of what was done
-before.";
+Faults, the first of: Read, TooLarge, Point, `line N: Unreadable`, as for `simulate`; MissingBook I
+or M (it is not there, and the other side's has facts, or --old is given: nothing is made); for the
+book of I and then for that of M, Busy (another process has it open), Version, Gap N, Damaged N,
+Store or BadFact N, as for `report`; Write; and what a running office could not do, told after the
+lines of what was done before.";
 
 fn word<'a>(alloc: Global, name: &'a str, help: &'a str) -> Arg<'a>
     ensures rule { rule_of result ≡ word_rule name.entry.now }
@@ -339,6 +369,15 @@ fn audit_command<'a>(alloc: Global) -> Result<Command<'a>, AllocError>
     )
 }
 
+fn book_command<'a>(alloc: Global) -> Result<Command<'a>, AllocError>
+    ensures { IfOk result (λ it. app_of it ≡ the_book) }
+{
+    let command = with_help(alloc, "book", "Tells what a book in a file is", BOOK_HELP);
+    let command = with_arg(command, word(alloc, "FILE", "The book"));
+    let expect = "The number of its first facts, and their digest";
+    with_arg(command, option(alloc, "expect", "N:DIGEST", expect))
+}
+
 fn serve_command<'a>(alloc: Global) -> Result<Command<'a>, AllocError>
     ensures { IfOk result (λ it. app_of it ≡ the_serve) }
 {
@@ -353,7 +392,11 @@ fn serve_command<'a>(alloc: Global) -> Result<Command<'a>, AllocError>
         option(alloc, "sessions", "N", "The sessions of each office"),
     );
     let books = "The sides' books, PREFIX-I.db and PREFIX-M.db";
-    with_arg(command, option(alloc, "books", "PREFIX", books))
+    let command = with_arg(command, option(alloc, "books", "PREFIX", books));
+    let wait = "How long a book in use is tried again, 0 to 3600";
+    let command = with_arg(command, option(alloc, "wait", "SECONDS", wait));
+    let old = "Takes books that are there, and makes none";
+    with_arg(command, flag(alloc, "old", old))
 }
 
 /// The program with this command too.
@@ -409,6 +452,12 @@ fn with_audit<'a>(alloc: Global, program: Command<'a>) -> Result<Command<'a>, Al
     with(program, audit_command(alloc))
 }
 
+fn with_book_command<'a>(alloc: Global, program: Command<'a>) -> Result<Command<'a>, AllocError>
+    ensures { IfOk result (λ with. app_of with ≡ with_subcommand (app_of program.entry) the_book.top) }
+{
+    with(program, book_command(alloc))
+}
+
 fn with_serve<'a>(alloc: Global, program: Command<'a>) -> Result<Command<'a>, AllocError>
     ensures { IfOk result (λ with. app_of with ≡ with_subcommand (app_of program.entry) the_serve.top) }
 {
@@ -433,6 +482,14 @@ fn with_scripts<'a>(alloc: Global, program: Command<'a>) -> Result<Command<'a>, 
     with_explain(alloc, program)
 }
 
+/// Adds the commands about books.
+fn with_books<'a>(alloc: Global, program: Command<'a>) -> Result<Command<'a>, AllocError>
+    ensures { IfOk result (λ with. app_of with ≡ with_subcommand (with_subcommand (app_of program.entry) the_audit.top) the_book.top) }
+{
+    let program = with_audit(alloc, program)?;
+    with_book_command(alloc, program)
+}
+
 pub fn commands<'a>(alloc: Global) -> Result<Command<'a>, AllocError>
     ensures { IfOk result (λ program. app_of program ≡ the_program) }
 {
@@ -440,6 +497,6 @@ pub fn commands<'a>(alloc: Global) -> Result<Command<'a>, AllocError>
     let program = with_match(alloc, program)?;
     let program = with_hours(alloc, program)?;
     let program = with_scripts(alloc, program)?;
-    let program = with_audit(alloc, program)?;
+    let program = with_books(alloc, program)?;
     with_serve(alloc, program)
 }

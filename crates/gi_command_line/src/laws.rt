@@ -1,5 +1,5 @@
 //! What holds of all words. These functions do nothing; their clauses are the laws.
-ghost use Rattle.gi_command_line.specs.Laws.{AuditInWordsIsTaken, AuditIsTaken, AuditNeedsBothBooks, BookInWordsIsTaken, BookIsTaken, BookNeedsItsPoint, ExplainIsTaken, ExplainNeedsACycle, ExplainNeedsAnHour, ExplainedBookIsTaken, FormatIsTaken, HourIsMissing, HoursIsTaken, HoursNeedADay, MatchIsTaken, PlainExplainIsTaken, ReportIsTaken, ReportNeedsASide, ServeIsTaken, SimulateIsTaken, TraceIsTaken};
+ghost use Rattle.gi_command_line.specs.Laws.{AboutBookIsTaken, AboutBookNeedsAFile, AuditInWordsIsTaken, AuditIsTaken, AuditNeedsBothBooks, BookInWordsIsTaken, BookIsTaken, BookNeedsItsPoint, ExpectedIsItsText, ExpectedIsNamed, ExpectedIsTaken, ExpectedIsWrong, ExplainIsTaken, ExplainNeedsACycle, ExplainNeedsAnHour, ExplainedBookIsTaken, FormatIsTaken, HourIsMissing, HoursIsTaken, HoursNeedADay, MatchIsTaken, OldInMemoryIsTaken, OldIsTaken, PlainAboutBookIsTaken, PlainExplainIsTaken, ReportIsTaken, ReportNeedsASide, ServeIsTaken, SimulateIsTaken, TraceIsTaken, WaitIsItsText, WaitIsNamed, WaitIsTaken, WaitIsWrong};
 
 /// The program's name, alone or with the word `match`, is a right command line, and asks for `match`.
 pub fn match_is_taken()
@@ -13,10 +13,18 @@ pub fn hours_is_taken()
     ensures needs_a_day { HoursNeedADay }
 {}
 
-/// So is the program's name with the word `serve`, and it asks for two sessions and for books in
-/// memory.
+/// So is the program's name with the word `serve`, and it asks for two sessions, for books in memory,
+/// which no one waits for, and for no old ones; with `--wait`, for a wait of these seconds, and with
+/// `--old`, for old books alone. Each number of seconds has one text, and what is none is a wrong command
+/// line.
 pub fn serve_is_taken()
-    ensures { ServeIsTaken }
+    ensures plain { ServeIsTaken }
+    ensures waits { WaitIsTaken }
+    ensures needs_seconds { WaitIsWrong }
+    ensures named { WaitIsNamed }
+    ensures text { WaitIsItsText }
+    ensures old { OldIsTaken }
+    ensures old_in_memory { OldInMemoryIsTaken }
 {}
 
 /// So is the program's name with the word `simulate`, which asks for no trace, and with `--trace`
@@ -56,4 +64,18 @@ pub fn audit_is_taken()
     ensures taken { AuditIsTaken }
     ensures in_words { AuditInWordsIsTaken }
     ensures needs_both { AuditNeedsBothBooks }
+{}
+
+/// So is the program's name with the word `book` and a file, behind `--` whatever its name begins with,
+/// which asks for what the book in it is; with `--expect`, for its first facts too: a number, a colon
+/// and a digest name just these, in one text. What names none is a wrong command line; without a file,
+/// that is missing.
+pub fn book_is_taken()
+    ensures taken { AboutBookIsTaken }
+    ensures expected { ExpectedIsTaken }
+    ensures plain { PlainAboutBookIsTaken }
+    ensures needs_facts { ExpectedIsWrong }
+    ensures needs_a_file { AboutBookNeedsAFile }
+    ensures named { ExpectedIsNamed }
+    ensures text { ExpectedIsItsText }
 {}

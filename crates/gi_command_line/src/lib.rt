@@ -2,16 +2,20 @@
 #![tactic(auto)]
 
 mod commands;
+mod expected;
 mod laws;
 mod numbers;
 mod request;
 mod sessions;
+mod wait;
 mod words;
 
+pub use expected::ExpectedFacts;
 pub use laws::{hours_is_taken, match_is_taken, serve_is_taken, simulate_is_taken};
 pub use request::{
-    BookFile, BookFiles, Explanation, Format, Mistake, NamedQuantity, Report, ReportKind, Request,
-    Service, Task, format_named, kind_named,
+    BookFile, BookFiles, BookQuestion, Explanation, Format, Mistake, NamedQuantity, Report,
+    ReportKind, Request, Service, Task, format_named, kind_named,
 };
 pub use sessions::Sessions;
+pub use wait::WaitSeconds;
 pub use words::requested;

@@ -3,7 +3,9 @@
 ghost use Rattle.std.specs.Prelude.{◌≡◌, Some};
 ghost use Rattle.gi_command_line.specs.ReportWords.{format_named as format_named_by, kind_named as kind_named_by, mistake_text};
 
+use crate::expected::ExpectedFacts;
 use crate::sessions::Sessions;
+use crate::wait::WaitSeconds;
 use gi_pairs::{Direction, Side};
 use std::fmt;
 
@@ -74,6 +76,14 @@ pub struct BookFiles<'a> {
     pub point: &'a str,
 }
 
+/// What a book in a file is, and whether its first facts are the expected ones.
+#[derive(Clone, Copy, Debug, PartialEq, Eq)]
+pub struct BookQuestion<'a> {
+    pub file: &'a str,
+    /// None where nothing is expected.
+    pub expected: Option<ExpectedFacts<'a>>,
+}
+
 /// Both offices, run by a script.
 #[derive(Clone, Copy, Debug, PartialEq, Eq)]
 pub struct Service<'a> {
@@ -81,6 +91,10 @@ pub struct Service<'a> {
     pub sessions: Sessions,
     /// What the names of the books' files begin with; none where the books are in memory.
     pub books: Option<&'a str>,
+    /// How long a book in a file that is in use is tried again.
+    pub wait: WaitSeconds,
+    /// Whether both books have to be there already: neither file is made.
+    pub only_old: bool,
 }
 
 /// What is wrong with the words of a command, where `clap` objects to nothing.
@@ -102,6 +116,10 @@ pub enum Mistake<'a> {
     Cycle(&'a str),
     /// The word is no number of an hour.
     Hour(&'a str),
+    /// The word is no number of facts and their digest.
+    Expected(&'a str),
+    /// The word is no number of seconds to wait.
+    Wait(&'a str),
 }
 
 /// What a command line asks for, but `serve`.
@@ -119,6 +137,8 @@ pub enum Request<'a> {
     Explain(Explanation<'a>),
     /// Whether both operators' books agree.
     Audit(BookFiles<'a>),
+    /// What a book is.
+    Book(BookQuestion<'a>),
     /// A command, in wrong words.
     Mistaken(Mistake<'a>),
 }
@@ -167,6 +187,14 @@ impl fmt::Display for Mistake<'_> {
             Mistake::Hour(word) => write!(
                 f,
                 "error: invalid value '{word}' for '<HOUR>'\n  [possible values: 1 to 25]\n"
+            ),
+            Mistake::Expected(word) => write!(
+                f,
+                "error: invalid value '{word}' for '--expect <N:DIGEST>'\n  [possible values: 0 to 1000000, a colon and 64 digits of 0-9 and a-f]\n"
+            ),
+            Mistake::Wait(word) => write!(
+                f,
+                "error: invalid value '{word}' for '--wait <SECONDS>'\n  [possible values: 0 to 3600]\n"
             ),
         }
     }

@@ -2,16 +2,18 @@
 ghost use Rattle.std.specs.Prelude.{◌≡◌, IfOk, codes, false, map, option_map};
 ghost use Rattle.std.specs.Result.{result_ok};
 ghost use Rattle.clap.specs.Words.{FailsBy, first_of, found_of, rows_of, subcommand_rows_of};
-ghost use Rattle.gi_command_line.specs.Asked.{book_of as book_words, meaning, quantity_words, task_meaning};
-ghost use Rattle.gi_command_line.specs.CommandLine.{asked, asked_at_once, asked_of, audit_asked, book_asked, explain_asked, format_asked, hours_asked, is_set, objections, quantity_asked, report_asked, serve_asked, sessions_asked, value_of as value_at};
+ghost use Rattle.gi_command_line.specs.Asked.{book_of as book_words, expected_words, meaning, quantity_words, task_meaning};
+ghost use Rattle.gi_command_line.specs.CommandLine.{about_book_asked, asked, asked_at_once, asked_of, audit_asked, book_asked, expected_asked, explain_asked, format_asked, hours_asked, is_set as is_set_by, objections, quantity_asked, report_asked, serve_asked, sessions_asked, value_of as value_at, wait_asked};
 
 use crate::commands::commands;
+use crate::expected::ExpectedFacts;
 use crate::numbers::{cycle_named, hour_named};
 use crate::request::{
-    BookFile, BookFiles, Explanation, Format, Mistake, NamedQuantity, Report, Request, Service,
-    Task, format_named, kind_named,
+    BookFile, BookFiles, BookQuestion, Explanation, Format, Mistake, NamedQuantity, Report,
+    Request, Service, Task, format_named, kind_named,
 };
 use crate::sessions::Sessions;
+use crate::wait::WaitSeconds;
 use clap::{ArgMatches, Error};
 use gi_pairs::{Direction, Side};
 use std::alloc::Global;
@@ -43,10 +45,11 @@ fn book_of<'a>(matches: &ArgMatches<'a>) -> Option<Option<BookFile<'a>>>
     }
 }
 
-fn is_traced(matches: &ArgMatches<'_>) -> bool
-    ensures { result ≡ is_set (first_of (codes "trace") (rows_of (found_of matches.now))) }
+/// Whether an option without a value is among the words.
+fn is_set(matches: &ArgMatches<'_>, name: &str) -> bool
+    ensures { result ≡ is_set_by (first_of name.now (rows_of (found_of matches.now))) }
 {
-    value_of(matches, "trace") == Some("true")
+    value_of(matches, name) == Some("true")
 }
 
 fn word_of<'a>(matches: &ArgMatches<'a>, name: &str) -> &'a str
@@ -150,6 +153,32 @@ fn audit_of<'a>(matches: &ArgMatches<'a>) -> Request<'a>
     })
 }
 
+/// The facts that are expected, if any; `None` where the word names none.
+fn expected_of<'a>(word: Option<&'a str>) -> Option<Option<ExpectedFacts<'a>>>
+    ensures { option_map (λ it. option_map expected_words it) result ≡ expected_asked (option_map (λ s. s.now) word.entry) }
+{
+    match word {
+        Some(word) => match ExpectedFacts::named(word) {
+            Some(expected) => Some(Some(expected)),
+            None => None,
+        },
+        None => Some(None),
+    }
+}
+
+fn about_book_of<'a>(matches: &ArgMatches<'a>) -> Request<'a>
+    ensures { meaning result ≡ about_book_asked (rows_of (found_of matches.now)) }
+{
+    let word = value_of(matches, "expect");
+    match expected_of(word) {
+        Some(expected) => Request::Book(BookQuestion {
+            file: word_of(matches, "FILE"),
+            expected,
+        }),
+        None => Request::Mistaken(Mistake::Expected(word.unwrap_or(""))),
+    }
+}
+
 fn sessions_of(word: Option<&str>) -> Option<Sessions>
     ensures { result ≡ sessions_asked (option_map (λ s. s.now) word.entry) }
 {
@@ -159,17 +188,32 @@ fn sessions_of(word: Option<&str>) -> Option<Sessions>
     }
 }
 
+fn wait_of(word: Option<&str>) -> Option<WaitSeconds>
+    ensures { result ≡ wait_asked (option_map (λ s. s.now) word.entry) }
+{
+    match word {
+        Some(word) => WaitSeconds::named(word),
+        None => Some(WaitSeconds::unnamed()),
+    }
+}
+
 fn service_of<'a>(matches: &ArgMatches<'a>) -> Task<'a>
     ensures { task_meaning result ≡ serve_asked (rows_of (found_of matches.now)) }
 {
-    let word = value_of(matches, "sessions");
-    match sessions_of(word) {
-        Some(sessions) => Task::Serve(Service {
-            sessions,
-            books: value_of(matches, "books"),
-        }),
-        None => Task::AtOnce(Request::Mistaken(Mistake::Sessions(word.unwrap_or("")))),
-    }
+    let sessions_word = value_of(matches, "sessions");
+    let Some(sessions) = sessions_of(sessions_word) else {
+        return Task::AtOnce(Request::Mistaken(Mistake::Sessions(sessions_word.unwrap_or(""))));
+    };
+    let wait_word = value_of(matches, "wait");
+    let Some(wait) = wait_of(wait_word) else {
+        return Task::AtOnce(Request::Mistaken(Mistake::Wait(wait_word.unwrap_or(""))));
+    };
+    Task::Serve(Service {
+        sessions,
+        books: value_of(matches, "books"),
+        wait,
+        only_old: is_set(matches, "old"),
+    })
 }
 
 fn request_of<'a>(name: &str, entered: &ArgMatches<'a>) -> Request<'a>
@@ -178,11 +222,12 @@ fn request_of<'a>(name: &str, entered: &ArgMatches<'a>) -> Request<'a>
     match name {
         "hours" => hours_of(entered),
         "simulate" => Request::Simulate {
-            trace: is_traced(entered),
+            trace: is_set(entered, "trace"),
         },
         "report" => report_of(entered),
         "explain" => explanation_of(entered),
         "audit" => audit_of(entered),
+        "book" => about_book_of(entered),
         _ => Request::Match,
     }
 }

@@ -5,4 +5,6 @@ use Rattle.gi_command_line.proofs.commands.serve_command.Goals as goal
 pub returns : goal.returns
 returns c =
     let with_sessions = one_more app_of _ _ _ _ _ c.with_arg-command.ensures c.option.ensures.rule c.with_help-command.ensures in
-    one_more app_of _ _ _ _ _ c.with_arg.ensures c.option-2.ensures.rule with_sessions
+    let with_books = one_more app_of _ _ _ _ _ c.with_arg-command-2.ensures c.option-2.ensures.rule with_sessions in
+    let with_wait = one_more app_of _ _ _ _ _ c.with_arg-command-3.ensures c.option-3.ensures.rule with_books in
+    one_more app_of _ _ _ _ _ c.with_arg.ensures c.flag.ensures.rule with_wait
