@@ -1,6 +1,6 @@
 -- Facts that were read from the rows of a book, or saved as its next row, stand there.
-use Rattle.std.proofs.Common.{◌≡◌, ◌≤◌, inl, inr, ℕ, ◌+◌, ◌-◌, Bool, true, false, List, [], ◌∷◌, ◌++◌, length, take, slice_get, Option, None, Some, Result, Ok, Err, IfOk, IfErr, MatchBool, Contains, refl, sym, ap, ◌∙◌, subst, arith}
-use Rattle.std.specs.Prelude.{◌==◌, OnOk}
+use Rattle.std.proofs.Common.{◌≡◌, ◌≤◌, ◌⊎◌, inl, inr, ℕ, ◌+◌, ◌-◌, Bool, true, false, List, [], ◌∷◌, ◌++◌, length, take, slice_get, Option, None, Some, Result, Ok, Err, IfOk, IfErr, IsTrue, MatchBool, Contains, refl, sym, ap, ◌∙◌, subst, arith}
+use Rattle.std.specs.Prelude.{◌==◌, OnErr, OnOk}
 use Rattle.std.proofs.lemmas.Bool.Decides.{nat_tests}
 use Rattle.std.proofs.lemmas.List.{length-drop, length-take-le}
 use Rattle.std.proofs.lemmas.List.Elements.{Contains-append_right, Contains-push}
@@ -10,7 +10,9 @@ use Rattle.sqlite.specs.State.{State}
 use Rattle.gi_facts.specs.Batch.{batch_of, batch_text, most_facts}
 use Rattle.gi_facts.specs.declared.fact.Fact.{Fact}
 use Rattle.gi_store.specs.Batches.{is_batch}
-use Rattle.gi_store.specs.Book.{AnswersBatch, AnswersSave, AreSaved}
+use Rattle.gi_store.proofs.Kept.{keeps_or_adds}
+use Rattle.gi_store.specs.Book.{AddsFacts, AnswersBatch, AnswersSave, AreSaved, KeepsOrSavesAll}
+use Rattle.gi_store.specs.declared.head.Head.{Head}
 use Rattle.gi_store.specs.FaultText.{IsFailure}
 use Rattle.gi_store.specs.Facts.{AreFactsFrom, Covers}
 use Rattle.gi_store.specs.Rows.{fact_rows, facts_in, row_of}
@@ -91,6 +93,12 @@ stand_saved n facts old new reads saved before fact is =
 pub stand_if_saved : {E : Type 0} (n : ℕ) (facts : List Fact) (old new : State) (result : Result (Unit {0}) E) → batch_of (batch_text facts) ≡ Some facts → OnOk result (AreSaved n facts old new) → OnOk result (Stand n facts new)
 stand_if_saved n facts old new (Ok done) reads saved = stand_saved n facts old new reads saved
 stand_if_saved n facts old new (Err fault) reads saved = tt
+
+-- the rows are as they were, or those with the row of the facts after them
+pub rows_either : (result : Result (Unit {0}) StoreFault) (head : Option Head) (n : ℕ) (facts : List Fact) (old new : State) → OnOk result (AreSaved n facts old new) → OnErr result (KeepsOrSavesAll head n facts old new)
+    → IsTrue new.is_open → (new.now ≡ old.now) ⊎ ((new.now.schema ≡ old.now.schema) × AddsFacts old.now.schema n facts old.now.trees new.now.trees)
+rows_either (Ok done) head n facts old new saved kept is_open = inr (saved.schema, saved.rows)
+rows_either (Err fault) head n facts old new saved kept is_open = keeps_or_adds head n facts old new kept is_open
 
 -- ---- what saving the next row is answered
 

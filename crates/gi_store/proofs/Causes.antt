@@ -1,4 +1,4 @@
--- Why the two queries of the book fail.
+-- Why the queries of the book fail.
 use Rattle.std.proofs.Common.{◌≡◌, inl, inr, ℕ, ◌≤◌, ◌^◌, List, [], Any, Bool, true, false, Option, IsSome, IsTrue, IfErr, Ok, Err, Result, refl, sym, ap, subst, subst₂, ◌∙◌, arith}
 use Rattle.std.proofs.lemmas.Bool.{lt-leb}
 use Rattle.sqlite_value.specs.Order.{Row}
@@ -18,15 +18,15 @@ use Rattle.sqlite.proofs.Callers.{IsPlain, command_of}
 use Rattle.gi_store.specs.declared.store_fault.StoreFault.{StoreFault}
 use Rattle.gi_store.specs.declared.store_fault.StoreFault.TheVariants.{Store}
 use Rattle.gi_store.specs.FaultText.{fault_of}
-use Rattle.gi_store.specs.Tables.{HasTables, book_table, facts_table, book_tree, facts_tree}
+use Rattle.gi_store.specs.Tables.{HasOwnerTable, HasTables, book_table, facts_table, owner_table, book_tree, facts_tree, owner_tree}
 use Rattle.gi_store.specs.Rows.{facts_in}
 use Rattle.gi_store.specs.Order.{ArePutInOrder}
 use Rattle.gi_store.specs.Facts.{IsReadFault}
 use Rattle.gi_store.specs.Keeping.{IsFirstBook, Keeps}
 use Rattle.gi_store.specs.Book.{IsLoadCaused}
-use Rattle.gi_store.specs.Failing.{HasFailed, Endures, IsFirst, HaveOwnTrees, FailsToRead, IsCaused}
-use Rattle.gi_store.proofs.Texts.{read_version, read_facts, version_query, facts_query, IsQuery, IsWhole}
-use Rattle.gi_store.proofs.Readings.{version_place, facts_place}
+use Rattle.gi_store.specs.Failing.{HasFailed, Endures, IsFirst, HaveOwnTrees, HasOwnTree, FailsToRead, IsCaused, IsCausedAtAll}
+use Rattle.gi_store.proofs.Texts.{read_version, read_name, read_facts, version_query, facts_query, IsQuery, IsWhole}
+use Rattle.gi_store.proofs.Readings.{version_place, name_place, facts_place}
 
 -- ---- from call to call
 
@@ -61,6 +61,17 @@ reads_later a b c p up same (inl failed) = inl (failed_after a b c p.faults fail
 reads_later a b c p up same (inr (inl shut)) = absurd (shut_not b.is_open up shut)
 reads_later a b c p up same (inr (inr (inl limit))) = inr (inr (inl (subst IsSome p.limit limit)))
 reads_later a b c p up same (inr (inr (inr shared))) = inr (inr (inr (subst (λ (d : Database). ¬ HaveOwnTrees d.schema) same shared)))
+
+-- ---- where the owner is read too
+
+pub at_all : (old new : State) (fault : StoreFault) → IsCaused old new fault → IsCausedAtAll old new fault
+at_all old new Store h = inl h
+at_all old new _ h = tt
+
+pub at_all_later : (a b c : State) (fault : StoreFault) → Endures a b → IsTrue b.is_open → b.now ≡ a.now → IsCausedAtAll b c fault → IsCausedAtAll a c fault
+at_all_later a b c Store p up same (inl read) = inl (reads_later a b c p up same read)
+at_all_later a b c Store p up same (inr shared) = inr (subst (λ (d : Database). ¬ HasOwnTree d.schema) same shared)
+at_all_later a b c _ p up same h = tt
 
 -- ---- a load
 
@@ -132,10 +143,13 @@ query_failed old new sql q names e asked sure (inr h) =
     let command = ap command_of (sym h.1.is) ∙ asked.command in
     caused old new (fault_of e) (inr (inr (inl (refuses_less old.step_limit old.now q names e asked.typed sure (subst₂ (λ k d. RefusesToRead old.step_limit k d [] e) command db it.2)))))
 
--- ---- the two queries
+-- ---- the three queries
 
 own_version : (schema : Schema) (tree : ℕ) → IsFirst schema (book_table tree) → accepts_program schema [] (version_query tree) [] ≡ true
 own_version schema tree own = rw (lt-leb (2 ^ 31) tree own.0, own.1) refl
+
+own_name : (schema : Schema) (tree : ℕ) → IsFirst schema (owner_table tree) → accepts_program schema [] (version_query tree) [] ≡ true
+own_name schema tree own = rw (lt-leb (2 ^ 31) tree own.0, own.1) refl
 
 own_facts : (schema : Schema) (tree : ℕ) → IsFirst schema (facts_table tree) → accepts_program schema [] (facts_query tree) [] ≡ true
 own_facts schema tree own = rw (lt-leb (2 ^ 31) tree own.0, own.1) refl
@@ -153,6 +167,17 @@ version_failed old new (Ok x) has h = tt
 version_failed old new (Err e) has h = elim (version_place old has) [
   | inl refused ↦ caused old new (fault_of e) (inr (inr (inr (λ own. absurd (let no : true ≡ false = sym (own_version old.now.schema (book_tree old.now.schema) own.0) ∙ refused.1 in cc)))))
   | inr asked ↦ query_failed old new read_version (version_query (book_tree old.now.schema)) _ e asked (sure_version old.now.trees (book_tree old.now.schema)) h
+]
+
+shared_tree : (old new : State) (fault : StoreFault) → ¬ HasOwnTree old.now.schema → IsCausedAtAll old new fault
+shared_tree old new Store h = inr h
+shared_tree old new _ h = tt
+
+pub name_failed : (old new : State) {X : Type 0} (r : Result X Error) → HasOwnerTable old.now.schema → IfErr r (FailsToQuery read_name [] old new) → IfErr r (λ e. IsCausedAtAll old new (fault_of e))
+name_failed old new (Ok x) has h = tt
+name_failed old new (Err e) has h = elim (name_place old has) [
+  | inl refused ↦ shared_tree old new (fault_of e) (λ own. absurd (let no : true ≡ false = sym (own_name old.now.schema (owner_tree old.now.schema) own) ∙ refused.1 in cc))
+  | inr asked ↦ at_all old new (fault_of e) (query_failed old new read_name (version_query (owner_tree old.now.schema)) _ e asked (sure_version old.now.trees (owner_tree old.now.schema)) h)
 ]
 
 pub facts_failed : (old new : State) {X : Type 0} (r : Result X Error) → HasTables old.now.schema → IfErr r (FailsToQuery read_facts [] old new) → IfErr r (λ e. IsCaused old new (fault_of e))

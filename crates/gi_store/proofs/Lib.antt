@@ -2,9 +2,13 @@ pub mod Listed
 pub mod Texts
 pub mod Failures
 pub mod Meanings
+pub mod Owners
 pub mod FirstBook
+pub mod Whose
 pub mod Readings
 pub mod Causes
 pub mod Walk
 pub mod Numbering
 pub mod Fronts
+pub mod Heads
+pub mod Kept

@@ -1,10 +1,11 @@
 -- Where a table is listed, also once others are listed after it.
-use Rattle.std.proofs.Common.{◌≡◌, inl, inr, ℕ, zero, suc, ◌+◌, List, [], ◌∷◌, ◌++◌, length, Bool, true, false, not, ◌&&◌, ◌||◌, Option, None, Some, slice_get, option_and_then, is_some, codes, refl, ap, ◌∙◌, arith}
+use Rattle.std.proofs.Common.{◌≡◌, inl, inr, ℕ, zero, suc, ◌+◌, List, [], ◌∷◌, ◌++◌, length, Bool, true, false, not, ◌&&◌, ◌||◌, Option, None, Some, slice_get, option_and_then, is_some, codes, refl, sym, ap, ◌∙◌, arith}
 use Rattle.std.specs.List.{position_from, list_any}
 use Rattle.std.proofs.lemmas.Bool.{cases_Bool}
 use Rattle.sqlite_schema.specs.declared.schema.Table.{Table}
 use Rattle.sqlite_schema.specs.declared.schema.Schema.{Schema}
 use Rattle.sqlite_schema.specs.Names.{same_name, table_named}
+use Rattle.sqlite_rules.specs.Lists.{Has}
 use Rattle.sqlite.specs.Does.{lacks_sequence}
 use Rattle.sqlite.specs.Rows.{sequence}
 use Rattle.gi_store.specs.Tables.{table_at, tree_of}
@@ -61,6 +62,14 @@ is_at schema name table h = let it = at_once (table_named schema name) (slice_ge
 pub at_is : (schema : Schema) (name : List ℕ) (table : Table) → IsAt schema name table → table_at schema name ≡ Some table
 unfolding table_at
 at_is schema name table it = rw it.named it.found
+
+has_at : {X : Type 0} (xs : List X) (at : ℕ) (x : X) → slice_get xs at ≡ Some x → Has xs x
+has_at [] at x h = absurd cc
+has_at (y ∷ xs) zero x h = inl (let same : y ≡ x = cc in sym same)
+has_at (y ∷ xs) (suc at) x h = inr (has_at xs at x h)
+
+pub is_listed : (schema : Schema) (name : List ℕ) (table : Table) → IsAt schema name table → Has schema.tables table
+is_listed schema name table it = has_at schema.tables it.at table it.found
 
 pub tree_is : (schema : Schema) (name : List ℕ) (table : Table) → table_at schema name ≡ Some table → tree_of schema name ≡ table.tree
 unfolding tree_of

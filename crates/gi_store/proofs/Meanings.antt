@@ -11,7 +11,7 @@ use Rattle.sqlite.specs.Command.{Command}
 use Rattle.sqlite.specs.Command.TheVariants.{Insert, CreateTable}
 use Rattle.sqlite.specs.Edit.{edit_of, edited}
 use Rattle.sqlite.specs.Cast.{cast}
-use Rattle.sqlite.specs.Kind.TheVariants.{Integer}
+use Rattle.sqlite.specs.Kind.TheVariants.{Integer, Text as Chars}
 use Rattle.sqlite.specs.Rowids.TheVariants.{Chosen}
 use Rattle.sqlite.specs.Change.{created, next_tree, KeepsRows}
 use Rattle.sqlite.specs.Does.{Tally, Does, lacks_sequence}
@@ -34,9 +34,9 @@ use Rattle.sqlite_rules.specs.Edit.{Edit, IsNoIndex}
 use Rattle.sqlite_rules.proofs.ListLemmas.{all_has, all_from, has_left, has_right}
 use Rattle.sqlite_catalog.specs.Change.{is_used}
 use Rattle.sqlite_catalog.proofs.StepLemmas.{no_table, no_index, no_view, table_below}
-use Rattle.gi_store.specs.Tables.{book_table, facts_table, book_tree, facts_tree, HasTables, IsFree, with_tables}
+use Rattle.gi_store.specs.Tables.{named_column, plain_table, book_table, facts_table, book_tree, facts_tree, HasTables, IsFree, with_two}
 use Rattle.gi_store.specs.Rows.{both_columns, kept_row, kept_version}
-use Rattle.gi_store.specs.Keeping.{IsIdle, MakesBook, Keeps, PutsRow, MayPutRow}
+use Rattle.gi_store.specs.Keeping.{IsIdle, MakesTwo, Keeps, PutsRow, MayPutRow}
 use Rattle.gi_store.proofs.Failures.{run_undone, undone_idle, undone_keeps}
 use Rattle.gi_store.proofs.Listed.{IsAt, is_at, at_is, tree_is, more, listed_still, listed_next, unlisted_still, counts_still}
 use Rattle.gi_store.proofs.Texts.{make_book, make_facts, write_version, write_fact, version_terms, fact_terms, Makes, makes_book, makes_facts, makes_as, defines, puts_version, puts_fact, puts_as}
@@ -59,15 +59,15 @@ commits_as sql params old schema has command is plain db h =
 
 -- ---- making a table
 
-record Made (old new : State) (table : Table) : Type 0 where
-  schema : new.now.schema ≡ more old.now.schema (record table { tree = next_tree old.now.schema } ∷ [])
-  empty : new.now.trees (next_tree old.now.schema) ≡ []
-  others : KeepsRows old.now.schema.tables old.now.trees new.now.trees
+pub record Made (old new : State) (table : Table) : Type 0 where
+  pub schema : new.now.schema ≡ more old.now.schema (record table { tree = next_tree old.now.schema } ∷ [])
+  pub empty : new.now.trees (next_tree old.now.schema) ≡ []
+  pub others : KeepsRows old.now.schema.tables old.now.trees new.now.trees
 
 one_more : (schema : Schema) (table : Table) → table.uniques ≡ [] → created schema table ≡ more schema (record table { tree = next_tree schema } ∷ [])
 one_more schema table none = rw (none, append-nil)
 
-made : (text name : List ℕ) (table : Table) (k : Makes text name table) (old new : State) (count : ℕ) → table.uniques ≡ [] → table.is_counted ≡ false → is_used old.now.schema name ≡ false
+pub made : (text name : List ℕ) (table : Table) (k : Makes text name table) (old new : State) (count : ℕ) → table.uniques ≡ [] → table.is_counted ≡ false → is_used old.now.schema name ≡ false
     → lacks_sequence old.now.schema ≡ false → Executes text [] old new (Ok count) → Made old new table
 made text name table k old new count none uncounted free lacks h =
     let known = makes_as old.now.schema text name table k free in
@@ -131,19 +131,23 @@ no_works : (schema : Schema) (keys : Keys) (tree : ℕ) (news : List Row) → wo
 no_works schema keys tree news = all_empty (λ child. filter_map (work_for schema keys 0 tree [] news child) child.references) schema.tables
     (λ child. none_kept (work_for schema keys 0 tree [] news child) child.references (λ ref. no_work 0 tree child ref (deed_for keys (length news == 0) ref) (parent_key schema.tables ref)))
 
-does_add_fact : (limit : Option ℕ) (s : State) (db : Database) (at tree n : ℕ) (text : List ℕ) (sql : List ℕ) (tally : Tally) (after : Database) → slice_get db.schema.tables at ≡ Some (facts_table tree)
+-- a table of rows that have a number and a text
+abbrev pub texts_table : List ℕ → List ℕ → List ℕ → ℕ → Table
+texts_table name key value tree = plain_table name tree (named_column key Integer false) (named_column value Chars true)
+
+pub does_add_text : (limit : Option ℕ) (s : State) (db : Database) (name key value : List ℕ) (at tree n : ℕ) (text : List ℕ) (sql : List ℕ) (tally : Tally) (after : Database) → slice_get db.schema.tables at ≡ Some (texts_table name key value tree)
     → Does limit (mode_of s) (Int (pos n) ∷ Words text ∷ []) db sql None (Insert at (Values fact_terms 3)) (Ok (tally, after))
-    → Adds db after (facts_table tree) (kept_row n text)
-does_add_fact limit s db at tree n text sql tally after found h =
+    → Adds db after (texts_table name key value tree) (kept_row n text)
+does_add_text limit s db name key value at tree n text sql tally after found h =
     let done = went (rw found at h) in
     let now = ap (λ (p : Tally × Database). p.1) (same_value (went (went done.2).2).2) in
     let given = went done.1 in
     let written = went (went given.2).2 in
     let counted = went written.2 in
     let trees : done.0.trees ≡ written.0 = ap (λ (it : Written). it.trees) (same_value counted.2) ∙ same_value counted.1 in
-    let put : Edit = edit_of db.trees (facts_table tree) [] Chosen 0 given.0 in
+    let put : Edit = edit_of db.trees (texts_table name key value tree) [] Chosen 0 given.0 in
     let step = one_step db.schema (mode_of s).keys db.trees written.0 put (no_works db.schema (mode_of s).keys tree put.news) written.1 in
-    let edit : edited db.trees put ≡ put_row (kept_row n text) (db.trees tree) = ap (λ all. edited db.trees (edit_of db.trees (facts_table tree) [] Chosen 0 all)) given.1.1 ∙ rw (cast_number, cast_null) in
+    let edit : edited db.trees put ≡ put_row (kept_row n text) (db.trees tree) = ap (λ all. edited db.trees (edit_of db.trees (texts_table name key value tree) [] Chosen 0 all)) given.1.1 ∙ rw (cast_number, cast_null) in
     let is : after.trees ≡ written.0 = ap (λ (d : Database). d.trees) now ∙ trees in
     record {
       schema = ap (λ (d : Database). d.schema) now;
@@ -151,6 +155,11 @@ does_add_fact limit s db at tree n text sql tally after found h =
       tables = subst (λ (t : Trees). AllByRecursion (λ u. u.tree ≢ tree → t u.tree ≡ db.trees u.tree) db.schema.tables) (sym is) step.tables;
       others = λ t other unindexed. ap (λ (f : Trees). f t) is ∙ step.others t other unindexed;
     }
+
+does_add_fact : (limit : Option ℕ) (s : State) (db : Database) (at tree n : ℕ) (text : List ℕ) (sql : List ℕ) (tally : Tally) (after : Database) → slice_get db.schema.tables at ≡ Some (facts_table tree)
+    → Does limit (mode_of s) (Int (pos n) ∷ Words text ∷ []) db sql None (Insert at (Values fact_terms 3)) (Ok (tally, after))
+    → Adds db after (facts_table tree) (kept_row n text)
+does_add_fact limit s db = does_add_text limit s db (codes "facts") (codes "n") (codes "body")
 
 does_add_version : (limit : Option ℕ) (s : State) (db : Database) (at tree : ℕ) (sql : List ℕ) (tally : Tally) (after : Database) → slice_get db.schema.tables at ≡ Some (book_table tree)
     → Does limit (mode_of s) [] db sql None (Insert at (Values version_terms 3)) (Ok (tally, after))
@@ -189,7 +198,7 @@ record WritesFact (old new : State) (tree n : ℕ) (text : List ℕ) : Type 0 wh
   committed : new.committed ≡ new.now
   autocommit : new.in_transaction ≡ false
 
-abbrev row_given : ℕ → List ℕ → Row
+abbrev pub row_given : ℕ → List ℕ → Row
 row_given n text = Int (pos n) ∷ Words text ∷ []
 
 fact_known : (schema : Schema) (tree : ℕ) (it : IsAt schema (codes "facts") (facts_table tree)) → (command_of (understood schema write_fact) ≡ Insert it.at (Values fact_terms 3)) × IsPlain (understood schema write_fact)
@@ -266,11 +275,11 @@ facts_itself : same_name (codes "facts") (codes "facts") ≡ true
 unfolding same_name
 facts_itself = refl
 
-still_free : (schema : Schema) (tree : ℕ) → is_used schema (codes "facts") ≡ false → is_used (more schema (book_table tree ∷ [])) (codes "facts") ≡ false
-still_free schema tree free =
-    rw (unlisted_still schema (codes "facts") (book_table tree) (no_table schema (codes "facts") free) apart, no_index schema (codes "facts") free, no_view schema (codes "facts") free)
+pub still_free : (schema : Schema) (table : Table) (name : List ℕ) → same_name table.name name ≡ false → is_used schema name ≡ false → is_used (more schema (table ∷ [])) name ≡ false
+still_free schema table name other free =
+    rw (unlisted_still schema name table (no_table schema name free) other, no_index schema name free, no_view schema name free)
 
-tables_of : (schema : Schema) (book facts : ℕ) → IsAt schema (codes "book") (book_table book) → IsAt schema (codes "facts") (facts_table facts)
+pub tables_of : (schema : Schema) (book facts : ℕ) → IsAt schema (codes "book") (book_table book) → IsAt schema (codes "facts") (facts_table facts)
     → HasTables schema × (book_tree schema ≡ book) × (facts_tree schema ≡ facts)
 tables_of schema book facts one two =
     let first = at_is schema (codes "book") (book_table book) one in
@@ -279,15 +288,15 @@ tables_of schema book facts one two =
     let f = tree_is schema (codes "facts") (facts_table facts) second in
     (record { book = first ∙ ap (λ t. Some (book_table t)) (sym b); facts = second ∙ ap (λ t. Some (facts_table t)) (sym f) }, b, f)
 
-pub makes_all : (start first second third : State) (m n k : ℕ) → IsFree start.now.schema → Executes make_book [] start first (Ok m) → Executes make_facts [] first second (Ok n) → Executes write_version [] second third (Ok k)
-    → MakesBook start.now third.now
-makes_all start first second third m n k free one two three =
+pub makes_two : (start first second third : State) (m n k : ℕ) → IsFree start.now.schema → Executes make_book [] start first (Ok m) → Executes make_facts [] first second (Ok n) → Executes write_version [] second third (Ok k)
+    → MakesTwo start.now third.now
+makes_two start first second third m n k free one two three =
     let s0 = start.now.schema in
     let book = made make_book (codes "book") (book_table 0) makes_book start first m refl refl free.book free.counted one in
     let b = next_tree s0 in
     let e1 : first.now.schema ≡ more s0 (book_table b ∷ []) = book.schema in
     let facts = made make_facts (codes "facts") (facts_table 0) makes_facts first second n refl refl
-    (ap (λ s. is_used s (codes "facts")) e1 ∙ still_free s0 b free.facts) (ap lacks_sequence e1 ∙ counts_still s0 (book_table b) refl free.counted) two in
+    (ap (λ s. is_used s (codes "facts")) e1 ∙ still_free s0 (book_table b) (codes "facts") apart free.facts) (ap lacks_sequence e1 ∙ counts_still s0 (book_table b) refl free.counted) two in
     let f = next_tree first.now.schema in
     let e2 : second.now.schema ≡ more first.now.schema (facts_table f ∷ []) = facts.schema in
     let book_first : IsAt first.now.schema (codes "book") (book_table b) =
@@ -309,9 +318,8 @@ makes_all start first second third m n k free one two three =
     let differ : f ≢ b = λ same. absurd (omega (arith, same, low)) in
     let none : second.now.trees b ≡ [] = all_has (λ (t : Table). second.now.trees t.tree ≡ first.now.trees t.tree) first.now.schema.tables (book_table b) facts.others has_first ∙ book.empty in
     let empty : third.now.trees f ≡ [] = all_has (λ (t : Table). t.tree ≢ b → third.now.trees t.tree ≡ second.now.trees t.tree) second.now.schema.tables (facts_table f) row.tables has_facts differ ∙ facts.empty in
-    let whole : second.now.schema ≡ with_tables s0 b f = e2 ∙ (ap (λ (s : Schema). more s (facts_table f ∷ [])) e1 ∙ rw (append_assoc s0.tables (book_table b ∷ []) (facts_table f ∷ []))) in
+    let whole : second.now.schema ≡ with_two s0 b f = e2 ∙ (ap (λ (s : Schema). more s (facts_table f ∷ [])) e1 ∙ rw (append_assoc s0.tables (book_table b ∷ []) (facts_table f ∷ []))) in
     record {
-      free = free;
       listed = e3 ∙ (whole ∙ rw (trees.1, trees.2));
       sound = wrote.1;
       book = record { tables = trees.0; version = rw trees.1 (ap (map both_columns) (row.rows ∙ ap (put_row kept_version) none)) };

@@ -22,15 +22,18 @@ use Rattle.sqlite.specs.Store.{Ghosts}
 use Rattle.sqlite.specs.State.{State, HasCleanDisk, Survives, CommitsShowing, Shown}
 use Rattle.sqlite.proofs.Callers.{reads_as, never_commits, one_permutation}
 use Rattle.sqlite_trees.specs.Tree.{Trees}
-use Rattle.gi_store.specs.Tables.{HasTables, book_table, facts_table, book_tree, facts_tree}
-use Rattle.gi_store.specs.Rows.{both_columns, facts_in, versions_in, first_version}
+use Rattle.gi_store.specs.Tables.{HasOwnerTable, HasTables, book_table, facts_table, owner_table, book_tree, facts_tree, owner_tree}
+use Rattle.gi_store.specs.Rows.{IsOwned, both_columns, facts_in, names_in, versions_in, first_version, row_of}
 use Rattle.gi_store.specs.Keeping.{AddsNoOutcome, IsFirstBook, Keeps}
 use Rattle.gi_store.proofs.Failures.{MayRun, not_both, shown_same}
-use Rattle.gi_store.specs.Opening.{IsVersionFault}
+use Rattle.gi_store.specs.Opening.{IsNameFault, IsVersionFault}
 use Rattle.gi_store.specs.Order.{InOrder, ArePutInOrder}
+use Rattle.gi_pairs.specs.Code.{IsCode}
+use Rattle.gi_store.specs.declared.owner.Owner.{Owner}
+use Rattle.gi_store.specs.Owner.{owner_text}
 use Rattle.gi_store.specs.declared.store_fault.StoreFault.{StoreFault}
 use Rattle.gi_store.specs.declared.store_fault.StoreFault.TheVariants.{Version}
-use Rattle.gi_store.proofs.Texts.{read_version, read_facts, facts_query, version_query, IsQuery, MayAsk, version_asked, facts_asked}
+use Rattle.gi_store.proofs.Texts.{read_version, read_name, read_facts, facts_query, version_query, IsQuery, MayAsk, version_asked, name_asked, facts_asked}
 use Rattle.gi_store.proofs.Listed.{is_at}
 
 map_twice : {X Y Z : Type 0} (f : Y → Z) (g : X → Y) (xs : List X) → map f (map g xs) ≡ map (λ x. f (g x)) xs
@@ -51,9 +54,10 @@ not_shown : (sql : List ℕ) (old new : State) (rows : List Row) → understood 
 unfolding Shown
 not_shown sql old new rows refused h = not_both old.now.schema sql h.0 refused h.1.is
 
-version_rows : (old new : State) (tree : ℕ) (names : List (List ℕ)) (rows : List Row) → IsQuery old.now.schema read_version (version_query tree) names → Shown read_version [] old new rows → IsPermutation (map both_columns (old.now.trees tree)) rows
-version_rows old new tree names rows asked h =
-    let got = reads_as read_version [] old new old.now.schema refl _ asked.command asked.plain asked.unlisted rows h in
+-- the rows of a table that has all shown, in some order
+plain_rows : (old new : State) (sql : List ℕ) (tree : ℕ) (names : List (List ℕ)) (rows : List Row) → IsQuery old.now.schema sql (version_query tree) names → Shown sql [] old new rows → IsPermutation (map both_columns (old.now.trees tree)) rows
+plain_rows old new sql tree names rows asked h =
+    let got = reads_as sql [] old new old.now.schema refl _ asked.command asked.plain asked.unlisted rows h in
     let a : IsAnswer (version_query tree) (overlay old.now.trees []) [] rows = got.answer Null in
     let staged : a.staged ≡ map (λ r. [] ∷ r ∷ []) (old.now.trees tree) = a.grouped ∙ (staged_rows (overlay old.now.trees [] tree) ∙ ap (map (λ r. [] ∷ r ∷ [])) (overlay_of old.now.trees tree)) in
     let kept : map (λ (o : Output). o.1) a.kept ≡ map both_columns (old.now.trees tree) =
@@ -72,7 +76,16 @@ facts_place s has = facts_asked s.now.schema (facts_tree s.now.schema) (is_at s.
 reads_version : (old new : State) (rows : List Row) → HasTables old.now.schema → Shown read_version [] old new rows → IsPermutation (versions_in old.now) rows
 reads_version old new rows has h = elim (version_place old has) [
   | inl refused ↦ absurd (not_shown read_version old new rows refused.0 h)
-  | inr asked ↦ version_rows old new (book_tree old.now.schema) _ rows asked h
+  | inr asked ↦ plain_rows old new read_version (book_tree old.now.schema) _ rows asked h
+]
+
+pub name_place : (s : State) → HasOwnerTable s.now.schema → MayAsk s.now.schema read_name (version_query (owner_tree s.now.schema)) (codes "id" ∷ codes "name" ∷ [])
+name_place s has = name_asked s.now.schema (owner_tree s.now.schema) (is_at s.now.schema (codes "owner") (owner_table (owner_tree s.now.schema)) has)
+
+reads_name : (old new : State) (rows : List Row) → HasOwnerTable old.now.schema → Shown read_name [] old new rows → IsPermutation (names_in old.now) rows
+reads_name old new rows has h = elim (name_place old has) [
+  | inl refused ↦ absurd (not_shown read_name old new rows refused.0 h)
+  | inr asked ↦ plain_rows old new read_name (owner_tree old.now.schema) _ rows asked h
 ]
 
 -- ---- the order
@@ -136,6 +149,9 @@ reads_facts old new rows has h = elim (facts_place old has) [
 pub plain_version : (s : State) → HasTables s.now.schema → MayRun s.now.schema read_version
 plain_version s has = elim (version_place s has) [ inl refused ↦ inl refused.0 | inr asked ↦ inr asked.plain ]
 
+pub plain_name : (s : State) → HasOwnerTable s.now.schema → MayRun s.now.schema read_name
+plain_name s has = elim (name_place s has) [ inl refused ↦ inl refused.0 | inr asked ↦ inr asked.plain ]
+
 pub plain_facts : (s : State) → HasTables s.now.schema → MayRun s.now.schema read_facts
 plain_facts s has = elim (facts_place s has) [ inl refused ↦ inl refused.0 | inr asked ↦ inr asked.plain ]
 
@@ -144,6 +160,12 @@ version_answer old new items (Ok x) has h =
     let same = shown_same old new read_version [] (items x) (plain_version old has) h in
     subst (λ (d : Database). IsPermutation (versions_in d) (items x)) (sym same.0.now_is) (reads_version old new (items x) has h)
 version_answer old new items (Err e) has h = tt
+
+pub name_answer : (old new : State) {X : Type 0} (items : X → List Row) (r : Result X Error) → HasOwnerTable old.now.schema → IfOk r (λ x. Shown read_name [] old new (items x)) → IfOk r (λ x. IsPermutation (names_in new.now) (items x))
+name_answer old new items (Ok x) has h =
+    let same = shown_same old new read_name [] (items x) (plain_name old has) h in
+    subst (λ (d : Database). IsPermutation (names_in d) (items x)) (sym same.0.now_is) (reads_name old new (items x) has h)
+name_answer old new items (Err e) has h = tt
 
 pub facts_answer : (old new : State) {X : Type 0} (items : X → List Row) (r : Result X Error) → HasTables old.now.schema → IfOk r (λ x. Shown read_facts [] old new (items x)) → IfOk r (λ x. ArePutInOrder (facts_in new.now) (items x))
 facts_answer old new items (Ok x) has h =
@@ -177,3 +199,23 @@ pub version_missed : {S : Type 0} (g : Ghosts S) (old new : Held S) (rows : List
 version_missed g old new rows (Ok done) kept up same missed = tt
 version_missed g old new rows (Err fault) kept up same missed = subst (IsVersionFault (state g old)) (sym missed.0) (λ book. missed.1
     (one_permutation first_version rows (subst (λ l. IsPermutation l rows) (ap (λ (d : Database). versions_in d) (kept.same up) ∙ book.version) same)))
+
+-- ---- the one row of the owner
+
+pub name_read : {S : Type 0} (g : Ghosts S) (old new : Held S) (rows : List Row) (r : Result Owner StoreFault) → Keeps (state g old) (state g new) → IsTrue (state g new).is_open → HasOwnerTable old.schema
+    → IsPermutation (names_in (state g new).now) rows → IfOk r (λ owner. IsCode owner.point × (rows ≡ row_of 1 (owner_text owner) ∷ []))
+    → IfOk r (λ owner. IsTrue (state g new).is_open × IsOwned owner (state g new).now)
+name_read g old new rows (Ok owner) kept up has same is = (
+  up,
+  record {
+    table = subst (λ (d : Database). HasOwnerTable d.schema) (sym (kept.same up)) has;
+    row = one_permutation (row_of 1 (owner_text owner)) (names_in (state g new).now) (IsPermutation-sym _ _ (subst (λ l. IsPermutation (names_in (state g new).now) l) is.1 same));
+  },
+)
+name_read g old new rows (Err fault) kept up has same is = tt
+
+pub name_missed : {S : Type 0} (g : Ghosts S) (old new : Held S) (rows : List Row) (r : Result Owner StoreFault) → Keeps (state g old) (state g new) → IsTrue (state g new).is_open → IsPermutation (names_in (state g new).now) rows
+    → IfErr r (λ fault. (fault ≡ Version) × ((owner : Owner) → IsCode owner.point → ¬ (rows ≡ row_of 1 (owner_text owner) ∷ []))) → IfErr r (IsNameFault (state g old))
+name_missed g old new rows (Ok owner) kept up same missed = tt
+name_missed g old new rows (Err fault) kept up same missed = subst (IsNameFault (state g old)) (sym missed.0) (λ owner code owned. missed.1 owner code
+    (one_permutation (row_of 1 (owner_text owner)) rows (subst (λ l. IsPermutation l rows) (ap (λ (d : Database). names_in d) (kept.same up) ∙ owned.row) same)))

@@ -39,7 +39,7 @@ use Rattle.sqlite.specs.Command.TheVariants.{Insert, Select, CreateTable}
 use Rattle.sqlite_tied.specs.Compute.{everything}
 use Rattle.sqlite.specs.Listing.{understood, reads_listing}
 use Rattle.sqlite.proofs.Callers.{IsPlain, command_of}
-use Rattle.gi_store.specs.Tables.{book_table, facts_table}
+use Rattle.gi_store.specs.Tables.{book_table, facts_table, owner_table}
 use Rattle.gi_store.proofs.Listed.{IsAt}
 
 abbrev pub make_book : List ℕ
@@ -48,11 +48,20 @@ make_book = codes "CREATE TABLE book (id INTEGER PRIMARY KEY, version INTEGER NO
 abbrev pub make_facts : List ℕ
 make_facts = codes "CREATE TABLE facts (n INTEGER PRIMARY KEY, body TEXT NOT NULL)"
 
+abbrev pub make_owner : List ℕ
+make_owner = codes "CREATE TABLE owner (id INTEGER PRIMARY KEY, name TEXT NOT NULL)"
+
 abbrev pub write_version : List ℕ
 write_version = codes "INSERT INTO book (id, version) VALUES (1, 1)"
 
+abbrev pub write_name : List ℕ
+write_name = codes "INSERT INTO owner (id, name) VALUES (?1, ?2)"
+
 abbrev pub read_version : List ℕ
 read_version = codes "SELECT * FROM book"
+
+abbrev pub read_name : List ℕ
+read_name = codes "SELECT * FROM owner"
 
 abbrev pub read_facts : List ℕ
 read_facts = codes "SELECT * FROM facts ORDER BY 1"
@@ -84,6 +93,10 @@ makes_book = record { parsed = _; def = _; reads = refl; is = refl; untimed = re
 pub makes_facts : Makes make_facts (codes "facts") (facts_table 0)
 unfolding everything
 makes_facts = record { parsed = _; def = _; reads = refl; is = refl; untimed = refl; always = refl; bare = refl; named = refl; usual = refl; defined = refl; literal = refl; all = refl }
+
+pub makes_owner : Makes make_owner (codes "owner") (owner_table 0)
+unfolding everything
+makes_owner = record { parsed = _; def = _; reads = refl; is = refl; untimed = refl; always = refl; bare = refl; named = refl; usual = refl; defined = refl; literal = refl; all = refl }
 
 creates_by : (schema : Schema) (text : List ℕ) (p : Parsed) (def : made.CreateTable) (table : Table)
     → first text ≡ Ok p → p.statement ≡ written.CreateTable def → p.formats ≡ [] → def.if_missing ≡ false → def.resolves ≡ false → is_reserved def.name ≡ false
@@ -128,6 +141,10 @@ puts_version tree = record { parsed = _; columns = _; given = _; reads = refl; i
 pub puts_fact : (tree : ℕ) → Puts write_fact (codes "facts") (facts_table tree) fact_terms
 unfolding everything
 puts_fact tree = record { parsed = _; columns = _; given = _; reads = refl; is = refl; untimed = refl; unstamped = refl; rows = λ schema. refl }
+
+pub puts_name : (tree : ℕ) → Puts write_name (codes "owner") (owner_table tree) fact_terms
+unfolding everything
+puts_name tree = record { parsed = _; columns = _; given = _; reads = refl; is = refl; untimed = refl; unstamped = refl; rows = λ schema. refl }
 
 inserts_by : (schema : Schema) (text : List ℕ) (p : Parsed) (name : List ℕ) (columns : List (List ℕ)) (rows : Rows) (at : ℕ) (table : Table) (s : Source)
     → first text ≡ Ok p → p.statement ≡ written.Insert conflict.Abort name columns rows [] [] → p.formats ≡ []
@@ -192,10 +209,19 @@ unfoldable asks_facts : Asks read_facts (codes "facts")
 unfolding everything
 asks_facts = record { parsed = _; select = _; from = _; reads = refl; is = refl; untimed = refl; no_with = refl; no_others = refl; no_limit = refl; no_offset = refl; one = refl; table = refl; whole = lit≤ tt; given = refl }
 
+unfoldable asks_name : Asks read_name (codes "owner")
+unfolding everything
+asks_name = record { parsed = _; select = _; from = _; reads = refl; is = refl; untimed = refl; no_with = refl; no_others = refl; no_limit = refl; no_offset = refl; one = refl; table = refl; whole = lit≤ tt; given = refl }
+
 version_named : (schema : Schema) (at tree : ℕ) → table_named schema (codes "book") ≡ Some at → slice_get schema.tables at ≡ Some (book_table tree)
     → select.named schema (ast.out-Select asks_version.select).first (ast.out-Select asks_version.select).order page ≡ Ok (version_draft tree, codes "id" ∷ codes "version" ∷ [], None ∷ Some Binary ∷ [])
 unfolding everything asks_version
 version_named schema at tree named found = rw (named, found)
+
+name_named : (schema : Schema) (at tree : ℕ) → table_named schema (codes "owner") ≡ Some at → slice_get schema.tables at ≡ Some (owner_table tree)
+    → select.named schema (ast.out-Select asks_name.select).first (ast.out-Select asks_name.select).order page ≡ Ok (version_draft tree, codes "id" ∷ codes "name" ∷ [], None ∷ Some Binary ∷ [])
+unfolding everything asks_name
+name_named schema at tree named found = rw (named, found)
 
 facts_named : (schema : Schema) (at tree : ℕ) → table_named schema (codes "facts") ≡ Some at → slice_get schema.tables at ≡ Some (facts_table tree)
     → select.named schema (ast.out-Select asks_facts.select).first (ast.out-Select asks_facts.select).order page ≡ Ok (facts_draft tree, codes "n" ∷ codes "body" ∷ [], None ∷ Some Binary ∷ [])
@@ -259,6 +285,9 @@ asks schema text name k d names how is =
 
 pub version_asked : (schema : Schema) (tree : ℕ) → IsAt schema (codes "book") (book_table tree) → MayAsk schema read_version (version_query tree) (codes "id" ∷ codes "version" ∷ [])
 version_asked schema tree it = asks schema read_version (codes "book") asks_version (version_draft tree) _ _ (version_named schema it.at tree it.named it.found)
+
+pub name_asked : (schema : Schema) (tree : ℕ) → IsAt schema (codes "owner") (owner_table tree) → MayAsk schema read_name (version_query tree) (codes "id" ∷ codes "name" ∷ [])
+name_asked schema tree it = asks schema read_name (codes "owner") asks_name (version_draft tree) _ _ (name_named schema it.at tree it.named it.found)
 
 pub facts_asked : (schema : Schema) (tree : ℕ) → IsAt schema (codes "facts") (facts_table tree) → MayAsk schema read_facts (facts_query tree) (codes "n" ∷ codes "body" ∷ [])
 facts_asked schema tree it = asks schema read_facts (codes "facts") asks_facts (facts_draft tree) _ _ (facts_named schema it.at tree it.named it.found)

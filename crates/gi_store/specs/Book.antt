@@ -1,6 +1,6 @@
 -- What contracts see of a book, and what is always true of it.
 use Rattle.std.specs.Prelude.{◌≡◌, ◌≢◌, ◌⊎◌, ℕ, ◌+◌, ◌<◌, ◌==◌, nat_lt, if◌then◌else◌, List, [], ◌∷◌, ◌++◌, length, ⊤, Option, Some, None, Result, Err, IfSome, IfErr, MatchBool, MatchOption, IsTrue, refl}
-use Rattle.std.specs.Coded.{Coded, code_by, coded×, coded_ℕ, coded_option}
+use Rattle.std.specs.Coded.{Coded, code_by, coded×, coded_list, coded_ℕ, coded_option}
 use Rattle.sqlite_value.specs.Order.{Row}
 use Rattle.sqlite_trees.specs.Tree.{Trees}
 use Rattle.sqlite_schema.specs.declared.schema.Schema.{Schema}
@@ -10,6 +10,7 @@ use Rattle.sqlite.specs.Held.{Held, held_code}
 use Rattle.gi_facts.specs.declared.fact.Fact.{Fact}
 use Rattle.gi_facts.specs.Batch.{batch_text}
 use Rattle.gi_facts.specs.Writing.{fact_text}
+use Rattle.gi_store.specs.declared.head.Head.{Head}
 use Rattle.gi_store.specs.declared.store_fault.StoreFault.{StoreFault}
 use Rattle.gi_store.specs.declared.store_fault.StoreFault.TheVariants.{Version, Gap, Damaged, BatchSize, NotLoaded, NotNext, Store, OutOfMemory}
 use Rattle.gi_store.specs.FaultText.{IsFailure}
@@ -19,15 +20,20 @@ use Rattle.gi_store.specs.Order.{ArePutInOrder}
 use Rattle.gi_store.specs.Facts.{AreFacts, StopsIn}
 use Rattle.gi_store.specs.Batches.{is_batch}
 use Rattle.gi_store.specs.Failing.{FailsToRead}
-use Rattle.gi_store.specs.Keeping.{IsFirstBook, IsIdle}
+use Rattle.gi_store.specs.Keeping.{IsFirstBook, IsIdle, Keeps, PutsRow}
 
--- the connection, and how many facts are known since the last `load`
+-- the connection, how many facts are known since the last `load`, and the head that is kept beside the book, as it was written last
 pub record BookState (S : Type 0) : Type 0 where
   pub connection : Held S
   pub loaded : Option ℕ
+  pub head : Option Head
+
+abbrev pub head_code : Coded Head
+head_code = code_by (ℕ × List ℕ) (coded× coded_ℕ (coded_list coded_ℕ)) (λ h. (h.facts, h.digest.bytes)) (λ p. record { facts = p.0; digest = record { bytes = p.1 } }) (λ _. refl)
 
 abbrev pub book_code : {S : Type 0} → Coded S → Coded (BookState S)
-book_code {S} store = code_by (Held S × Option ℕ) (coded× (held_code store) (coded_option coded_ℕ)) (λ b. (b.connection, b.loaded)) (λ p. record { connection = p.0; loaded = p.1 }) (λ _. refl)
+book_code {S} store = code_by (Held S × (Option ℕ × Option Head)) (coded× (held_code store) (coded× (coded_option coded_ℕ) (coded_option head_code)))
+    (λ b. (b.connection, (b.loaded, b.head))) (λ p. record { connection = p.0; loaded = p.1.0; head = p.1.1 }) (λ _. refl)
 
 -- the connection is open at a book whose rows cover the numbers 1 to k with facts
 pub record IsKnown (s : State) (k : ℕ) : Type 0 where
@@ -48,6 +54,10 @@ counted n = if nat_lt n 4294967295 then Some n else None
 
 abbrev pub IsCounted : Option ℕ → Type 0
 IsCounted loaded = IfSome loaded (λ k. k < 4294967295)
+
+-- A head is kept with a loaded book alone, and tells as many facts as it has.
+abbrev pub IsToldOf : Option ℕ → Option Head → Type 0
+IsToldOf loaded head = IfSome head (λ h. loaded ≡ Some h.facts)
 
 -- ---- load
 
@@ -101,6 +111,11 @@ SavesOrLeaves n fact old new = (db : Trees) → new.may_leave db → old.may_lea
 abbrev pub SavesOrNot : ℕ → Fact → Option ℕ → State → State → Type 0
 SavesOrNot n fact loaded old new = IfSome loaded (λ _. (db : Trees) → new.may_leave db → (db ≡ old.now.trees) ⊎ AddsFact old.now.schema n fact old.now.trees db)
 
+-- After a refusal nothing is written; or, where a head is kept, the row is there and the head could not be written.
+abbrev pub KeepsOrSaves : Option Head → ℕ → Fact → State → State → Type 0
+KeepsOrSaves None n fact old new = Keeps old new
+KeepsOrSaves (Some head) n fact old new = Keeps old new ⊎ IsSaved n fact old new
+
 -- the answer where so many facts are known: another number is refused, and the next one may fail
 abbrev pub AnswersNext : ℕ → ℕ → Result (Unit {0}) StoreFault → Type 0
 AnswersNext n k result = MatchBool (n == k + 1) (IfErr result IsFailure) (result ≡ Err (NotNext (k + 1)))
@@ -130,6 +145,19 @@ SavesAllOrLeaves n facts old new = (db : Trees) → new.may_leave db → old.may
 -- Where facts are known, a crash leaves the rows as they were, or those with the row of the facts.
 abbrev pub SavesAllOrNone : ℕ → List Fact → Option ℕ → State → State → Type 0
 SavesAllOrNone n facts loaded old new = IfSome loaded (λ _. (db : Trees) → new.may_leave db → (db ≡ old.now.trees) ⊎ AddsFacts old.now.schema n facts old.now.trees db)
+
+-- the row with this number and this text was put, by a connection that was open and is
+abbrev pub IsPut : ℕ → List ℕ → State → State → Type 0
+IsPut n text old new = IsTrue old.is_open × IsTrue new.is_open × (new.now.schema ≡ old.now.schema) × PutsRow old.now.schema n text old.now.trees new.now.trees
+
+abbrev pub KeepsOrPuts : Option Head → ℕ → List ℕ → State → State → Type 0
+KeepsOrPuts None n text old new = Keeps old new
+KeepsOrPuts (Some head) n text old new = Keeps old new ⊎ IsPut n text old new
+
+-- After a refusal nothing is written; or, where a head is kept, the row is there and the head could not be written.
+abbrev pub KeepsOrSavesAll : Option Head → ℕ → List Fact → State → State → Type 0
+KeepsOrSavesAll None n facts old new = Keeps old new
+KeepsOrSavesAll (Some head) n facts old new = Keeps old new ⊎ AreSaved n facts old new
 
 -- the answer to `save_batch n`, in the order of its refusals
 abbrev pub AnswersBatch : ℕ → List Fact → Option ℕ → Result (Unit {0}) StoreFault → Type 0

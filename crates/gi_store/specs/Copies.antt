@@ -1,5 +1,5 @@
 -- What is read of copies of a book's two files.
-use Rattle.std.specs.Prelude.{◌≡◌, ℕ, List}
+use Rattle.std.specs.Prelude.{◌≡◌, ℕ, List, Option}
 use Rattle.sqlite_disk.specs.Memory.{memory_bytes}
 use Rattle.sqlite_disk.specs.declared.files.Files.{Files}
 use Rattle.sqlite_disk.specs.declared.memory.Memory.{Memory}
@@ -9,15 +9,23 @@ use Rattle.sqlite.specs.State.{HasCleanDisk}
 use Rattle.sqlite.specs.Held.{Held}
 use Rattle.sqlite.specs.Files.{Finds, file_state}
 use Rattle.gi_facts.specs.declared.fact.Fact.{Fact}
+use Rattle.gi_store.specs.declared.owner.Owner.{Owner}
 use Rattle.gi_store.specs.Book.{IsRead}
 use Rattle.gi_store.specs.Keeping.{Keeps}
+use Rattle.gi_store.specs.Rows.{SaysOwner}
 
--- These are the facts of the book in the database that the bytes of a file and of the log beside it hold; no row is made or
--- changed before they are read.
-pub record AreFactsIn (db log : List ℕ) (facts : List Fact) : Type 0 where
+-- whose a book is, its facts, and how many bytes a log beside its file has that may have rows
+pub record BookCopyState : Type 0 where
+  pub owner : Option Owner
+  pub facts : List Fact
+  pub log : ℕ
+
+-- These are the facts of the book in the database that the bytes of a file and of the log beside it hold, and whose it is: no owner's
+-- where it has no such table. No row is made or changed before they are read.
+pub record IsCopyIn (db log : List ℕ) (copy : BookCopyState) : Type 0 where
   pub files : Files Memory
   pub file : memory_bytes files.db ≡ db
   pub journal : memory_bytes files.log ≡ log
   pub opened : Held (FileStore Memory memory.ghosts)
   pub read : Held (FileStore Memory memory.ghosts)
-  pub found : HasCleanDisk (file_state read) → Finds files opened × Keeps (file_state opened) (file_state read) × IsRead (file_state read) facts
+  pub found : HasCleanDisk (file_state read) → Finds files opened × Keeps (file_state opened) (file_state read) × IsRead (file_state read) copy.facts × SaysOwner copy.owner (file_state read).now

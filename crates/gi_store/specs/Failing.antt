@@ -6,7 +6,7 @@ use Rattle.sqlite_schema.specs.declared.schema.Table.{Table}
 use Rattle.sqlite_schema.specs.declared.schema.Schema.{Schema}
 use Rattle.gi_store.specs.declared.store_fault.StoreFault.{StoreFault}
 use Rattle.gi_store.specs.declared.store_fault.StoreFault.TheVariants.{Store}
-use Rattle.gi_store.specs.Tables.{book_table, facts_table, book_tree, facts_tree}
+use Rattle.gi_store.specs.Tables.{book_table, facts_table, owner_table, book_tree, facts_tree, owner_tree}
 
 -- the disk failed or refused once more
 abbrev pub HasFailed : State → State → Type 0
@@ -34,3 +34,15 @@ FailsToRead old new = HasFailed old new ⊎ ((old.is_open ≡ false) ⊎ (IsSome
 abbrev pub IsCaused : State → State → StoreFault → Type 0
 IsCaused old new Store = FailsToRead old new
 IsCaused old new _ = ⊤
+
+-- so is the table of the owner
+abbrev pub HasOwnTree : Schema → Type 0
+HasOwnTree schema = IsFirst schema (owner_table (owner_tree schema))
+
+-- The same where the owner is read too, whose table may have the tree of another one.
+abbrev pub FailsToTell : State → State → Type 0
+FailsToTell old new = FailsToRead old new ⊎ ¬ HasOwnTree old.now.schema
+
+abbrev pub IsCausedAtAll : State → State → StoreFault → Type 0
+IsCausedAtAll old new Store = FailsToTell old new
+IsCausedAtAll old new _ = ⊤

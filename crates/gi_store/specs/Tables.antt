@@ -1,4 +1,4 @@
--- The two tables of a book: `book`, whose one row says its version, and `facts`, with a row for each batch of facts.
+-- The tables of a book: `book`, whose one row says its version, `facts`, with a row for each batch of facts, and `owner`, whose one row says whose it is.
 use Rattle.std.specs.Prelude.{◌≡◌, ℕ, Bool, true, false, List, [], ◌∷◌, ◌++◌, codes, Option, Some, slice_get, option_map, option_and_then, unwrap_or}
 use Rattle.sqlite_value.specs.declared.keys.Collation.TheVariants.{Binary}
 use Rattle.sqlite_value.specs.declared.value.Value.TheVariants.{Null}
@@ -48,6 +48,9 @@ book_table tree = plain_table (codes "book") tree (named_column (codes "id") Int
 abbrev pub facts_table : ℕ → Table
 facts_table tree = plain_table (codes "facts") tree (named_column (codes "n") Integer false) (named_column (codes "body") Text true)
 
+abbrev pub owner_table : ℕ → Table
+owner_table tree = plain_table (codes "owner") tree (named_column (codes "id") Integer false) (named_column (codes "name") Text true)
+
 -- the table that is listed under this name
 unfoldable pub table_at : Schema → List ℕ → Option Table
 table_at schema name = option_and_then (slice_get schema.tables) (table_named schema name)
@@ -62,17 +65,42 @@ book_tree schema = tree_of schema (codes "book")
 abbrev pub facts_tree : Schema → ℕ
 facts_tree schema = tree_of schema (codes "facts")
 
--- A book's two tables are listed, with these columns and no other rule, in any order and beside any others.
+abbrev pub owner_tree : Schema → ℕ
+owner_tree schema = tree_of schema (codes "owner")
+
+-- The two tables of every book are listed, with these columns and no other rule, in any order and beside any others.
 pub record HasTables (schema : Schema) : Type 0 where
   pub book : table_at schema (codes "book") ≡ Some (book_table (book_tree schema))
   pub facts : table_at schema (codes "facts") ≡ Some (facts_table (facts_tree schema))
 
--- The two tables can be made: no table, index or view has one of the two names, and a table with AUTOINCREMENT has the table that SQLite counts in.
+-- the third table, that says whose the book is, is listed so too
+abbrev pub HasOwnerTable : Schema → Type 0
+HasOwnerTable schema = table_at schema (codes "owner") ≡ Some (owner_table (owner_tree schema))
+
+-- no table, index or view has the third table's name
+abbrev pub LacksOwner : Schema → Type 0
+LacksOwner schema = is_used schema (codes "owner") ≡ false
+
+-- The third table can be made: its name is not used, and a table with AUTOINCREMENT has the table that SQLite counts in.
+pub record TakesOwner (schema : Schema) : Type 0 where
+  pub owner : LacksOwner schema
+  pub counted : lacks_sequence schema ≡ false
+
+-- The three tables can be made: no table, index or view has one of the three names, and a table with AUTOINCREMENT has the table that SQLite counts in.
 pub record IsFree (schema : Schema) : Type 0 where
   pub book : is_used schema (codes "book") ≡ false
   pub facts : is_used schema (codes "facts") ≡ false
+  pub owner : LacksOwner schema
   pub counted : lacks_sequence schema ≡ false
 
--- the schema with the two tables after all others, whose rows are in these trees
-abbrev pub with_tables : Schema → ℕ → ℕ → Schema
-with_tables schema book facts = record schema { tables = schema.tables ++ book_table book ∷ facts_table facts ∷ [] }
+-- the schema with the three tables after all others, whose rows are in these trees
+abbrev pub with_tables : Schema → ℕ → ℕ → ℕ → Schema
+with_tables schema book facts owner = record schema { tables = schema.tables ++ book_table book ∷ facts_table facts ∷ owner_table owner ∷ [] }
+
+-- the schema with the first two of them after all others
+abbrev pub with_two : Schema → ℕ → ℕ → Schema
+with_two schema book facts = record schema { tables = schema.tables ++ book_table book ∷ facts_table facts ∷ [] }
+
+-- the schema with the third of them after all others
+abbrev pub with_owner : Schema → ℕ → Schema
+with_owner schema owner = record schema { tables = schema.tables ++ owner_table owner ∷ [] }

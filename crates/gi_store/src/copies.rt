@@ -4,15 +4,24 @@ ghost use Rattle.std.specs.Prelude.{◌≡◌, IfErr, IfOk, IsTrue};
 ghost use Rattle.sqlite_disk.specs.Memory.{memory_bytes, memory_is_usable};
 ghost use Rattle.sqlite.specs.State.{HasCleanDisk};
 ghost use Rattle.sqlite.specs.Files.{Finds, file_state};
-ghost use Rattle.gi_store.specs.Copies.{AreFactsIn};
-ghost use Rattle.gi_store.specs.FaultText.{IsLoadRefusal, IsRefusal};
-ghost use Rattle.gi_store.specs.Keeping.{IsIdle};
+ghost use Rattle.sqlite.specs.Held.{state};
+ghost use Rattle.gi_store.specs.Book.{IsRead};
+ghost use Rattle.gi_store.specs.Clean.{IsClean};
+ghost use Rattle.gi_store.specs.Copies.{IsCopyIn};
+ghost use Rattle.gi_store.specs.FaultText.{IsFailure, IsLoadRefusal};
+ghost use Rattle.gi_store.specs.Keeping.{IsIdle, Keeps};
+ghost use Rattle.gi_store.specs.Rows.{SaysOwner};
 
 use crate::file_bytes::io_fault;
-use crate::loading::read_book;
+use crate::owner::Owner;
+use crate::owning::read_owner;
+use crate::reading::read_facts;
+use crate::source::BookCopy;
+use crate::statements::fact_rows;
 use crate::store_fault::StoreFault;
-use gi_facts::Fact;
-use sqlite::{Connection, Error, ErrorCode, FileStore};
+use crate::tables::lacks_owner;
+use crate::version::check_version;
+use sqlite::{Alter, Connection, Error, ErrorCode, FileStore};
 use sqlite_disk::{Disk, Files, Memory};
 use sqlite_pager::Options;
 use std::alloc::Global;
@@ -20,7 +29,7 @@ use std::alloc::Global;
 fn disk_of(alloc: Global, bytes: &[u8]) -> Result<Memory, StoreFault>
     ensures bytes { IfOk result (λ disk. memory_bytes disk ≡ bytes.now) }
     ensures usable { IfOk result (λ disk. IsTrue (memory_is_usable disk)) }
-    ensures named { IfErr result IsRefusal }
+    ensures named { IfErr result IsFailure }
 {
     let mut disk = Memory::new(alloc);
     disk.write_at(0, bytes).map_err(io_fault)?;
@@ -30,7 +39,7 @@ fn disk_of(alloc: Global, bytes: &[u8]) -> Result<Memory, StoreFault>
 /// What memory fails of as a disk is want of memory: `open_files` tells a failed disk where a call on it
 /// failed, and one in memory fails for nothing else.
 fn fault_of_copy(error: Error) -> StoreFault
-    ensures { IsRefusal result }
+    ensures { IsFailure result }
 {
     match error {
         Error::SqliteFailure(ErrorCode::SystemIoFailure) => StoreFault::OutOfMemory,
@@ -46,7 +55,7 @@ pub fn copied(
 ) -> Result<Connection<FileStore<Memory>>, StoreFault>
     ensures idle { IfOk result (λ c. HasCleanDisk (file_state c) → IsIdle (file_state c)) }
     ensures found { IfOk result (λ c. (files : _) × (memory_bytes files.db ≡ db.now) × (memory_bytes files.log ≡ log.now) × (HasCleanDisk (file_state c) → Finds files c)) }
-    ensures named { IfErr result IsRefusal }
+    ensures named { IfErr result IsFailure }
 {
     let files = Files {
         log: disk_of(alloc, log)?,
@@ -62,14 +71,54 @@ pub fn copied(
     }
 }
 
-/// The facts of the book that the bytes of its file and of the log beside it hold, or why there are
-/// none: as `BookStore::load` has it. No table is made where there is none.
-pub fn facts_of_copy(alloc: Global, db: &[u8], log: &[u8]) -> Result<Vec<Fact>, StoreFault>
-    ensures facts { IfOk result (λ facts. AreFactsIn db.now log.now facts.items) }
+/// Whose the database is, or `None` where it has no table, index or view of that name.
+fn said_owner<S: Alter>(connection: &mut Connection<S>) -> Result<Option<Owner>, StoreFault>
+    requires opened { IsClean S.Store connection.old → IsTrue (state S.Store connection.old).is_open }
+    requires idle { IsClean S.Store connection.old → IsIdle (state S.Store connection.old) }
+    ensures early { IsClean S.Store connection.new → IsClean S.Store connection.old }
+    ensures owner { IsClean S.Store connection.new → IfOk result (λ owner. IsTrue (state S.Store connection.new).is_open × SaysOwner owner (state S.Store connection.new).now) }
+    ensures named { IfErr result IsLoadRefusal }
+    ensures idle { IsClean S.Store connection.new → IsIdle (state S.Store connection.new) }
+    ensures kept { IsClean S.Store connection.new → Keeps (state S.Store connection.old) (state S.Store connection.new) }
+{
+    if lacks_owner(connection.schema()) {
+        return Ok(None);
+    }
+    let owner = read_owner(connection)?;
+    Ok(Some(owner))
+}
+
+/// What the database has of a book, the version first, then the owner, then the facts.
+fn read_copy<S: Alter>(
+    alloc: Global,
+    connection: &mut Connection<S>,
+) -> Result<BookCopy, StoreFault>
+    requires { IsClean S.Store connection.old → IsIdle (state S.Store connection.old) }
+    ensures early { IsClean S.Store connection.new → IsClean S.Store connection.old }
+    ensures copy { IsClean S.Store connection.new → IfOk result (λ copy. IsRead (state S.Store connection.new) copy.facts.items × SaysOwner copy.owner (state S.Store connection.new).now) }
+    ensures named { IfErr result IsLoadRefusal }
+    ensures kept { IsClean S.Store connection.new → Keeps (state S.Store connection.old) (state S.Store connection.new) }
+{
+    check_version(connection)?;
+    let owner = said_owner(connection)?;
+    let rows = fact_rows(connection)?;
+    let facts = read_facts(alloc, rows.as_slice())?;
+    Ok(BookCopy {
+        owner,
+        facts,
+        log: 0,
+    })
+}
+
+/// Whose the book is that the bytes of its file and of the log beside it hold, and its facts, or why
+/// there is none: as `BookStore::load` has it, and `Version` where a table of the owner has another
+/// form than a book's, or anything but one owner. No table is made where there is none.
+pub fn book_of_copy(alloc: Global, db: &[u8], log: &[u8]) -> Result<BookCopy, StoreFault>
+    ensures copy { IfOk result (λ copy. IsCopyIn db.now log.now (record { owner = copy.owner; facts = copy.facts.items; log = copy.log })) }
     ensures named { IfErr result IsLoadRefusal }
 {
     let mut connection = copied(alloc, db, log)?;
-    let facts = read_book(alloc, &mut connection);
+    let copy = read_copy(alloc, &mut connection);
     drop(connection);
-    facts
+    copy
 }

@@ -1,7 +1,7 @@
 //! The bytes of a book's two files, as they stand together, read while others may write them.
 
 ghost use Rattle.std.specs.Prelude.{IfErr};
-ghost use Rattle.gi_store.specs.FaultText.{IsRefusal};
+ghost use Rattle.gi_store.specs.FaultText.{IsFailure};
 
 use crate::store_fault::StoreFault;
 use std::alloc::Global;
@@ -23,7 +23,7 @@ const HEAD: u64 = 32;
 const MOST_TRIES: u32 = 64;
 
 pub fn io_fault(error: io::Error) -> StoreFault
-    ensures { IsRefusal result }
+    ensures { IsFailure result }
 {
     match error.kind() {
         io::ErrorKind::OutOfMemory => StoreFault::OutOfMemory,
@@ -33,8 +33,8 @@ pub fn io_fault(error: io::Error) -> StoreFault
 
 /// The plain file of a name, or `None` where nothing is there. A second name is `Store`: the log stands
 /// beside one name alone. What is no plain file is not opened, since a pipe would wait for a writer.
-fn plain_file(rt: &HostRuntime, name: &str) -> Result<Option<fs::File>, StoreFault>
-    ensures { IfErr result IsRefusal }
+pub(crate) fn plain_file(rt: &HostRuntime, name: &str) -> Result<Option<fs::File>, StoreFault>
+    ensures { IfErr result IsFailure }
 {
     match fs::symlink_metadata(rt, name) {
         Ok(found) if found.is_file() && found.nlink() == 1 => {}
@@ -50,7 +50,7 @@ fn plain_file(rt: &HostRuntime, name: &str) -> Result<Option<fs::File>, StoreFau
 
 /// The first bytes of a file, so many at most: none where it is not there.
 fn first_bytes(rt: &HostRuntime, name: &str, most: u64) -> Result<Vec<u8>, StoreFault>
-    ensures { IfErr result IsRefusal }
+    ensures { IfErr result IsFailure }
 {
     let mut bytes = Vec::new(rt.alloc());
     let Some(file) = plain_file(rt, name)? else {
@@ -64,7 +64,7 @@ fn first_bytes(rt: &HostRuntime, name: &str, most: u64) -> Result<Vec<u8>, Store
 
 /// Whether a rollback journal has something to play back: it is there, and does not begin with a zero.
 fn is_hot(rt: &HostRuntime, journal: &str) -> Result<bool, StoreFault>
-    ensures { IfErr result IsRefusal }
+    ensures { IfErr result IsFailure }
 {
     let first = first_bytes(rt, journal, 1)?;
     Ok(!first.is_empty() && first[0] != 0)
@@ -75,7 +75,7 @@ fn is_hot(rt: &HostRuntime, journal: &str) -> Result<bool, StoreFault>
 /// where a rollback journal stands beside them, which only SQLite can play back; and where the log was
 /// begun anew each time that both were read.
 pub fn file_bytes(rt: &HostRuntime, name: &str) -> Result<FileBytes, StoreFault>
-    ensures { IfErr result IsRefusal }
+    ensures { IfErr result IsFailure }
 {
     let real = fs::canonicalize(rt, name).map_err(io_fault)?;
     let journal = format!(in rt.alloc(); "{}-journal", real.as_str())?;

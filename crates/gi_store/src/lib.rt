@@ -1,11 +1,13 @@
 //! The book of a desk: an operator's facts in a database, a row for each batch of 1 to 64.
 //!
-//! A [`BookStore`] is handed a connection, to memory or to a file, and makes the book's two tables
-//! where they are missing ([`prepare`]). It is loaded before it is written, and facts are saved as
-//! the row that comes next, which covers its number and those after it, one for each fact:
+//! A [`BookStore`] is handed a connection, to memory or to a file, and the [`Owner`] of the book, and
+//! makes the book's three tables where they are missing ([`prepare`]). Another owner's book it
+//! refuses, and an older one, which says no owner, is given this. It is loaded before it is written,
+//! and facts are saved as the row that comes next, which covers its number and those after it, one
+//! for each fact:
 //!
 //! ```text
-//! let mut book = BookStore::open(alloc, connection).map_err(|back| back.1)?; // `back.0` is the connection
+//! let mut book = BookStore::open(alloc, connection, owner).map_err(|back| back.1)?; // `back.0` is the connection
 //! let facts = book.load()?;                  // all of them, or the first gap or damaged row
 //! book.save_next(n, &fact)?;                 // row n, for good once this is `Ok`
 //! book.save_batch(n + 1, &facts)?;           // up to 64 facts in one row, by one insert
@@ -23,12 +25,20 @@
 
 mod batches;
 mod book_store;
+mod chain;
+mod checking;
+mod closing;
 mod copies;
+mod digest;
 mod file_bytes;
 mod files;
+mod head;
+mod head_file;
 mod laws;
 mod loading;
 mod making;
+mod owner;
+mod owning;
 mod preparing;
 mod reading;
 mod saving;
@@ -36,12 +46,20 @@ mod source;
 mod statements;
 mod store_fault;
 mod tables;
+mod telling;
 mod version;
 
 pub use batches::{MOST_BYTES, fitting};
 pub use book_store::BookStore;
-pub use files::{FileSource, book_of_file};
+pub use chain::{digest_goes_on, digest_of};
+pub use checking::checked;
+pub use closing::close_book;
+pub use digest::Digest;
+pub use files::{FileSource, book_of_file, head_of_file, left_head};
+pub use head::Head;
+pub use head_file::HeadFile;
 pub use laws::{memory_is_clean, memory_never_fails};
+pub use owner::Owner;
 pub use preparing::prepare;
-pub use source::BookSource;
+pub use source::{BookCopy, BookSource};
 pub use store_fault::StoreFault;

@@ -4,17 +4,18 @@ ghost use Rattle.std.specs.Prelude.{◌≡◌, false, IsTrue, OnOk, OnErr};
 ghost use Rattle.gi_store.specs.Clean.{IsClean};
 ghost use Rattle.sqlite.specs.Held.{state};
 ghost use Rattle.sqlite.specs.State.{KeepsCommit, Survives};
-ghost use Rattle.gi_store.specs.Keeping.{IsMade, KeepsCommitted, LeavesOrMakes, MakesBook};
-ghost use Rattle.gi_store.specs.Tables.{IsFree};
+ghost use Rattle.gi_store.specs.Keeping.{AddsName, IsFirstBook, IsMade, KeepsCommitted, LeavesOr, MakesNamed, MakesThird, MakesTwo};
+ghost use Rattle.gi_store.specs.Tables.{IsFree, TakesOwner};
 
+use sqlite::types::ToSql;
 use sqlite::{Alter, Connection, Error, Transaction};
 
-/// Writes the two tables and the row of the version.
+/// Writes the two tables that every book has, and the row of the version.
 fn write_book<S: Alter>(tx: &mut Transaction<'_, S>) -> Result<usize, Error>
     requires inside { IsTrue (state S.Store tx.old.conn.now).in_transaction }
     requires free { IsFree (state S.Store tx.old.conn.now).now.schema }
     ensures same_reference { tx.new.conn.ghost_name ≡ tx.old.conn.ghost_name }
-    ensures made { IsClean S.Store tx.new.conn.now → OnOk result (IsTrue (state S.Store tx.new.conn.now).in_transaction × MakesBook (state S.Store tx.old.conn.now).now (state S.Store tx.new.conn.now).now) }
+    ensures made { IsClean S.Store tx.new.conn.now → OnOk result (IsTrue (state S.Store tx.new.conn.now).in_transaction × MakesTwo (state S.Store tx.old.conn.now).now (state S.Store tx.new.conn.now).now) }
     ensures kept { IsClean S.Store tx.new.conn.now → KeepsCommit (state S.Store tx.old.conn.now) (state S.Store tx.new.conn.now) }
     ensures survives { Survives (state S.Store tx.old.conn.now) (state S.Store tx.new.conn.now) (λ _. ⊥) }
 {
@@ -29,17 +30,66 @@ fn write_book<S: Alter>(tx: &mut Transaction<'_, S>) -> Result<usize, Error>
     tx.execute("INSERT INTO book (id, version) VALUES (1, 1)", &[])
 }
 
-/// In one transaction, so that no crash leaves one table without the other, or both without the version.
-pub fn make_tables<S: Alter>(connection: &mut Connection<S>) -> Result<(), Error>
+/// Writes the table of the owner, and the row of its name.
+fn write_owner<S: Alter>(tx: &mut Transaction<'_, S>, name: &str) -> Result<usize, Error>
+    requires takes { IsClean S.Store tx.old.conn.now → IsTrue (state S.Store tx.old.conn.now).in_transaction × TakesOwner (state S.Store tx.old.conn.now).now.schema }
+    ensures same_reference { tx.new.conn.ghost_name ≡ tx.old.conn.ghost_name }
+    ensures made { IsClean S.Store tx.new.conn.now → OnOk result (IsTrue (state S.Store tx.new.conn.now).in_transaction × MakesThird name.now (state S.Store tx.old.conn.now).now (state S.Store tx.new.conn.now).now) }
+    ensures kept { IsClean S.Store tx.new.conn.now → KeepsCommit (state S.Store tx.old.conn.now) (state S.Store tx.new.conn.now) }
+    ensures survives { Survives (state S.Store tx.old.conn.now) (state S.Store tx.new.conn.now) (λ _. ⊥) }
+{
+    let number = 1u32.to_sql();
+    let text = name.to_sql();
+    tx.execute(
+        "CREATE TABLE owner (id INTEGER PRIMARY KEY, name TEXT NOT NULL)",
+        &[],
+    )?;
+    tx.execute(
+        "INSERT INTO owner (id, name) VALUES (?1, ?2)",
+        &[number, text],
+    )
+}
+
+/// Writes the three tables, and both rows.
+fn write_all<S: Alter>(tx: &mut Transaction<'_, S>, name: &str) -> Result<usize, Error>
+    requires inside { IsTrue (state S.Store tx.old.conn.now).in_transaction }
+    requires free { IsFree (state S.Store tx.old.conn.now).now.schema }
+    ensures same_reference { tx.new.conn.ghost_name ≡ tx.old.conn.ghost_name }
+    ensures made { IsClean S.Store tx.new.conn.now → OnOk result (IsTrue (state S.Store tx.new.conn.now).in_transaction × MakesNamed name.now (state S.Store tx.old.conn.now).now (state S.Store tx.new.conn.now).now) }
+    ensures kept { IsClean S.Store tx.new.conn.now → KeepsCommit (state S.Store tx.old.conn.now) (state S.Store tx.new.conn.now) }
+    ensures survives { Survives (state S.Store tx.old.conn.now) (state S.Store tx.new.conn.now) (λ _. ⊥) }
+{
+    write_book(tx)?;
+    write_owner(tx, name)
+}
+
+/// In one transaction, so that no crash leaves one table without the others, or all without the rows.
+pub fn make_tables<S: Alter>(connection: &mut Connection<S>, name: &str) -> Result<(), Error>
     requires autocommit { (state S.Store connection.old).in_transaction ≡ false }
     requires free { IsFree (state S.Store connection.old).now.schema }
     ensures early { IsClean S.Store connection.new → IsClean S.Store connection.old }
     ensures ended { (state S.Store connection.new).in_transaction ≡ false }
-    ensures made { IsClean S.Store connection.new → OnOk result (IsMade (state S.Store connection.old) (state S.Store connection.new)) }
+    ensures made { IsClean S.Store connection.new → OnOk result (IsMade (MakesNamed name.now) (state S.Store connection.old) (state S.Store connection.new)) }
     ensures kept { IsClean S.Store connection.new → OnErr result (KeepsCommitted (state S.Store connection.old) (state S.Store connection.new)) }
-    ensures crash { IsClean S.Store connection.new → LeavesOrMakes (state S.Store connection.old) (state S.Store connection.new) }
+    ensures crash { IsClean S.Store connection.new → LeavesOr (MakesNamed name.now) (state S.Store connection.old) (state S.Store connection.new) }
 {
     let mut tx = connection.transaction();
-    write_book(&mut tx)?;
+    write_all(&mut tx, name)?;
+    tx.commit()
+}
+
+/// In one transaction, so that no crash leaves the table without its row.
+pub fn add_owner<S: Alter>(connection: &mut Connection<S>, name: &str) -> Result<(), Error>
+    requires autocommit { (state S.Store connection.old).in_transaction ≡ false }
+    requires takes { TakesOwner (state S.Store connection.old).now.schema }
+    requires book { IsClean S.Store connection.old → IsFirstBook (state S.Store connection.old).now }
+    ensures early { IsClean S.Store connection.new → IsClean S.Store connection.old }
+    ensures ended { (state S.Store connection.new).in_transaction ≡ false }
+    ensures made { IsClean S.Store connection.new → OnOk result (IsMade (AddsName name.now) (state S.Store connection.old) (state S.Store connection.new)) }
+    ensures kept { IsClean S.Store connection.new → OnErr result (KeepsCommitted (state S.Store connection.old) (state S.Store connection.new)) }
+    ensures crash { IsClean S.Store connection.new → LeavesOr (AddsName name.now) (state S.Store connection.old) (state S.Store connection.new) }
+{
+    let mut tx = connection.transaction();
+    write_owner(&mut tx, name)?;
     tx.commit()
 }

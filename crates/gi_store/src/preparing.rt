@@ -1,44 +1,62 @@
-//! A database is made ready to hold a book.
+//! A database is made ready to hold an owner's book.
 
-ghost use Rattle.std.specs.Prelude.{◌≡◌, false, Err, IfErr, OnErr, OnOk, IsTrue};
+ghost use Rattle.std.specs.Prelude.{◌≡◌, ◌≢◌, ◌⊎◌, false, Err, IfErr, IsErrAnd, OnErr, OnOk, IsTrue};
+ghost use Rattle.gi_pairs.specs.Code.{IsCode};
 ghost use Rattle.gi_store.specs.Clean.{IsClean};
 ghost use Rattle.sqlite.specs.Held.{state};
-ghost use Rattle.gi_store.specs.Keeping.{IsReady, Keeps, KeepsOrMakes, LeavesOrMakes};
-ghost use Rattle.gi_store.specs.Failing.{IsCaused};
-ghost use Rattle.gi_store.specs.FaultText.{IsRefusal};
+ghost use Rattle.gi_store.specs.Keeping.{IsBookOf, IsReady, Keeps, KeepsOrMakes, LeavesOrMakes};
+ghost use Rattle.gi_store.specs.Failing.{IsCausedAtAll};
+ghost use Rattle.gi_store.specs.FaultText.{IsFailure, IsPreparingRefusal};
 ghost use Rattle.gi_store.specs.Opening.{IsOpenFault};
-ghost use Rattle.gi_store.specs.Tables.{HasTables, IsFree};
-ghost use Rattle.gi_store.specs.declared.store_fault.StoreFault.TheVariants.{Store, Version};
+ghost use Rattle.gi_store.specs.Tables.{HasTables, IsFree, TakesOwner};
+ghost use Rattle.gi_store.specs.declared.store_fault.StoreFault.TheVariants.{OtherBook, Store, Version};
 
 use crate::making::make_tables;
+use crate::owner::Owner;
+use crate::owning::own;
 use crate::store_fault::StoreFault;
 use crate::tables::is_free;
 use crate::version::check_version;
 use sqlite::{Alter, Connection};
+use std::alloc::Global;
 
-/// Makes the two tables of a book and the row of its version, all in one transaction, where
-/// neither table is there; other tables stay as they are. Takes a book of version 1 as it is, with
-/// its tables in any order and beside others. `Version` where there is one table without the
-/// other, one of other columns, another version or none, or something else of these names.
-/// `Store` also where a transaction is under way. No row that was there is changed.
-pub fn prepare<S: Alter>(connection: &mut Connection<S>) -> Result<(), StoreFault>
+/// Makes the three tables of this owner's book, with the rows of its version and of the owner, all in
+/// one transaction, where none of the three is there; other tables stay as they are. Takes a book of
+/// version 1 that is the owner's as it is, with its tables in any order and beside others. Of an older
+/// book, which says no owner, the table and the row of the owner are added, in one transaction.
+/// `Version` where there is one of the first two tables without the other, one of other columns,
+/// another version or none, a table of the owner of other columns or with anything but one owner, or
+/// something else of these names; then `OtherBook` where it is another owner's. `Store` also where a
+/// transaction is under way. No row that was there is changed.
+#[tactic(auto, using(crate::proofs::Whose::ready_new, crate::proofs::Whose::keeps_new, crate::proofs::Whose::leaves_new, crate::proofs::Whose::keeps_later, crate::proofs::Whose::leaves_later, crate::proofs::Whose::version_refused, crate::proofs::Whose::owner_refused, crate::proofs::Causes::at_all, crate::proofs::Causes::at_all_later))]
+pub fn prepare<S: Alter>(
+    alloc: Global,
+    connection: &mut Connection<S>,
+    owner: Owner,
+) -> Result<(), StoreFault>
     ensures early { IsClean S.Store connection.new → IsClean S.Store connection.old }
 
-    // On `Ok` the database is a book of version 1.
-    ensures ready { IsClean S.Store connection.new → OnOk result (IsReady (state S.Store connection.new)) }
+    // On `Ok` the database is this owner's book of version 1.
+    ensures ready { IsClean S.Store connection.new → OnOk result (IsReady owner (state S.Store connection.new)) }
 
-    // `Version` means that there was no such book, and that none could be made.
-    ensures refused { IsClean S.Store connection.new → IfErr result (IsOpenFault (state S.Store connection.old)) }
+    // `Version` means that there was no such book, and that none could be made; `OtherBook` that there
+    // was the one of that owner, and it is another.
+    ensures refused { IsClean S.Store connection.new → IfErr result (IsOpenFault owner (state S.Store connection.old)) }
+    ensures named { IfErr result IsPreparingRefusal }
 
-    ensures named { IfErr result IsRefusal }
+    // Another owner's book is told so, or else that it cannot be read.
+    ensures owned { IsClean S.Store connection.new → (state S.Store connection.old).in_transaction ≡ false → (theirs : _) → IsCode theirs.point → IsBookOf theirs (state S.Store connection.old).now → theirs ≢ owner
+        → IsErrAnd result (λ fault. (fault ≡ OtherBook theirs) ⊎ IsFailure fault) }
 
-    // Where a transaction is under way nothing is looked at; else other tables of these names are
-    // `Version`, whatever the disk does.
+    // Where a transaction is under way nothing is looked at; else other tables of the first two names
+    // are `Version`, whatever the disk does.
     ensures busy { IsTrue (state S.Store connection.old).in_transaction → result ≡ Err Store }
     ensures other { (state S.Store connection.old).in_transaction ≡ false → ¬ (IsFree (state S.Store connection.old).now.schema) → ¬ (HasTables (state S.Store connection.old).now.schema) → result ≡ Err Version }
 
-    // Where the tables cannot be made `Store` is told where the rows of the version could not be read.
-    ensures failed { IsClean S.Store connection.new → (state S.Store connection.old).in_transaction ≡ false → ¬ (IsFree (state S.Store connection.old).now.schema) → IfErr result (IsCaused (state S.Store connection.old) (state S.Store connection.new)) }
+    // Where nothing can be made `Store` is told where the rows of the version or of the owner could not
+    // be read.
+    ensures failed { IsClean S.Store connection.new → (state S.Store connection.old).in_transaction ≡ false → ¬ (IsFree (state S.Store connection.old).now.schema) → ¬ (TakesOwner (state S.Store connection.old).now.schema)
+        → IfErr result (IsCausedAtAll (state S.Store connection.old) (state S.Store connection.new)) }
 
     // A refusal leaves what can be read as it was.
     ensures unmade { IsClean S.Store connection.new → OnErr result (Keeps (state S.Store connection.old) (state S.Store connection.new)) }
@@ -46,18 +64,21 @@ pub fn prepare<S: Alter>(connection: &mut Connection<S>) -> Result<(), StoreFaul
     // Its own transaction is over whatever comes of it, and one that was under way before still is.
     ensures mode { (state S.Store connection.new).in_transaction ≡ (state S.Store connection.old).in_transaction }
 
-    // What was there stays, with a new book beside it or without.
-    ensures kept { IsClean S.Store connection.new → IsTrue (state S.Store connection.new).is_open → KeepsOrMakes (state S.Store connection.old) (state S.Store connection.new) }
+    // What was there stays, with a new book beside it, with the owner of an older one, or with neither.
+    ensures kept { IsClean S.Store connection.new → IsTrue (state S.Store connection.new).is_open → KeepsOrMakes owner (state S.Store connection.old) (state S.Store connection.new) }
 
-    // A crash at any moment leaves what it could leave before, or what was there with a new book.
-    ensures crash { IsClean S.Store connection.new → LeavesOrMakes (state S.Store connection.old) (state S.Store connection.new) }
+    // A crash at any moment leaves what it could leave before, what was there with a new book, or an
+    // older book with its owner.
+    ensures crash { IsClean S.Store connection.new → LeavesOrMakes owner (state S.Store connection.old) (state S.Store connection.new) }
 {
     if !connection.is_autocommit() {
         return Err(StoreFault::Store);
     }
     if is_free(connection.schema()) {
-        make_tables(connection)?;
+        let name = owner.text(alloc)?;
+        make_tables(connection, name.as_str())?;
         return Ok(());
     }
-    check_version(connection)
+    check_version(connection)?;
+    own(alloc, connection, owner)
 }

@@ -3,12 +3,12 @@
 ghost use Rattle.std.specs.Prelude.{◌≡◌, false, IsTrue, IfErr, IfOk, OnOk, OnErr, IsPermutation};
 ghost use Rattle.gi_store.specs.Clean.{IsClean};
 ghost use Rattle.sqlite.specs.Held.{state};
-ghost use Rattle.gi_store.specs.Failing.{Endures, IsCaused};
+ghost use Rattle.gi_store.specs.Failing.{Endures, IsCaused, IsCausedAtAll};
 ghost use Rattle.gi_store.specs.FaultText.{fault_of};
 ghost use Rattle.gi_store.specs.Keeping.{IsIdle, Keeps, AddsNoOutcome, PutsRow, MayPutRow};
 ghost use Rattle.gi_store.specs.Order.{ArePutInOrder};
-ghost use Rattle.gi_store.specs.Rows.{facts_in, versions_in};
-ghost use Rattle.gi_store.specs.Tables.{HasTables};
+ghost use Rattle.gi_store.specs.Rows.{facts_in, names_in, versions_in};
+ghost use Rattle.gi_store.specs.Tables.{HasOwnerTable, HasTables};
 
 use sqlite::types::{ToSql, ValueRef};
 use sqlite::{Alter, Connection, Error, Row};
@@ -27,6 +27,22 @@ pub fn book_rows<S: Alter>(connection: &mut Connection<S>) -> Result<Vec<Row>, E
     ensures failed { IsClean S.Store connection.new → IfErr result (λ e. IsCaused (state S.Store connection.old) (state S.Store connection.new) (fault_of e)) }
 {
     connection.query_all("SELECT * FROM book", &[])
+}
+
+pub fn owner_rows<S: Alter>(connection: &mut Connection<S>) -> Result<Vec<Row>, Error>
+    requires table { HasOwnerTable (state S.Store connection.old).now.schema }
+    requires idle { IsClean S.Store connection.old → IsIdle (state S.Store connection.old) }
+    ensures early { IsClean S.Store connection.new → IsClean S.Store connection.old }
+    ensures mode { (state S.Store connection.old).in_transaction ≡ false → (state S.Store connection.new).in_transaction ≡ false }
+    ensures rows { IsClean S.Store connection.new → IfOk result (λ rows. IsPermutation (names_in (state S.Store connection.new).now) rows.items) }
+    ensures opened { IsClean S.Store connection.new → OnOk result (IsTrue (state S.Store connection.new).is_open) }
+    ensures idle { IsClean S.Store connection.new → IsIdle (state S.Store connection.new) }
+    ensures kept { IsClean S.Store connection.new → Keeps (state S.Store connection.old) (state S.Store connection.new) }
+    ensures crash { IsClean S.Store connection.new → AddsNoOutcome (state S.Store connection.old) (state S.Store connection.new) }
+    ensures endures { IsClean S.Store connection.new → Endures (state S.Store connection.old) (state S.Store connection.new) }
+    ensures failed { IsClean S.Store connection.new → IfErr result (λ e. IsCausedAtAll (state S.Store connection.old) (state S.Store connection.new) (fault_of e)) }
+{
+    connection.query_all("SELECT * FROM owner", &[])
 }
 
 pub fn fact_rows<S: Alter>(connection: &mut Connection<S>) -> Result<Vec<Row>, Error>

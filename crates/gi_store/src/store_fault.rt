@@ -1,5 +1,6 @@
 ghost use Rattle.std.specs.Prelude.{◌≡◌, Some};
 
+use crate::owner::Owner;
 use sqlite::ErrorCode;
 use std::alloc::{AllocError, AllocFailed};
 use std::error::Error;
@@ -10,6 +11,8 @@ use std::fmt;
 pub enum StoreFault {
     /// The database is no book of version 1.
     Version,
+    /// The book is of another side or point: of these.
+    OtherBook(Owner),
     /// This number comes next, and the next row has a higher one.
     Gap(u64),
     /// The row with this number is neither a fact nor an array of 2 to 64 facts, or its number is
@@ -21,6 +24,10 @@ pub enum StoreFault {
     NotLoaded,
     /// The fact that comes next has another number, this one.
     NotNext { expected: u32 },
+    /// The head beside the book tells so many facts, and the book has fewer, or others.
+    Lost(u32),
+    /// What stands beside the book as its head is none.
+    Head,
     /// Another process has the book open.
     Busy,
     /// The database failed.
@@ -70,11 +77,14 @@ impl fmt::Display for StoreFault {
     fn fmt<W: fmt::Write>(&self, f: &mut fmt::Formatter<W>) -> fmt::Result {
         f.write_str(match self {
             StoreFault::Version => "Version",
+            StoreFault::OtherBook(theirs) => return write!(f, "OtherBook {theirs}"),
             StoreFault::Gap(n) => return write!(f, "Gap {n}"),
             StoreFault::Damaged(n) => return write!(f, "Damaged {n}"),
             StoreFault::BatchSize => "BatchSize",
             StoreFault::NotLoaded => "NotLoaded",
             StoreFault::NotNext { expected } => return write!(f, "NotNext {expected}"),
+            StoreFault::Lost(n) => return write!(f, "Lost {n}"),
+            StoreFault::Head => "Head",
             StoreFault::Busy => "Busy",
             StoreFault::Store => "Store",
             StoreFault::OutOfMemory => "OutOfMemory",

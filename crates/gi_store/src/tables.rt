@@ -1,8 +1,8 @@
-//! Whether a database has a book's two tables, or can take them.
+//! Whether a database has a book's tables, or can take them.
 
 ghost use Rattle.std.specs.Prelude.{◌≡◌, ◌↔◌, [], ◌∷◌, true, false, Some, IsTrue, is_some, option_and_then, slice_get};
 ghost use Rattle.std.specs.List.{list_any};
-ghost use Rattle.gi_store.specs.Tables.{IsBare, IsFree, HasTables, named_column, plain_table, table_at, tree_of};
+ghost use Rattle.gi_store.specs.Tables.{IsBare, IsFree, HasOwnerTable, HasTables, LacksOwner, TakesOwner, named_column, plain_table, table_at, tree_of};
 ghost use Rattle.sqlite.specs.Does.{lacks_sequence};
 ghost use Rattle.sqlite_schema.specs.Names.{table_named};
 ghost use Rattle.sqlite_schema.specs.declared.schema.Kind.TheVariants.{Integer};
@@ -94,6 +94,12 @@ pub fn is_book(schema: &Schema) -> bool
         && lists_table(schema, b"facts", b"n", b"body", Kind::Text)
 }
 
+pub fn has_owner(schema: &Schema) -> bool
+    ensures { IsTrue result ↔ HasOwnerTable schema.now }
+{
+    lists_table(schema, b"owner", b"id", b"name", Kind::Text)
+}
+
 fn any_counted(tables: &[Table]) -> bool
     ensures { result ≡ list_any (λ t. t.is_counted) tables.now }
 {
@@ -116,8 +122,20 @@ fn lists(schema: &Schema, name: &[u8]) -> bool
     }
 }
 
+pub fn lacks_owner(schema: &Schema) -> bool
+    ensures { IsTrue result ↔ LacksOwner schema.now }
+{
+    !is_used(schema, b"owner")
+}
+
+pub fn takes_owner(schema: &Schema) -> bool
+    ensures { IsTrue result ↔ TakesOwner schema.now }
+{
+    lacks_owner(schema) && !lacks_sequence(schema)
+}
+
 pub fn is_free(schema: &Schema) -> bool
     ensures { IsTrue result ↔ IsFree schema.now }
 {
-    !is_used(schema, b"book") && !is_used(schema, b"facts") && !lacks_sequence(schema)
+    !is_used(schema, b"book") && !is_used(schema, b"facts") && takes_owner(schema)
 }

@@ -5,8 +5,8 @@ use gi_calls::{Answer, Fault, Words};
 use gi_desk::Desk;
 use gi_facts::{Fact, encode_fact};
 use gi_initiator::Initiating;
-use gi_pairs::Code;
-use gi_store::{BookStore, StoreFault, prepare};
+use gi_pairs::{Code, Side};
+use gi_store::{BookStore, Owner, StoreFault, prepare};
 use sqlite::{Alter, Connection};
 use std::alloc::Global;
 use std::mem::ManuallyDrop;
@@ -52,6 +52,18 @@ fn point_of(call: &str) -> Option<Code> {
     words.code()
 }
 
+/// Whose the book is: what the words after the first one say, or else side I's at BORDER-1.
+fn owner_of(call: &str) -> Option<Owner> {
+    let mut words = Words::of(call);
+    words.next();
+    let side = words.side().unwrap_or(Side::I);
+    let point = match words.code() {
+        Some(point) => point,
+        None => Code::read("BORDER-1").ok()?,
+    };
+    Some(Owner { side, point })
+}
+
 /// Adds how many facts there are, and a line of each.
 fn add_facts(alloc: Global, facts: &[Fact], text: &mut Answer) -> Result<(), Fault> {
     let count = facts.len();
@@ -83,7 +95,12 @@ fn add_loaded(
 
 /// Makes a statement and adds how many rows it changed, or the first row that a query shows; or makes
 /// the tables of a book, or looks whether they are there.
-fn on_connection<S: Alter>(connection: &mut Connection<S>, call: &str, text: &mut Answer) -> bool {
+fn on_connection<S: Alter>(
+    alloc: Global,
+    connection: &mut Connection<S>,
+    call: &str,
+    text: &mut Answer,
+) -> bool {
     let mut words = Words::of(call);
     match words.next() {
         "sql" => text.value(&connection.execute(words.rest(), &[])),
@@ -94,7 +111,12 @@ fn on_connection<S: Alter>(connection: &mut Connection<S>, call: &str, text: &mu
             // field on each way out)
             drop(found);
         }
-        _ => text.done(&prepare(connection)),
+        _ => {
+            let Some(owner) = owner_of(call) else {
+                return false;
+            };
+            text.done(&prepare(alloc, connection, owner));
+        }
     }
     true
 }
@@ -198,11 +220,11 @@ impl<S: Alter + Drop> Opened<S> {
     }
 
     /// Opens the database as a book, once.
-    fn open(&mut self, alloc: Global, text: &mut Answer) -> bool {
-        let Some(connection) = self.connection.take() else {
+    fn open(&mut self, alloc: Global, call: &str, text: &mut Answer) -> bool {
+        let (Some(owner), Some(connection)) = (owner_of(call), self.connection.take()) else {
             return false;
         };
-        match BookStore::open(alloc, connection) {
+        match BookStore::open(alloc, connection, owner) {
             Ok(book) => {
                 // (there was none: the connection is taken once)
                 let _none = unsafe { ManuallyDrop::new_unchecked(self.book.replace(book)) };
@@ -241,10 +263,10 @@ impl<S: Alter + Drop> Opened<S> {
                 self.close();
                 Ok(true)
             }
-            Part::Opening => Ok(self.open(alloc, text)),
+            Part::Opening => Ok(self.open(alloc, call, text)),
             Part::Replay => Ok(self.replay(alloc, call, text)),
             Part::Connection => match &mut self.connection {
-                Some(connection) => Ok(on_connection(connection, call, text)),
+                Some(connection) => Ok(on_connection(alloc, connection, call, text)),
                 None => Ok(false),
             },
             Part::Book => match &mut self.book {

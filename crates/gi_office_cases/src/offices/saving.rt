@@ -8,14 +8,20 @@ use crate::books::batches::facts_of;
 use gi_calls::{Answer, Words};
 use gi_facts::Fact;
 use gi_office::{SaveFault, Turn};
-use gi_store::{BookStore, StoreFault};
+use gi_pairs::{Code, Side};
+use gi_store::{BookStore, Owner, StoreFault};
 use sqlite::{Connection, MemStore};
 use std::alloc::Global;
 
 /// A new book in memory, which is not loaded.
 pub fn new_book(alloc: Global) -> Option<BookStore<MemStore>> {
+    let point = Code::read("BORDER-1").ok()?;
     let connection = Connection::open_in_memory(alloc).ok()?;
-    BookStore::open(alloc, connection).ok()
+    let owner = Owner {
+        side: Side::I,
+        point,
+    };
+    BookStore::open(alloc, connection, owner).ok()
 }
 
 /// Adds `ok` and a number, or why a call was refused.

@@ -13,4 +13,5 @@ invariant_of-self-2 g c =
         idle = c.read_book.ensures.idle clean;
         known = read_known (state g.S.Store c.read_book.new.connection) c.in_ok-facts.facts.items (c.in_ok-facts.ensures.facts clean);
       },
+      rw is at c.kept_on.ensures.told,
     )

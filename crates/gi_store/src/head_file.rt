@@ -1,0 +1,230 @@
+//! The file beside a book that has its head: `FILE-head`.
+
+ghost use Rattle.std.specs.Prelude.{◌≡◌, ◌+◌, ◌<◌, ◌^◌, IfErr, IfOk, IfSome, IsSome, OnErr, OnOk, length};
+ghost use Rattle.gi_store.specs.FaultText.{IsFailure, IsKeepingFault};
+ghost use Rattle.gi_store.specs.Book.{IsToldOf};
+ghost use Rattle.gi_store.specs.Heads.{told_after, told_on};
+
+use crate::file_bytes::{io_fault, plain_file};
+use crate::head::{Head, LENGTH};
+use crate::store_fault::StoreFault;
+use gi_facts::Fact;
+use std::alloc::{AllocError, Global};
+use std::fs;
+use std::io::Read;
+use std::marker::Model;
+use std::os::unix::fs::{FileExt, OpenOptionsExt};
+
+/// The open file of a head. A contract sees the head that was written into it last: what the file
+/// holds no clause can name.
+#[derive(Drop)]
+pub struct HeadFile {
+    file: fs::File,
+    told: Head,
+}
+
+impl Model for HeadFile {
+    ghost use Rattle.gi_store.specs.declared.head.Head.{Head};
+
+    ghost Value = { Head };
+
+    ghost view = { λ kept. kept.told };
+}
+
+impl HeadFile {
+    /// The head that the file tells.
+    pub fn told(&self) -> Head
+        ensures { result ≡ self.now }
+    {
+        self.told
+    }
+
+    /// Writes the head over the one before, with no sync.
+    pub fn put(&mut self, head: Head) -> Result<(), StoreFault>
+        ensures told { OnOk result (self.new ≡ head) }
+        ensures failed { IfErr result IsFailure }
+    {
+        match self.file.write_all_at(head.text().as_slice(), 0) {
+            Ok(()) => {
+                self.told = head;
+                Ok(())
+            }
+            Err(error) => Err(io_fault(error)),
+        }
+    }
+
+    /// Waits until the disk has the head.
+    pub fn sync(&self) -> Result<(), StoreFault>
+        ensures { IfErr result IsFailure }
+    {
+        match self.file.sync_data() {
+            Ok(()) => Ok(()),
+            Err(error) => Err(io_fault(error)),
+        }
+    }
+}
+
+/// The head that a kept one becomes by these facts. It fails only for want of memory.
+pub(crate) fn next_head(
+    alloc: Global,
+    kept: &Option<HeadFile>,
+    facts: &[Fact],
+) -> Result<Option<Head>, AllocError>
+    requires { length facts.now < 2 ^ 32 }
+    ensures { IfOk result (λ next. next ≡ told_after kept.now facts.now) }
+{
+    let Some(file) = kept else {
+        return Ok(None);
+    };
+    let head = file.told();
+    if (head.facts as usize) + facts.len() < u32::MAX as usize {
+        Ok(Some(head.then(alloc, facts)?))
+    } else {
+        Ok(None)
+    }
+}
+
+/// The kept head is told, where it goes on.
+pub(crate) fn put_head(
+    kept: Option<HeadFile>,
+    next: Option<Head>,
+) -> Result<Option<HeadFile>, StoreFault>
+    requires { IsSome next → IsSome kept }
+    ensures told { IfOk result (λ now. now ≡ next) }
+    ensures failed { IfErr result IsFailure }
+    ensures kept { OnErr result (IsSome kept) }
+{
+    let (Some(mut file), Some(head)) = (kept, next) else {
+        return Ok(None);
+    };
+    file.put(head)?;
+    Ok(Some(file))
+}
+
+/// The head that is kept on with a book that was read again and has so many facts: as many as it tells.
+pub(crate) fn kept_on(head: Option<HeadFile>, loaded: Option<u32>) -> Option<HeadFile>
+    ensures value { result ≡ told_on head loaded }
+    ensures told { IsToldOf loaded result }
+{
+    let Some(file) = head else {
+        return None;
+    };
+    if loaded == Some(file.told().facts) {
+        Some(file)
+    } else {
+        None
+    }
+}
+
+/// The real name of a book's file, and that of its head.
+pub(crate) fn head_name(rt: &HostRuntime, book: &str) -> Result<String, StoreFault>
+    ensures { IfErr result IsFailure }
+{
+    let real = fs::canonicalize(rt, book).map_err(io_fault)?;
+    Ok(format!(in rt.alloc(); "{}-head", real.as_str())?)
+}
+
+fn head_in(rt: &HostRuntime, file: fs::File) -> Result<Head, StoreFault>
+    ensures { IfErr result IsKeepingFault }
+{
+    let mut bytes = Vec::new(rt.alloc());
+    if let Err(error) = file.take(LENGTH as u64 + 1).read_to_end(&mut bytes) {
+        return Err(io_fault(error));
+    }
+    match Head::read(&bytes) {
+        Some(head) => Ok(head),
+        None => Err(StoreFault::Head),
+    }
+}
+
+/// The head in the file of this name: none where it is missing, and `Head` where its bytes are none.
+pub(crate) fn read_head(rt: &HostRuntime, name: &str) -> Result<Option<Head>, StoreFault>
+    ensures { IfErr result IsKeepingFault }
+{
+    match plain_file(rt, name)? {
+        Some(file) => Ok(Some(head_in(rt, file)?)),
+        None => Ok(None),
+    }
+}
+
+/// The head beside this book, read as `read_head` does.
+pub(crate) fn head_beside(rt: &HostRuntime, book: &str) -> Result<Option<Head>, StoreFault>
+    ensures { IfErr result IsKeepingFault }
+{
+    let name = head_name(rt, book)?;
+    read_head(rt, name.as_str())
+}
+
+fn opened(rt: &HostRuntime, name: &str, told: Head) -> Result<HeadFile, StoreFault>
+    ensures told { IfOk result (λ kept. kept ≡ told) }
+    ensures failed { IfErr result IsFailure }
+{
+    match fs::OpenOptions::new().read(true).write(true).open(rt, name) {
+        Ok(file) => Ok(HeadFile { file, told }),
+        Err(error) => Err(io_fault(error)),
+    }
+}
+
+fn created(rt: &HostRuntime, name: &str) -> Result<fs::File, StoreFault>
+    ensures { IfErr result IsFailure }
+{
+    let mut options = fs::OpenOptions::new();
+    options
+        .read(true)
+        .write(true)
+        .create(true)
+        .truncate(true)
+        .mode(0o600);
+    match options.open(rt, name) {
+        Ok(file) => Ok(file),
+        Err(error) => Err(io_fault(error)),
+    }
+}
+
+/// A new file of this name with this head: it is written whole under another name, so that a kill
+/// leaves no half of one.
+fn made(rt: &HostRuntime, name: &str, head: Head) -> Result<HeadFile, StoreFault>
+    ensures told { IfOk result (λ kept. kept ≡ head) }
+    ensures failed { IfErr result IsFailure }
+{
+    let fresh = format!(in rt.alloc(); "{name}.new")?;
+    let file = created(rt, fresh.as_str())?;
+    let mut kept = HeadFile { file, told: head };
+    kept.put(head)?;
+    kept.sync()?;
+    match fs::rename(rt, fresh.as_str(), name) {
+        Ok(()) => Ok(kept),
+        Err(error) => Err(io_fault(error)),
+    }
+}
+
+/// The file of this name, open, with this head written into it, whether it was there or not.
+pub(crate) fn kept_file(
+    rt: &HostRuntime,
+    name: &str,
+    was_there: bool,
+    head: Head,
+) -> Result<HeadFile, StoreFault>
+    ensures told { IfOk result (λ kept. kept ≡ head) }
+    ensures failed { IfErr result IsFailure }
+{
+    if !was_there {
+        return made(rt, name, head);
+    }
+    let mut kept = opened(rt, name, head)?;
+    kept.put(head)?;
+    Ok(kept)
+}
+
+/// Waits until the disk has what the file of this name holds, where it is there.
+pub(crate) fn sync_file(rt: &HostRuntime, name: &str) -> Result<(), StoreFault>
+    ensures { IfErr result IsFailure }
+{
+    let Some(file) = plain_file(rt, name)? else {
+        return Ok(());
+    };
+    match file.sync_data() {
+        Ok(()) => Ok(()),
+        Err(error) => Err(io_fault(error)),
+    }
+}
