@@ -10,6 +10,7 @@ use gi_message_cases::{
     Cycles, Days, Facts, Messages, Nominations, Processing, Repeated, Tables, walk_answers,
 };
 use gi_office_cases::{Books, office_answers};
+use gi_stop_cases::Stops;
 use gi_world_cases::{Carriers, Reports, Scripts, Simulations, Worlds};
 use std::env;
 use std::io::{self, Write};
@@ -44,6 +45,7 @@ fn answers<W: Threads + Wait + Clock + Sync>(
         "roles" => answered(rt, Roles::new(), cases),
         "scripts" => answered(rt, Scripts::new(alloc), cases),
         "simulations" => answered(rt, Simulations::new(alloc), cases),
+        "stops" => answered(rt, Stops::new(handle), cases),
         "tables" => answered(rt, Tables::new(), cases),
         "walks" => walk_answers(handle, alloc, cases),
         "worlds" => answered(rt, Worlds::new(alloc), cases),

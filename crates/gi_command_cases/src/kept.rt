@@ -3,7 +3,7 @@
 ghost use Rattle.std.specs.Prelude.{◌≡◌, IfOk};
 
 use gi_facts::Fact;
-use gi_store::{BookSource, StoreFault};
+use gi_store::{BookCopy, BookSource, StoreFault};
 use std::alloc::{AllocError, Global};
 
 fn facts_copy(alloc: Global, facts: &[Fact]) -> Result<Vec<Fact>, AllocError>
@@ -34,12 +34,16 @@ impl BookSource for KeptBooks {
 
     ghost gives = { λ books name read. gives_kept books.initiating.items books.matching.items name read };
 
-    fn facts(&self, name: &str) -> Result<Vec<Fact>, StoreFault> {
+    fn read(&self, name: &str) -> Result<BookCopy, StoreFault> {
         let facts = match name {
             "I" => &self.initiating,
             "M" => &self.matching,
             _ => return Err(StoreFault::Store),
         };
-        Ok(facts_copy(self.alloc, facts.as_slice())?)
+        Ok(BookCopy {
+            owner: None,
+            facts: facts_copy(self.alloc, facts.as_slice())?,
+            log: 0,
+        })
     }
 }

@@ -5,7 +5,7 @@ use Rattle.gi_pairs.specs.declared.side.Side.{Side}
 use Rattle.gi_facts.specs.declared.fact.Fact.{Fact}
 use Rattle.sqlite.specs.State.{State}
 use Rattle.gi_store.specs.Book.{IsLoadCaused, IsLoadFault}
-use Rattle.gi_store.specs.Source.{anything}
+use Rattle.gi_commands.specs.Owned.{anything}
 use Rattle.gi_store.specs.declared.store_fault.StoreFault.{StoreFault}
 use Rattle.gi_store.specs.declared.store_fault.StoreFault.TheVariants as store
 use Rattle.gi_commands.specs.Fault.{store_fault}
@@ -21,6 +21,9 @@ rows_fault side point old new store.BatchSize h k = (h, k)
 rows_fault side point old new store.NotLoaded h k = (h, k)
 rows_fault side point old new (store.NotNext n) h k = (h, k)
 rows_fault side point old new store.Busy h k = (h, k)
+rows_fault side point old new (store.OtherBook owner) h k = (h, k)
+rows_fault side point old new (store.Lost n) h k = (h, k)
+rows_fault side point old new store.Head h k = (h, k)
 rows_fault side point old new store.Store h k = (h, k)
 rows_fault side point old new store.OutOfMemory h k = tt
 
@@ -32,6 +35,9 @@ load_fault side point store.BatchSize = tt
 load_fault side point store.NotLoaded = tt
 load_fault side point (store.NotNext n) = tt
 load_fault side point store.Busy = tt
+load_fault side point (store.OtherBook owner) = tt
+load_fault side point (store.Lost n) = tt
+load_fault side point store.Head = tt
 load_fault side point store.Store = tt
 load_fault side point store.OutOfMemory = inl tt
 

@@ -1,3 +1,4 @@
+mod Audits
 mod TableFaults
 mod BookFaults
 mod ExplainingLemmas

@@ -1,5 +1,5 @@
 -- What `audit` writes of both operators' books.
-use Rattle.std.specs.Prelude.{◌≡◌, ◌⊎◌, ℕ, List, Option, None, Some, Ok, Err}
+use Rattle.std.specs.Prelude.{◌≡◌, ◌⊎◌, ℕ, List, Option, None, Some, Ok, Err, false}
 use Rattle.std.specs.Io.KnownBytes.{Appends, Keeps}
 use Rattle.gi_pairs.specs.Code.{IsCode}
 use Rattle.gi_pairs.specs.declared.cycle_id.CycleId.{CycleId}
@@ -8,20 +8,24 @@ use Rattle.gi_facts.specs.declared.fact.Fact.{Fact}
 use Rattle.gi_desk.specs.Machine.{bad_fact}
 use Rattle.gi_audit.specs.Agreeing.{ConfirmOneQuantity}
 use Rattle.gi_audit.specs.Audit.{IsAudit}
-use Rattle.gi_store.specs.Source.{Reading}
+use Rattle.gi_audit.specs.Verdict.{IsToldExactly, names_difference}
+use Rattle.gi_audit.specs.declared.verdict.Verdict.{Verdict}
+use Rattle.gi_audit.specs.declared.verdict.Verdict.TheVariants as told
+use Rattle.gi_commands.specs.Owned.{FactsReading as Reading}
 use Rattle.gi_store.specs.declared.store_fault.StoreFault.TheVariants as store
 use Rattle.gi_commands.specs.Reporting.{desk_of}
 use Rattle.gi_commands.specs.declared.fault.Fault.{Fault}
 use Rattle.gi_commands.specs.declared.fault.Fault.TheVariants as fault
 
--- The audit of the facts of two books, the initiating operator's and the matching one's, and its first difference. Each
--- makes a desk. Where there is no difference, the two confirm one quantity: what either has confirmed is the lower of what
--- both froze.
-pub record IsFactsAudit (point : List ℕ) (initiating matching : List Fact) (text : List ℕ) (first : Option CycleId) : Type 0 where
+-- The audit of the facts of two books, the initiating operator's and the matching one's, and its verdict. Each makes a desk.
+-- Where there is no difference, the two confirm one quantity: what either has confirmed is the lower of what both froze.
+-- That a cycle is agreed, that all are open, or that there is none, is told exactly where it is so.
+pub record IsFactsAudit (point : List ℕ) (initiating matching : List Fact) (text : List ℕ) (verdict : Verdict) : Type 0 where
   pub legal : bad_fact I point initiating ≡ None
   pub legal_too : bad_fact M point matching ≡ None
-  pub audited : IsAudit (desk_of point initiating) (desk_of point matching) text first
-  pub one_quantity : first ≡ None → ConfirmOneQuantity (desk_of point initiating) (desk_of point matching)
+  pub audited : IsAudit (desk_of point initiating) (desk_of point matching) text verdict
+  pub told : IsToldExactly (desk_of point initiating) (desk_of point matching) verdict
+  pub one_quantity : names_difference verdict ≡ false → ConfirmOneQuantity (desk_of point initiating) (desk_of point matching)
 
 -- why facts have no audit, the first: the initiating operator's make no desk, or the matching one's do not; or memory ran
 -- out
@@ -32,13 +36,20 @@ IsNoFactsAudit point initiating matching fault.OutOfMemory = Unit {0}
 IsNoFactsAudit point initiating matching _ = ⊥
 
 -- the audit of the facts that the two books give, the initiating operator's and the matching one's
-abbrev pub HasAudit : Reading → Reading → List ℕ → List ℕ → Option CycleId → Type 0
-HasAudit ours theirs point text first =
-    (initiating matching : List Fact) × ours (Ok initiating) × theirs (Ok matching) × IsFactsAudit point initiating matching text first
+abbrev pub HasAudit : Reading → Reading → List ℕ → List ℕ → Verdict → Type 0
+HasAudit ours theirs point text verdict =
+    (initiating matching : List Fact) × ours (Ok initiating) × theirs (Ok matching) × IsFactsAudit point initiating matching text verdict
 
--- the books agree, and their audit is what the output has gained
+-- the books compare, and none of their cycles differs
+abbrev pub IsDone : Verdict → Type 0
+IsDone told.Agreed = Unit {0}
+IsDone told.Open = Unit {0}
+IsDone told.Empty = ⊥
+IsDone (told.Differs id) = ⊥
+
+-- a cycle is agreed, or all that are closed are open, and none differs; the audit is what the output has gained
 abbrev pub Audits : Reading → Reading → List ℕ → Option (List ℕ) → Option (List ℕ) → Type 0
-Audits ours theirs point old new = (text : List ℕ) × HasAudit ours theirs point text None × Appends old new text
+Audits ours theirs point old new = (text : List ℕ) × (verdict : Verdict) × IsDone verdict × HasAudit ours theirs point text verdict × Appends old new text
 
 -- why two books have no audit, the first: the initiating operator's gives this fault, or it has facts and the matching
 -- operator's gives it, want of memory among them; or both have facts, of which some make no desk, or memory ran out then
@@ -56,15 +67,17 @@ abbrev pub IsNoAudit : Reading → Reading → List ℕ → Fault → Type 0
 IsNoAudit ours theirs point (fault.Code why) = ¬ (IsCode point)
 IsNoAudit ours theirs point why = IsNoBooksAudit ours theirs point why
 
--- the first fault: a writer fails only where there is an audit, and then books differ; in the words of a command memory may run out before
+-- the first fault: a writer fails only where there is an audit, and then books differ or close no cycle; in the words of a command memory may run out before
 abbrev pub IsFirstAuditFault : Reading → Reading → List ℕ → Fault → Type 0
-IsFirstAuditFault ours theirs point fault.Write = (text : List ℕ) × (first : Option CycleId) × HasAudit ours theirs point text first
+IsFirstAuditFault ours theirs point fault.Write = (text : List ℕ) × (verdict : Verdict) × HasAudit ours theirs point text verdict
 IsFirstAuditFault ours theirs point fault.OutOfMemory = Unit {0}
-IsFirstAuditFault ours theirs point fault.Differs = (text : List ℕ) × (id : CycleId) × HasAudit ours theirs point text (Some id)
+IsFirstAuditFault ours theirs point fault.Differs = (text : List ℕ) × (id : CycleId) × HasAudit ours theirs point text (told.Differs id)
+IsFirstAuditFault ours theirs point fault.Empty = (text : List ℕ) × HasAudit ours theirs point text told.Empty
 IsFirstAuditFault ours theirs point why = IsNoAudit ours theirs point why
 
--- of books that differ the output has gained the audit; before that nothing is written
+-- of books that differ, or close no cycle, the output has gained the audit; before that nothing is written
 abbrev pub LeavesAudit : Reading → Reading → List ℕ → Option (List ℕ) → Option (List ℕ) → Fault → Type 0
 LeavesAudit ours theirs point old new fault.Write = Unit {0}
-LeavesAudit ours theirs point old new fault.Differs = (text : List ℕ) × (id : CycleId) × HasAudit ours theirs point text (Some id) × Appends old new text
+LeavesAudit ours theirs point old new fault.Differs = (text : List ℕ) × (id : CycleId) × HasAudit ours theirs point text (told.Differs id) × Appends old new text
+LeavesAudit ours theirs point old new fault.Empty = (text : List ℕ) × HasAudit ours theirs point text told.Empty × Appends old new text
 LeavesAudit ours theirs point old new _ = Keeps old new

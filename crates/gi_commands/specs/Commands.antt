@@ -4,11 +4,14 @@ use Rattle.std.specs.Option.{IfSome}
 use Rattle.std.specs.Io.KnownBytes.{Keeps}
 use Rattle.gi_pairs.specs.Code.{IsCode}
 use Rattle.gi_pairs.specs.declared.side.Side.{Side}
-use Rattle.gi_command_line.specs.Asked.{Asked, audit, explain, hours, match_tables, mistaken, report, simulate}
+use Rattle.gi_pairs.specs.declared.side.Side.TheVariants.{I, M}
+use Rattle.gi_command_line.specs.Asked.{Asked, about_book, audit, explain, hours, match_tables, mistaken, report, simulate}
 use Rattle.gi_commands.specs.Auditing.{Audits, IsFirstAuditFault, LeavesAudit}
 use Rattle.gi_commands.specs.Explaining.{Asks, IsQuestionFault, NamesNoCodes}
 use Rattle.gi_commands.specs.Fault.{OfTables}
+use Rattle.gi_commands.specs.Contents.{IsFirstContentsFault, LeavesContents, TellsBook}
 use Rattle.gi_commands.specs.Leaving.{LeavesNothing}
+use Rattle.gi_commands.specs.Owned.{of_owner}
 use Rattle.gi_commands.specs.Reporting.{IsFirstBookFault, ReportsBook}
 use Rattle.gi_commands.specs.Simulating.{CutsShort, HasReport, HasScript, IsFirstScriptFault, Reports, Simulates}
 use Rattle.gi_explanations.specs.declared.question.Question.{Question}
@@ -26,11 +29,11 @@ use Rattle.gi_commands.specs.declared.fault.Fault.TheVariants as fault
 
 abbrev pub TellsDesk : Source → DeskReport → Side → Option (List ℕ × List ℕ) → Option (List ℕ) → Option (List ℕ) → Option (List ℕ) → Type 0
 TellsDesk books kind side None remaining old new = IfSome remaining (λ input. Reports kind side input old new)
-TellsDesk books kind side (Some book) remaining old new = ReportsBook (books book.0) kind side book.1 old new
+TellsDesk books kind side (Some book) remaining old new = ReportsBook (of_owner (books book.0) side book.1) kind side book.1 old new
 
 abbrev pub IsDeskFault : Source → DeskReport → Side → Option (List ℕ × List ℕ) → Option (List ℕ) → Fault → Type 0
 IsDeskFault books kind side None remaining why = IfSome remaining (λ input. IsFirstScriptFault (HasReport kind side) input why)
-IsDeskFault books kind side (Some book) remaining why = IsFirstBookFault (books book.0) kind side book.1 why
+IsDeskFault books kind side (Some book) remaining why = IsFirstBookFault (of_owner (books book.0) side book.1) kind side book.1 why
 
 -- the input is not read where there is a book
 abbrev pub ReadsUnlessBook : Option (List ℕ × List ℕ) → Option (List ℕ) → Option (List ℕ) → Type 0
@@ -52,7 +55,8 @@ Does books (simulate trace) remaining old new = IfSome remaining (λ input. Simu
 Does books (report kind format side book) remaining old new = TellsDesk books (Listed kind format) side book remaining old new
 Does books (explain side words book) remaining old new =
     (question : Question) × Asks words question × TellsDesk books (Explanation question) side book remaining old new
-Does books (audit initiating matching point) remaining old new = Audits (books initiating) (books matching) point old new
+Does books (audit initiating matching point) remaining old new = Audits (of_owner (books initiating) I point) (of_owner (books matching) M point) point old new
+Does books (about_book file expected) remaining old new = TellsBook (books file) expected old new
 Does books mistaken remaining old new = ⊥
 
 -- the first fault
@@ -64,7 +68,8 @@ IsFaultOf books (report kind format side book) remaining why = IsDeskFault books
 IsFaultOf books (explain side words book) remaining why =
     (why ≡ fault.OutOfMemory) ⊎ IsQuestionFault words why
     ⊎ ((question : Question) × Asks words question × IsDeskFault books (Explanation question) side book remaining why)
-IsFaultOf books (audit initiating matching point) remaining why = IsFirstAuditFault (books initiating) (books matching) point why
+IsFaultOf books (audit initiating matching point) remaining why = IsFirstAuditFault (of_owner (books initiating) I point) (of_owner (books matching) M point) point why
+IsFaultOf books (about_book file expected) remaining why = IsFirstContentsFault (books file) expected why
 IsFaultOf books mistaken remaining why = (why ≡ fault.CommandLine) ⊎ (why ≡ fault.OutOfMemory)
 
 -- After a fault nothing is written, but where a writer failed; of a script, where memory ran out, the lines of the first
@@ -80,7 +85,8 @@ Leaves books (hours day) remaining old new why = LeavesNothing old new why
 Leaves books (simulate trace) remaining old new why = LeavesFront trace remaining old new why
 Leaves books (report kind format side book) remaining old new why = LeavesNothing old new why
 Leaves books (explain side words book) remaining old new why = LeavesNothing old new why
-Leaves books (audit initiating matching point) remaining old new why = LeavesAudit (books initiating) (books matching) point old new why
+Leaves books (audit initiating matching point) remaining old new why = LeavesAudit (of_owner (books initiating) I point) (of_owner (books matching) M point) point old new why
+Leaves books (about_book file expected) remaining old new why = LeavesContents (books file) expected old new why
 Leaves books mistaken remaining old new why = LeavesNothing old new why
 
 -- `hours`, what is told of books, and wrong words read nothing
@@ -91,6 +97,7 @@ MayRead (simulate trace) old new = Unit {0}
 MayRead (report kind format side book) old new = ReadsUnlessBook book old new
 MayRead (explain side words book) old new = ReadsUnlessBook book old new
 MayRead (audit initiating matching point) old new = Keeps old new
+MayRead (about_book file expected) old new = Keeps old new
 MayRead mistaken old new = Keeps old new
 
 -- a report or an audit of books whose point is no code, and a quantity with a portfolio that is none
@@ -101,4 +108,5 @@ HasNoCode (simulate trace) = ⊥
 HasNoCode (report kind format side book) = HasNoPoint book
 HasNoCode (explain side words book) = NamesNoCodes words ⊎ ((question : Question) × Asks words question × HasNoPoint book)
 HasNoCode (audit initiating matching point) = ¬ (IsCode point)
+HasNoCode (about_book file expected) = ⊥
 HasNoCode mistaken = ⊥

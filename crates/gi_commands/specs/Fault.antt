@@ -16,7 +16,7 @@ use Rattle.gi_commands.specs.declared.fault.Fault.{Fault}
 use Rattle.gi_commands.specs.declared.fault.Fault.TheVariants.{BadFact, Calendar, Code, CommandLine, Day, Differs, Lines, Message, MissingBook, OutOfMemory, Read, Script, ShapeDiffers, Store, TooLarge, Write, WrongKind}
 
 -- 2 is a wrong command line, 3 a book that failed, is none or is missing, 4 want of memory, and 1 refused input, a reader or a writer that
--- failed, or books that differ
+-- failed, or books that differ or close no cycle
 abbrev pub status_of : Fault → ℕ
 status_of CommandLine = 2
 status_of (Store why) = 3

@@ -1,8 +1,10 @@
 pub mod Fault
 pub mod Leaving
+pub mod Owned
 pub mod Reporting
 pub mod Simulating
 pub mod Explaining
 pub mod Auditing
+pub mod Contents
 pub mod Commands
 pub mod Laws

@@ -12,7 +12,7 @@ use Rattle.gi_reports.specs.Confirmed.{IsConfirmedReport}
 use Rattle.gi_reports.specs.Open.{IsOpenReport}
 use Rattle.gi_reports.specs.Refused.{refused_counts, refused_lines}
 use Rattle.gi_store.specs.Book.{IsLoadCaused, IsLoadFault, IsRead}
-use Rattle.gi_store.specs.Source.{Reading}
+use Rattle.gi_commands.specs.Owned.{FactsReading as Reading}
 use Rattle.gi_store.specs.declared.store_fault.StoreFault.TheVariants as store
 use Rattle.sqlite.specs.State.{State}
 use Rattle.gi_commands.specs.declared.fault.Fault.{Fault}

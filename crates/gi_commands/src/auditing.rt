@@ -4,16 +4,19 @@ ghost use Rattle.std.specs.Prelude.{◌≡◌, Err, IfErr, IfOk, string_bytes};
 ghost use Rattle.gi_pairs.specs.Code.{IsCode};
 ghost use Rattle.gi_commands.specs.Auditing.{HasAudit, IsFactsAudit, IsNoAudit, IsNoFactsAudit};
 ghost use Rattle.gi_commands.specs.Fault.{no_code};
+ghost use Rattle.gi_commands.specs.Owned.{of_owner};
+ghost use Rattle.gi_pairs.specs.declared.side.Side.TheVariants.{I, M};
 
 use crate::fault::Fault;
+use crate::owned::owned_facts;
 use crate::replaying::replayed;
 use gi_audit::{Audited, audit};
 use gi_command_line::BookFiles;
 use gi_desk::Fact;
 use gi_initiator::Initiating;
 use gi_matcher::Matching;
-use gi_pairs::{Code, CodeText};
-use gi_store::BookSource;
+use gi_pairs::{Code, CodeText, Side};
+use gi_store::{BookSource, Owner};
 use std::alloc::Global;
 
 /// The audit of the facts of two books. `BadFact` for the first fact that no desk of the initiating
@@ -25,7 +28,7 @@ pub fn facts_audit(
     initiating: Vec<Fact>,
     matching: Vec<Fact>,
 ) -> Result<Audited, Fault>
-    ensures audited { IfOk result (λ it. IsFactsAudit point initiating.items matching.items (string_bytes it.text) it.first) }
+    ensures audited { IfOk result (λ it. IsFactsAudit point initiating.items matching.items (string_bytes it.text) it.verdict) }
     ensures fault { IfErr result (IsNoFactsAudit point initiating.items matching.items) }
 {
     let initiating = match replayed::<Initiating>(alloc, point, initiating) {
@@ -57,13 +60,27 @@ pub(crate) fn named_audit<B: BookSource>(
     books: &B,
     files: BookFiles<'_>,
 ) -> Result<Audited, Fault>
-    ensures audited { IfOk result (λ it. HasAudit (B.gives books.now files.entry.initiating.now) (B.gives books.now files.entry.matching.now) files.entry.point.now (string_bytes it.text) it.first) }
-    ensures fault { IfErr result (IsNoAudit (B.gives books.now files.entry.initiating.now) (B.gives books.now files.entry.matching.now) files.entry.point.now) }
+    ensures audited { IfOk result (λ it. HasAudit (of_owner (B.gives books.now files.entry.initiating.now) I files.entry.point.now) (of_owner (B.gives books.now files.entry.matching.now) M files.entry.point.now) files.entry.point.now (string_bytes it.text) it.verdict) }
+    ensures fault { IfErr result (IsNoAudit (of_owner (B.gives books.now files.entry.initiating.now) I files.entry.point.now) (of_owner (B.gives books.now files.entry.matching.now) M files.entry.point.now) files.entry.point.now) }
     ensures code { ¬ (IsCode files.entry.point.now) → result ≡ Err no_code }
 {
     let point = Code::read(files.point)?;
-    let initiating = books.facts(files.initiating)?;
-    let matching = match books.facts(files.matching) {
+    let initiating = owned_facts(
+        books,
+        files.initiating,
+        Owner {
+            side: Side::I,
+            point,
+        },
+    )?;
+    let matching = match owned_facts(
+        books,
+        files.matching,
+        Owner {
+            side: Side::M,
+            point,
+        },
+    ) {
         Ok(matching) => matching,
         Err(fault) => {
             drop(initiating);

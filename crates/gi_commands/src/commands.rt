@@ -1,22 +1,27 @@
-ghost use Rattle.std.specs.Prelude.{◌≡◌, IfErr, IfSome, OnOk, Err};
+ghost use Rattle.std.specs.Prelude.{◌≡◌, IfErr, IfSome, OnOk, Err, option_map};
 ghost use Rattle.gi_pairs.specs.Code.{IsCode};
-ghost use Rattle.gi_command_line.specs.Asked.{book_of, explain as asks_explanation, meaning, quantity_words};
+ghost use Rattle.gi_command_line.specs.Asked.{book_of, expected_words, explain as asks_explanation, meaning, quantity_words};
 ghost use Rattle.gi_commands.specs.Auditing.{Audits, IsFirstAuditFault, LeavesAudit};
 ghost use Rattle.gi_commands.specs.Commands.{Does, HasNoCode, HasNoPoint, IsDeskFault, IsFaultOf, Leaves, LeavesFront, MayRead, ReadsUnlessBook, TellsDesk};
+ghost use Rattle.gi_commands.specs.Contents.{IsFirstContentsFault, LeavesContents, TellsBook};
 ghost use Rattle.gi_commands.specs.Fault.{no_code};
+ghost use Rattle.gi_commands.specs.Owned.{of_owner};
+ghost use Rattle.gi_pairs.specs.declared.side.Side.TheVariants.{I, M};
 ghost use Rattle.gi_commands.specs.Leaving.{LeavesNothing};
 ghost use Rattle.gi_commands.specs.Reporting.{IsFirstBookFault, ReportsBook};
 ghost use Rattle.gi_commands.specs.Simulating.{HasReport, HasScript, IsFirstScriptFault, Reports, Simulates};
 
 use crate::auditing::named_audit;
 use crate::books::named_report;
+use crate::contents::named_contents;
 use crate::desk_report::DeskReport;
 use crate::explaining::question;
 use crate::fault::Fault;
 use crate::reporting::script_report;
 use crate::simulating::simulated;
 use crate::tables::{match_tables, read_input, tell_hours, write_text};
-use gi_command_line::{BookFile, BookFiles, Explanation, Request};
+use gi_audit::Verdict;
+use gi_command_line::{BookFile, BookFiles, BookQuestion, Explanation, Request};
 use gi_pairs::Side;
 use gi_store::BookSource;
 use gi_table_commands::Calls;
@@ -72,9 +77,9 @@ fn report_book<B: BookSource, W: Write>(
     book: BookFile<'_>,
     output: &mut W,
 ) -> Result<(), Fault>
-    ensures done { OnOk result (ReportsBook (B.gives books.now book.entry.file.now) kind side book.entry.point.now (W.contents output.old) (W.contents output.new)) }
+    ensures done { OnOk result (ReportsBook (of_owner (B.gives books.now book.entry.file.now) side book.entry.point.now) kind side book.entry.point.now (W.contents output.old) (W.contents output.new)) }
     ensures leaves { IfErr result (LeavesNothing (W.contents output.old) (W.contents output.new)) }
-    ensures first { IfErr result (IsFirstBookFault (B.gives books.now book.entry.file.now) kind side book.entry.point.now) }
+    ensures first { IfErr result (IsFirstBookFault (of_owner (B.gives books.now book.entry.file.now) side book.entry.point.now) kind side book.entry.point.now) }
     ensures code { ¬ (IsCode book.entry.point.now) → result ≡ Err no_code }
 {
     let text = named_report(alloc, books, kind, side, book)?;
@@ -135,23 +140,45 @@ fn audit_books<B: BookSource, W: Write>(
     files: BookFiles<'_>,
     output: &mut W,
 ) -> Result<(), Fault>
-    ensures done { OnOk result (Audits (B.gives books.now files.entry.initiating.now) (B.gives books.now files.entry.matching.now) files.entry.point.now (W.contents output.old) (W.contents output.new)) }
-    ensures first { IfErr result (IsFirstAuditFault (B.gives books.now files.entry.initiating.now) (B.gives books.now files.entry.matching.now) files.entry.point.now) }
-    ensures leaves { IfErr result (LeavesAudit (B.gives books.now files.entry.initiating.now) (B.gives books.now files.entry.matching.now) files.entry.point.now (W.contents output.old) (W.contents output.new)) }
+    ensures done { OnOk result (Audits (of_owner (B.gives books.now files.entry.initiating.now) I files.entry.point.now) (of_owner (B.gives books.now files.entry.matching.now) M files.entry.point.now) files.entry.point.now (W.contents output.old) (W.contents output.new)) }
+    ensures first { IfErr result (IsFirstAuditFault (of_owner (B.gives books.now files.entry.initiating.now) I files.entry.point.now) (of_owner (B.gives books.now files.entry.matching.now) M files.entry.point.now) files.entry.point.now) }
+    ensures leaves { IfErr result (LeavesAudit (of_owner (B.gives books.now files.entry.initiating.now) I files.entry.point.now) (of_owner (B.gives books.now files.entry.matching.now) M files.entry.point.now) files.entry.point.now (W.contents output.old) (W.contents output.new)) }
     ensures code { ¬ (IsCode files.entry.point.now) → result ≡ Err no_code }
 {
     let audit = named_audit(alloc, books, files)?;
     write_text(audit.text.as_bytes(), output)?;
-    match audit.first {
-        None => Ok(()),
-        Some(_) => Err(Fault::Differs),
+    match audit.verdict {
+        Verdict::Agreed | Verdict::Open => Ok(()),
+        Verdict::Empty => Err(Fault::Empty),
+        Verdict::Differs(_) => Err(Fault::Differs),
+    }
+}
+
+/// Tells what a book is, and then `Unexpected`, where its first facts are not those that were expected.
+fn tell_book<B: BookSource, W: Write>(
+    alloc: Global,
+    books: &B,
+    question: BookQuestion<'_>,
+    output: &mut W,
+) -> Result<(), Fault>
+    ensures done { OnOk result (TellsBook (B.gives books.now question.entry.file.now) (option_map expected_words question.entry.expected) (W.contents output.old) (W.contents output.new)) }
+    ensures first { IfErr result (IsFirstContentsFault (B.gives books.now question.entry.file.now) (option_map expected_words question.entry.expected)) }
+    ensures leaves { IfErr result (LeavesContents (B.gives books.now question.entry.file.now) (option_map expected_words question.entry.expected) (W.contents output.old) (W.contents output.new)) }
+{
+    let contents = named_contents(alloc, books, question)?;
+    write_text(contents.text.as_bytes(), output)?;
+    if contents.is_expected {
+        Ok(())
+    } else {
+        Err(Fault::Unexpected)
     }
 }
 
 /// Does what a request asks for, and answers the fault, if any: after a fault nothing is written,
 /// unless memory ran out in a script's step or the writer failed, and then perhaps a part, or books
-/// differ, and then their audit. `Write`, where the writer fails, comes after every other fault but
-/// those two. Books are read from `books`, by the names in the words. `match` works in several threads.
+/// differ or close no cycle, and then their audit. `Write`, where the writer fails, comes after every
+/// other fault but these. Books are read from `books`, by the names in the words. `match` works in
+/// several threads.
 pub fn perform<B: BookSource, R: Read, W: Write>(
     alloc: Global,
     threads: &(impl Threads + Sync),
@@ -175,6 +202,7 @@ pub fn perform<B: BookSource, R: Read, W: Write>(
             tell_desk(alloc, books, kind, wanted.side, wanted.book, input, output)
         }
         Request::Audit(files) => audit_books(alloc, books, files, output),
+        Request::Book(question) => tell_book(alloc, books, question, output),
         Request::Explain(wanted) => explain(alloc, books, wanted, input, output),
         Request::Mistaken(_) => Err(Fault::CommandLine),
     }

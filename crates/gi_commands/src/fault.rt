@@ -1,7 +1,7 @@
 ghost use Rattle.std.specs.Prelude.{◌≡◌, ◌≢◌};
 ghost use Rattle.gi_commands.specs.Fault.{replay_fault, script_fault, start_fault, store_fault, table_fault};
 
-use gi_day::{CalendarFault, DayFault};
+use gi_day::{CalendarFault, DayFault, GasDay};
 use gi_desk::ReplayFault;
 use gi_messages::MessageFault;
 use gi_pairs::{CodeText, Side};
@@ -57,11 +57,20 @@ pub enum Fault {
     /// No desk records the book's fact of this number after those before it.
     #[error("BadFact {0}")]
     BadFact(u32),
+    /// The books of `serve` have two pasts: this is the first cycle of which a table differs. `audit` tells what does.
+    #[error("TwoPasts {0} {1}")]
+    TwoPasts(GasDay, u8),
+    /// The first facts of a book are not those that were expected, or it has fewer. What it has is written.
+    #[error("Unexpected")]
+    Unexpected,
     /// Two books differ. What differs is written.
     #[error("Differs")]
     Differs,
-    /// A writer failed. It comes after all other faults, but want of memory in a script's step, and
-    /// `Differs`.
+    /// Neither book closes a cycle. That is written.
+    #[error("Empty")]
+    Empty,
+    /// A writer failed. It comes after all other faults, but want of memory in a script's step,
+    /// `Differs` and `Empty`.
     #[error("Write")]
     Write,
     /// An allocation was refused.

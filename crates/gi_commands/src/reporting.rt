@@ -8,7 +8,7 @@ ghost use Rattle.gi_script.specs.declared.fault.ScriptFault.TheVariants.{Point};
 ghost use Rattle.gi_store.specs.Book.{IsRead};
 ghost use Rattle.gi_store.specs.Clean.{IsClean};
 ghost use Rattle.gi_store.specs.Keeping.{AddsNoOutcome, Keeps};
-ghost use Rattle.gi_store.specs.Source.{anything};
+ghost use Rattle.gi_commands.specs.Owned.{anything};
 ghost use Rattle.gi_commands.specs.Reporting.{HasBookReport, IsBookFault, IsBookReport, IsCsvReport, IsFactsFault, IsJsonReport, IsReport, IsRowsFault, IsTextReport};
 ghost use Rattle.gi_commands.specs.Simulating.{IsNoScript, IsScriptReport};
 ghost use Rattle.gi_world.specs.World.{station_of};

@@ -1,3 +1,5 @@
+mod Prefixes
+mod Agreed
 mod Opened
 mod Unasked
 pub mod Told

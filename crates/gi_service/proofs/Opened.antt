@@ -8,7 +8,7 @@ use Rattle.gi_store.specs.declared.store_fault.StoreFault.TheVariants as store
 use Rattle.gi_commands.specs.Fault.{store_fault}
 use Rattle.gi_commands.specs.declared.fault.Fault.{Fault}
 use Rattle.gi_service.specs.Opening.{IsSideFault}
-use Rattle.gi_service.specs.Serving.{IsStationFault}
+use Rattle.gi_service.specs.Stations.{IsStationFault}
 
 of_store : (side : Side) (point : List ℕ) (why : StoreFault) → IsStationFault side point (store_fault why)
 of_store side point store.Version = tt
@@ -18,6 +18,9 @@ of_store side point store.BatchSize = tt
 of_store side point store.NotLoaded = tt
 of_store side point (store.NotNext n) = tt
 of_store side point store.Busy = tt
+of_store side point (store.OtherBook owner) = tt
+of_store side point (store.Lost n) = tt
+of_store side point store.Head = tt
 of_store side point store.Store = tt
 of_store side point store.OutOfMemory = tt
 

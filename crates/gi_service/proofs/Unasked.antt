@@ -5,7 +5,7 @@ use Rattle.std.specs.Io.KnownBytes.{Keeps}
 use Rattle.clap.specs.Words.{HasKind, IsAmong, kind_of}
 use Rattle.clap.specs.declared.error.Error.{Error}
 use Rattle.clap.specs.declared.error.kind.ErrorKind.TheVariants as kind
-use Rattle.gi_command_line.specs.Asked.{Wanted, at_once, audit, explain, hours, match_tables, mistaken, report, serve, simulate}
+use Rattle.gi_command_line.specs.Asked.{Wanted, about_book, at_once, audit, explain, hours, match_tables, mistaken, report, serve, simulate}
 use Rattle.gi_command_line.specs.CommandLine.{IsMistaken, objections}
 use Rattle.gi_table_commands.specs.Match.{IsFirstFault}
 use Rattle.gi_table_commands.specs.declared.fault.Fault.TheVariants as table
@@ -30,8 +30,9 @@ may_want from (at_once (report kind format side None)) remaining =
 may_want from (at_once (report kind format side (Some book))) remaining = tt
 may_want from (at_once (explain side words book)) remaining = inl refl
 may_want from (at_once (audit initiating matching point)) remaining = tt
+may_want from (at_once (about_book file expected)) remaining = tt
 may_want from (at_once mistaken) remaining = inr refl
-may_want from (serve sessions books) remaining = if_some remaining (λ input. IsFirstServeFault sessions input (Command fault.OutOfMemory)) (λ input. inl tt)
+may_want from (serve service) remaining = if_some remaining (λ input. IsFirstServeFault service.sessions input (Command fault.OutOfMemory)) (λ input. inl tt)
 
 -- each command may have read nothing
 pub may_leave : (wanted : Wanted) (remaining : Option (List ℕ)) → MayReadTask wanted remaining remaining
@@ -43,8 +44,9 @@ may_leave (at_once (report kind format side (Some book))) remaining = keeps_same
 may_leave (at_once (explain side words None)) remaining = tt
 may_leave (at_once (explain side words (Some book))) remaining = keeps_same remaining
 may_leave (at_once (audit initiating matching point)) remaining = keeps_same remaining
+may_leave (at_once (about_book file expected)) remaining = keeps_same remaining
 may_leave (at_once mistaken) remaining = keeps_same remaining
-may_leave (serve sessions books) remaining = tt
+may_leave (serve service) remaining = tt
 
 -- and where memory ran out, each command may have written nothing
 pub may_keep : (from : Source) (wanted : Wanted) (remaining old new : Option (List ℕ)) → Keeps old new → LeavesTask from wanted remaining old new (Command fault.OutOfMemory)
@@ -54,8 +56,9 @@ may_keep from (at_once (simulate trace)) remaining old new kept = if_some remain
 may_keep from (at_once (report kind format side book)) remaining old new kept = kept
 may_keep from (at_once (explain side words book)) remaining old new kept = kept
 may_keep from (at_once (audit initiating matching point)) remaining old new kept = kept
+may_keep from (at_once (about_book file expected)) remaining old new kept = kept
 may_keep from (at_once mistaken) remaining old new kept = kept
-may_keep from (serve sessions books) remaining old new kept = kept
+may_keep from (serve service) remaining old new kept = kept
 
 -- words that ask for no command are told as that, or memory ran out
 abbrev pub IsNoCommand : ProgramFault → Type 0

@@ -1,22 +1,13 @@
 -- What the books of both sides were opened as, and the first fault of that. `opens` and `refuses` say what may come of opening one.
 use Rattle.std.specs.Prelude.{◌≡◌, ◌⊎◌, ℕ, List}
-use Rattle.sqlite_trees.specs.declared.store.Store.{Ghosts}
-use Rattle.sqlite.specs.Held.{state}
 use Rattle.gi_pairs.specs.declared.side.Side.{Side}
 use Rattle.gi_pairs.specs.declared.side.Side.TheVariants.{I, M}
 use Rattle.gi_store.specs.Book.{BookState}
-use Rattle.gi_store.specs.Clean.{IsClean}
-use Rattle.gi_store.specs.Keeping.{Keeps}
 use Rattle.gi_store.specs.declared.store_fault.StoreFault.{StoreFault}
 use Rattle.gi_commands.specs.Fault.{store_fault}
 use Rattle.gi_commands.specs.declared.fault.Fault.{Fault}
-use Rattle.gi_service.specs.Serving.{IsStationFault}
-
--- the book was opened so, and no row of it was changed since
-pub record IsKeptFrom {S : Type 0} (store : Ghosts S) (opens : BookState S → Type 0) (book : BookState S) : Type 0 where
-  pub before : BookState S
-  pub opened : opens before
-  pub kept : IsClean store book.connection → Keeps (state store before.connection) (state store book.connection)
+use Rattle.gi_service.specs.Pasts.{IsPastsFault}
+use Rattle.gi_service.specs.Stations.{IsStationFault}
 
 -- a book was opened so
 abbrev pub IsOpened : {S : Type 0} → (BookState S → Type 0) → Type 0
@@ -30,7 +21,8 @@ IsUnopened refuses why = (fault : StoreFault) × refuses fault × (why ≡ store
 abbrev pub IsSideFault : {S : Type 0} → (BookState S → Type 0) → (StoreFault → Type 0) → Side → List ℕ → Fault → Type 0
 IsSideFault opens refuses side point why = IsUnopened refuses why ⊎ (IsOpened opens × IsStationFault side point why)
 
--- the first fault of both sides: that of the initiating one; where its book was opened, that of the matching one
+-- the first fault of both sides: that of the initiating one; where its book was opened, that of the matching one; where both were, what both
+-- have is of two pasts
 abbrev pub IsFirstSideFault : {S : Type 0} → (Side → BookState S → Type 0) → (Side → StoreFault → Type 0) → List ℕ → Fault → Type 0
 IsFirstSideFault opens refuses point why =
-    IsSideFault (opens I) (refuses I) I point why ⊎ (IsOpened (opens I) × IsSideFault (opens M) (refuses M) M point why)
+    IsSideFault (opens I) (refuses I) I point why ⊎ (IsOpened (opens I) × (IsSideFault (opens M) (refuses M) M point why ⊎ (IsOpened (opens M) × IsPastsFault point why)))

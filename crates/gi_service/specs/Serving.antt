@@ -7,13 +7,17 @@ use Rattle.gi_script.specs.Script.{IsOfficeFault, IsOfficeScript, ScriptContents
 use Rattle.gi_table_commands.specs.Input.{most_input}
 use Rattle.gi_facts.specs.declared.fact.Fact.{Fact}
 use Rattle.gi_desk.specs.Machine.{bad_fact}
+use Rattle.gi_store.specs.declared.store_fault.StoreFault.{StoreFault}
 use Rattle.gi_store.specs.declared.store_fault.StoreFault.TheVariants as store
 use Rattle.gi_commands.specs.declared.fault.Fault.{Fault}
 use Rattle.gi_commands.specs.declared.fault.Fault.TheVariants as fault
 use Rattle.gi_serving.specs.Ending.{IsOver}
 use Rattle.gi_serving.specs.declared.serve_fault.ServeFault.{ServeFault}
 use Rattle.gi_service.specs.declared.program_fault.ProgramFault.{ProgramFault}
-use Rattle.gi_service.specs.declared.program_fault.ProgramFault.TheVariants.{Command, Served}
+use Rattle.gi_service.specs.declared.program_fault.ProgramFault.TheVariants.{Closed, Command, Served}
+use Rattle.gi_service.specs.Pasts.{IsPastsFault}
+use Rattle.gi_service.specs.Standing.{IsPrefixFault}
+use Rattle.gi_service.specs.Stations.{IsStationFault}
 
 -- how a run ended
 abbrev pub End : Type 0
@@ -45,30 +49,9 @@ IsScriptFault input fault.TooLarge = most_input < length input
 IsScriptFault input (fault.Script why) = (length input ≤ most_input) × IsOfficeFault input why
 IsScriptFault input _ = ⊥
 
--- why a side has no desk: some facts make none, or the store failed or memory ran out
-abbrev pub IsStationFault : Side → List ℕ → Fault → Type 0
-IsStationFault side point (fault.BadFact n) = (facts : List Fact) × (bad_fact side point facts ≡ Some n)
-IsStationFault side point (fault.Store store.OutOfMemory) = ⊥
-IsStationFault side point (fault.Store why) = Unit {0}
-IsStationFault side point fault.OutOfMemory = Unit {0}
-IsStationFault side point _ = ⊥
-
--- one of the two sides has none
+-- one of the two sides has no desk, or both have desks of two pasts
 abbrev pub IsBooksFault : List ℕ → Fault → Type 0
-IsBooksFault point why = IsStationFault I point why ⊎ IsStationFault M point why
-
--- of which side the book is missing, by whether each is there
-abbrev pub missing_of : Bool → Bool → Option Side
-missing_of true false = Some M
-missing_of false true = Some I
-missing_of true true = None
-missing_of false false = None
-
--- why books in files are not opened, of which one is missing
-abbrev pub IsPrefixFault : Fault → Type 0
-IsPrefixFault (fault.MissingBook side) = Unit {0}
-IsPrefixFault fault.OutOfMemory = Unit {0}
-IsPrefixFault _ = ⊥
+IsBooksFault point why = (IsStationFault I point why ⊎ IsStationFault M point why) ⊎ IsPastsFault point why
 
 -- one of the books in files is missing, or is not read
 abbrev pub IsFilesFault : List ℕ → Fault → Type 0
@@ -81,17 +64,20 @@ HasBooksFault input why = (script : ScriptContents) × IsInputOf script input ×
 abbrev pub IsTextFault : List ℕ → Fault → Type 0
 IsTextFault input why = IsScriptFault input why ⊎ HasBooksFault input why
 
--- the first fault: of the input, of the books, of the writer, of the run
+-- the first fault: of the input, of the books, of the writer, of the run, of closing the books
 abbrev pub IsFirstServeFault : ℕ → List ℕ → ProgramFault → Type 0
 IsFirstServeFault sessions input (Command fault.Write) = (text : List ℕ) × (end : End) × IsServedText sessions input text end
 IsFirstServeFault sessions input (Command why) = IsTextFault input why
 IsFirstServeFault sessions input (Served why) = (text : List ℕ) × IsServedText sessions input text (Err why)
+IsFirstServeFault sessions input (Closed why) = (text : List ℕ) × IsServedText sessions input text (Ok tt)
 
--- why a text is not told well: the writer failed, or the text is written and tells of a run that ended by a fault
-abbrev pub IsToldFault : List ℕ → End → Option (List ℕ) → Option (List ℕ) → ProgramFault → Type 0
-IsToldFault text end old new (Command fault.Write) = Unit {0}
-IsToldFault text end old new (Command _) = ⊥
-IsToldFault text end old new (Served why) = (end ≡ Err why) × Appends old new text
+-- why a text is not told well: the writer failed; or the text is written and tells of a run that ended by a fault, or of one that ended
+-- well, whose books were not closed
+abbrev pub IsToldFault : List ℕ → End → Result (Unit {0}) StoreFault → Option (List ℕ) → Option (List ℕ) → ProgramFault → Type 0
+IsToldFault text end closed old new (Command fault.Write) = Unit {0}
+IsToldFault text end closed old new (Command _) = ⊥
+IsToldFault text end closed old new (Served why) = (end ≡ Err why) × Appends old new text
+IsToldFault text end closed old new (Closed why) = (end ≡ Ok tt) × (closed ≡ Err why) × Appends old new text
 
 -- ---- what is written
 
@@ -99,9 +85,11 @@ IsToldFault text end old new (Served why) = (end ≡ Err why) × Appends old new
 abbrev pub Serves : ℕ → List ℕ → Option (List ℕ) → Option (List ℕ) → Type 0
 Serves sessions input old new = (text : List ℕ) × IsServedText sessions input text (Ok tt) × Appends old new text
 
--- of a run that ended by a fault the output has gained the text too; before the run nothing is written
+-- of a run that ended by a fault, or whose books were not closed, the output has gained the text too; before the run nothing is written
 abbrev pub LeavesServed : ℕ → Option (List ℕ) → Option (List ℕ) → Option (List ℕ) → ProgramFault → Type 0
 LeavesServed sessions remaining old new (Command fault.Write) = Unit {0}
 LeavesServed sessions remaining old new (Command why) = Keeps old new
 LeavesServed sessions remaining old new (Served why) =
     IfSome remaining (λ input. (text : List ℕ) × IsServedText sessions input text (Err why) × Appends old new text)
+LeavesServed sessions remaining old new (Closed why) =
+    IfSome remaining (λ input. (text : List ℕ) × IsServedText sessions input text (Ok tt) × Appends old new text)

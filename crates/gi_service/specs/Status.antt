@@ -10,7 +10,7 @@ use Rattle.gi_serving.specs.declared.serve_fault.ServeFault.{ServeFault}
 use Rattle.gi_serving.specs.declared.serve_fault.ServeFault.TheVariants.{OutOfMemory, Turn, Unreconciled}
 use Rattle.gi_store.specs.declared.store_fault.StoreFault.TheVariants as stores
 use Rattle.gi_service.specs.declared.program_fault.ProgramFault.{ProgramFault}
-use Rattle.gi_service.specs.declared.program_fault.ProgramFault.TheVariants.{Command, Served}
+use Rattle.gi_service.specs.declared.program_fault.ProgramFault.TheVariants.{Closed, Command, Served}
 
 -- of a turn that saves: 3 where the book failed, 4 where memory ran out, the book's too
 abbrev pub turn_status : SaveFault → ℕ
@@ -29,3 +29,5 @@ serve_status _ = 1
 abbrev pub program_status : ProgramFault → ℕ
 program_status (Command why) = status_of why
 program_status (Served why) = serve_status why
+program_status (Closed stores.OutOfMemory) = 4
+program_status (Closed why) = 3

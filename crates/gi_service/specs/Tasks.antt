@@ -7,41 +7,41 @@ use Rattle.gi_commands.specs.Leaving.{LeavesNothing}
 use Rattle.gi_store.specs.Source.{Source}
 use Rattle.gi_service.specs.Serving.{IsFirstServeFault, LeavesServed, Serves}
 use Rattle.gi_service.specs.declared.program_fault.ProgramFault.{ProgramFault}
-use Rattle.gi_service.specs.declared.program_fault.ProgramFault.TheVariants.{Command, Served}
+use Rattle.gi_service.specs.declared.program_fault.ProgramFault.TheVariants.{Command}
 
 -- `from` says what may come of reading a book, by its file's name; `serve` opens its books by itself.
 
 -- what is asked for is what the output gains; of what the reader has left, where it tells that
 abbrev pub DoesTask : Source → Wanted → Option (List ℕ) → Option (List ℕ) → Option (List ℕ) → Type 0
 DoesTask from (at_once asked) remaining old new = Does from asked remaining old new
-DoesTask from (serve sessions books) remaining old new = IfSome remaining (λ input. Serves sessions input old new)
+DoesTask from (serve service) remaining old new = IfSome remaining (λ input. Serves service.sessions input old new)
 
 -- the first fault
 abbrev pub IsTaskFault : Source → Wanted → Option (List ℕ) → ProgramFault → Type 0
 IsTaskFault from (at_once asked) remaining (Command why) = IsFaultOf from asked remaining why
-IsTaskFault from (at_once asked) remaining (Served why) = ⊥
-IsTaskFault from (serve sessions books) remaining why = IfSome remaining (λ input. IsFirstServeFault sessions input why)
+IsTaskFault from (at_once asked) remaining _ = ⊥
+IsTaskFault from (serve service) remaining why = IfSome remaining (λ input. IsFirstServeFault service.sessions input why)
 
 -- what stands on the output after it
 abbrev pub LeavesTask : Source → Wanted → Option (List ℕ) → Option (List ℕ) → Option (List ℕ) → ProgramFault → Type 0
 LeavesTask from (at_once asked) remaining old new (Command why) = Leaves from asked remaining old new why
-LeavesTask from (at_once asked) remaining old new (Served why) = ⊥
-LeavesTask from (serve sessions books) remaining old new why = LeavesServed sessions remaining old new why
+LeavesTask from (at_once asked) remaining old new _ = ⊥
+LeavesTask from (serve service) remaining old new why = LeavesServed service.sessions remaining old new why
 
 -- after a fault of a command nothing is written, but where a writer failed
 abbrev pub LeavesNothingBut : Option (List ℕ) → Option (List ℕ) → ProgramFault → Type 0
 LeavesNothingBut old new (Command why) = LeavesNothing old new why
-LeavesNothingBut old new (Served why) = ⊥
+LeavesNothingBut old new _ = ⊥
 
 -- which commands read the input
 abbrev pub MayReadTask : Wanted → Option (List ℕ) → Option (List ℕ) → Type 0
 MayReadTask (at_once asked) old new = MayRead asked old new
-MayReadTask (serve sessions books) old new = Unit {0}
+MayReadTask (serve service) old new = Unit {0}
 
 -- a point is no code, of a report of a book or of an audit, or a portfolio that `explain` names
 abbrev pub NamesNoCode : Wanted → Type 0
 NamesNoCode (at_once asked) = HasNoCode asked
-NamesNoCode (serve sessions books) = ⊥
+NamesNoCode (serve service) = ⊥
 
 abbrev pub no_task_code : ProgramFault
 no_task_code = Command no_code

@@ -56,8 +56,8 @@ fn point_out<E: Write>(mistake: Mistake<'_>, errors: &mut E) -> Result<(), Progr
 /// any. Words in which `clap` objects to nothing ask for the command that they name, or else for
 /// `match`. Books are read from `books`, by the names in the words, and those of `serve` are files. A
 /// fault is one line on `errors` (a wrong command line has more words there) and nothing
-/// on `output`, unless memory runs out in a script's step, a running office gives up, books differ, or
-/// a writer fails: that is `Write`, after all other faults but those three.
+/// on `output`, unless memory runs out in a script's step, a running office gives up, books differ or
+/// close no cycle, or a writer fails: that is `Write`, after all other faults but those four.
 pub fn dispatch<
     B: BookSource,
     S: AsStr,

@@ -8,6 +8,7 @@ mod places;
 mod program_fault;
 mod progress;
 mod service;
+mod standing;
 mod stations;
 mod tasks;
 

@@ -1,20 +1,27 @@
 //! Where the books of two running offices stand.
 
 ghost use Rattle.std.specs.Prelude.{◌≡◌, IfErr};
-ghost use Rattle.gi_service.specs.Serving.{IsPrefixFault, missing_of};
+ghost use Rattle.gi_service.specs.Standing.{IsPrefixFault};
 
-use gi_commands::Fault;
-use gi_pairs::Side;
-use gi_store::{BookSource, BookStore, FileSource, StoreFault, book_of_file};
+use crate::standing::{Found, Standing, may_open};
+use gi_command_line::WaitSeconds;
+use gi_commands::{Fault, owned_facts};
+use gi_desk::Fact;
+use gi_pairs::{Code, Side};
+use gi_store::{
+    BookStore, FileSource, Owner, StoreFault, book_of_file, close_book, head_of_file, left_head,
+};
 use sqlite::{Alter, Connection, File, FileStore, MemStore};
 use std::alloc::{AllocError, Global};
-use std::fs;
+use std::io::{IsTerminal, Write};
+use std::time::Duration;
+use std::{fs, thread};
 
 /// Where books stand.
 pub(crate) trait Place {
-    ghost use Rattle.std.specs.Prelude.{IfErr, IfOk};
+    ghost use Rattle.std.specs.Prelude.{◌≡◌, IfErr, IfOk, OnOk, length};
     ghost use Rattle.gi_pairs.specs.declared.side.Side.{Side};
-    ghost use Rattle.gi_store.specs.Book.{BookState};
+    ghost use Rattle.gi_store.specs.Book.{BookState, counted};
     ghost use Rattle.gi_store.specs.declared.store_fault.StoreFault.{StoreFault};
 
     type Store: Alter + Drop + Send;
@@ -22,12 +29,24 @@ pub(crate) trait Place {
     /// What the book of a side may be as it is opened.
     ghost opens: { Self → Side → BookState Self.Store → Type 0 };
 
-    /// Why the book of a side may not be opened.
+    /// Why the book of a side may not be opened, or kept.
     ghost refuses: { Self → Side → StoreFault → Type 0 };
 
     /// Opens the book of a side, and makes it where it is not there. It is not loaded.
     fn book(&self, side: Side) -> Result<BookStore<Self::Store>, StoreFault>
         ensures opened { IfOk result (λ book. opens self.now side book) }
+        ensures refused { IfErr result (λ fault. refuses self.now side fault) };
+
+    /// Begins to keep what tells lost facts beside the book of a side, which is loaded and has these facts.
+    fn keep(
+        &self,
+        side: Side,
+        book: &mut BookStore<Self::Store>,
+        facts: &[Fact],
+    ) -> Result<(), StoreFault>
+        requires loaded { book.old.loaded ≡ counted (length facts.now) }
+        ensures connection { OnOk result (book.new.connection ≡ book.old.connection) }
+        ensures loaded { OnOk result (book.new.loaded ≡ book.old.loaded) }
         ensures refused { IfErr result (λ fault. refuses self.now side fault) };
 }
 
@@ -35,21 +54,23 @@ pub(crate) trait Place {
 #[derive(Drop)]
 pub(crate) struct InMemory {
     pub(crate) alloc: Global,
+    pub(crate) point: Code,
 }
 
 impl Place for InMemory {
     ghost use Rattle.std.specs.Prelude.{◌≡◌, None};
-    ghost use Rattle.gi_store.specs.FaultText.{IsRefusal};
+    ghost use Rattle.gi_store.specs.FaultText.{IsPreparingRefusal};
 
     type Store = MemStore;
 
     ghost opens = { λ _ side book. book.loaded ≡ None };
 
-    ghost refuses = { λ _ side fault. IsRefusal fault };
+    ghost refuses = { λ _ side fault. IsPreparingRefusal fault };
 
-    fn book(&self, _side: Side) -> Result<BookStore<MemStore>, StoreFault> {
+    fn book(&self, side: Side) -> Result<BookStore<MemStore>, StoreFault> {
         let connection = Connection::open_in_memory(self.alloc)?;
-        match BookStore::open(self.alloc, connection) {
+        let point = self.point;
+        match BookStore::open(self.alloc, connection, Owner { side, point }) {
             Ok(book) => Ok(book),
             Err((connection, fault)) => {
                 drop(connection);
@@ -57,80 +78,164 @@ impl Place for InMemory {
             }
         }
     }
+
+    fn keep(
+        &self,
+        _side: Side,
+        _book: &mut BookStore<MemStore>,
+        _facts: &[Fact],
+    ) -> Result<(), StoreFault> {
+        Ok(())
+    }
 }
 
-/// Books in the files `PREFIX-I.db` and `PREFIX-M.db`.
+/// Books in the files `PREFIX-I.db` and `PREFIX-M.db`, of one point.
 #[derive(Drop)]
 pub(crate) struct InFiles<'a> {
-    pub(crate) rt: &'a HostRuntime,
-    pub(crate) prefix: &'a str,
+    rt: &'a HostRuntime,
+    initiating: String,
+    matching: String,
+    point: Code,
+    /// How long to try where a book is in use.
+    wait: WaitSeconds,
 }
+
+/// How often a book in use is tried in a second.
+const TRIES: u32 = 10;
 
 fn name_of(rt: &HostRuntime, prefix: &str, side: Side) -> Result<String, AllocError> {
     format!(in rt.alloc(); "{prefix}-{side}.db")
 }
 
-/// Of which side the book is missing, by whether each is there.
-fn missing(initiating: bool, matching: bool) -> Option<Side>
-    ensures { result ≡ missing_of initiating matching }
+/// What stands where no book is read, this or that a head is left, which tells of facts.
+fn left(rt: &HostRuntime, name: &str, standing: Standing) -> Found {
+    match left_head(rt, name) {
+        Ok(Some(head)) if head.facts > 0 => Err(StoreFault::Lost(head.facts)),
+        Ok(_) => Ok(standing),
+        Err(fault) => Err(fault),
+    }
+}
+
+/// The same of a file that is there and is no book, as where its log has all of it and is damaged: where it is
+/// empty the opening makes its tables, and else tells it. The head stands beside the file that a link leads to.
+fn left_of_none(rt: &HostRuntime, name: &str) -> Found {
+    match fs::canonicalize(rt, name) {
+        Ok(real) => left(rt, real.as_str(), Standing::Empty),
+        Err(_) => Err(StoreFault::Store),
+    }
+}
+
+/// What stands under the name of a book, read in a copy.
+fn standing(rt: &HostRuntime, name: &str, owner: Owner) -> Found {
+    if !fs::exists(rt, name).unwrap_or(true) {
+        return left(rt, name, Standing::Missing);
+    }
+    match owned_facts(&FileSource::new(rt), name, owner) {
+        Ok(facts) => Ok(Standing::of(&facts)),
+        Err(StoreFault::Version) => left_of_none(rt, name),
+        Err(fault) => Err(fault),
+    }
+}
+
+/// Whether both books are to be made, by what stands under their names.
+fn may_open_both(
+    rt: &HostRuntime,
+    initiating: &str,
+    matching: &str,
+    point: Code,
+    only_old: bool,
+) -> Result<bool, Fault>
+    ensures { IfErr result IsPrefixFault }
 {
-    match (initiating, matching) {
-        (true, false) => Some(Side::M),
-        (false, true) => Some(Side::I),
-        _ => None,
-    }
+    let side = Side::I;
+    let ours = standing(rt, initiating, Owner { side, point });
+    let side = Side::M;
+    let theirs = standing(rt, matching, Owner { side, point });
+    may_open(only_old, ours, theirs)
 }
 
-/// Whether a file may be a book with facts. One with none is left where a run was killed before it had
-/// made both.
-fn may_have_facts(rt: &HostRuntime, name: &str) -> Result<bool, AllocError> {
-    match FileSource::new(rt).facts(name) {
-        Ok(facts) => Ok(!facts.is_empty()),
-        Err(StoreFault::Version) => Ok(false),
-        Err(StoreFault::OutOfMemory) => Err(AllocError),
-        Err(_) => Ok(true),
+/// Tells on a terminal that both books are made.
+fn tell_new(rt: &HostRuntime, prefix: &str) {
+    let mut errors = rt.stderr();
+    if errors.is_terminal() {
+        let _ = write!(errors, "new books: {prefix}-I.db and {prefix}-M.db\n");
     }
-}
-
-fn is_there(rt: &HostRuntime, name: &str) -> bool {
-    fs::exists(rt, name).unwrap_or(true)
 }
 
 impl<'a> InFiles<'a> {
-    /// The books of a prefix. `MissingBook` where one of the two files is not there and the other one may
-    /// have facts: nothing is made then.
-    pub(crate) fn at(rt: &'a HostRuntime, prefix: &'a str) -> Result<InFiles<'a>, Fault>
+    /// The books of a prefix, none of which is opened yet; where one is in use it will be tried for so long.
+    /// The first of `MissingBook`, where one of the two is not there and the other one may have facts, or where
+    /// one is not there and only old ones are taken; and of what is told of a copy of I's, and then of M's.
+    pub(crate) fn at(
+        rt: &'a HostRuntime,
+        prefix: &str,
+        point: Code,
+        wait: WaitSeconds,
+        only_old: bool,
+    ) -> Result<InFiles<'a>, Fault>
         ensures { IfErr result IsPrefixFault }
     {
         let initiating = name_of(rt, prefix, Side::I)?;
         let matching = name_of(rt, prefix, Side::M)?;
-        let Some(side) = missing(is_there(rt, &initiating), is_there(rt, &matching)) else {
-            return Ok(InFiles { rt, prefix });
-        };
-        let other = match side {
-            Side::I => &matching,
-            Side::M => &initiating,
-        };
-        if may_have_facts(rt, other)? {
-            return Err(Fault::MissingBook(side));
+        if may_open_both(rt, &initiating, &matching, point, only_old)? {
+            tell_new(rt, prefix);
         }
-        Ok(InFiles { rt, prefix })
+        Ok(InFiles {
+            rt,
+            initiating,
+            matching,
+            point,
+            wait,
+        })
+    }
+
+    fn name(&self, side: Side) -> &str {
+        match side {
+            Side::I => self.initiating.as_str(),
+            Side::M => self.matching.as_str(),
+        }
+    }
+
+    /// Closes both books, which are not open any more: the first fault.
+    pub(crate) fn close(&self) -> Result<(), StoreFault> {
+        let first = close_book(self.rt, self.initiating.as_str());
+        let second = close_book(self.rt, self.matching.as_str());
+        first.and(second)
     }
 }
 
 impl Place for InFiles<'_> {
-    ghost use Rattle.std.specs.Prelude.{◌≡◌, None};
-    ghost use Rattle.gi_store.specs.FaultText.{IsOpenRefusal};
+    ghost use Rattle.std.specs.Prelude.{◌≡◌, ◌⊎◌, None};
+    ghost use Rattle.gi_store.specs.FaultText.{IsKeepingFault, IsOpenRefusal};
 
     type Store = FileStore<File>;
 
     // Under which name it stands, and what a file holds, no clause can say.
     ghost opens = { λ _ side book. book.loaded ≡ None };
 
-    ghost refuses = { λ _ side fault. IsOpenRefusal fault };
+    ghost refuses = { λ _ side fault. IsOpenRefusal fault ⊎ IsKeepingFault fault };
 
     fn book(&self, side: Side) -> Result<BookStore<FileStore<File>>, StoreFault> {
-        let name = name_of(self.rt, self.prefix, side)?;
-        book_of_file(self.rt, name.as_str())
+        let name = self.name(side);
+        let point = self.point;
+        let tries = self.wait.seconds() * TRIES;
+        for tried in 0..=tries {
+            match book_of_file(self.rt, name, Owner { side, point }) {
+                Err(StoreFault::Busy) if tried < tries => {
+                    thread::sleep(self.rt, Duration::from_millis(100));
+                }
+                opened => return opened,
+            }
+        }
+        Err(StoreFault::Busy)
+    }
+
+    fn keep(
+        &self,
+        side: Side,
+        book: &mut BookStore<FileStore<File>>,
+        facts: &[Fact],
+    ) -> Result<(), StoreFault> {
+        head_of_file(self.rt, book, self.name(side), facts)
     }
 }

@@ -18,6 +18,9 @@ pub enum ProgramFault {
     /// Two running offices did not serve their script to its end, or not well.
     #[error(transparent)]
     Served(ServeFault),
+    /// They did, and then one of their books could not be closed.
+    #[error(transparent)]
+    Closed(StoreFault),
 }
 
 impl From<TableFault> for ProgramFault {
@@ -57,6 +60,8 @@ impl ProgramFault {
         match self {
             ProgramFault::Command(fault) => fault.status(),
             ProgramFault::Served(fault) => status_of_served(fault),
+            ProgramFault::Closed(StoreFault::OutOfMemory) => 4,
+            ProgramFault::Closed(_) => 3,
         }
     }
 }

@@ -1,14 +1,19 @@
 //! What each side of two running offices begins with: its desk, replayed from its book.
 
-ghost use Rattle.std.specs.Prelude.{◌≡◌, IfErr, IfOk, false, length, string_bytes};
+ghost use Rattle.std.specs.Prelude.{◌≡◌, IfErr, IfOk, OnOk, false, length, string_bytes};
 ghost use Rattle.sqlite.specs.Held.{state};
 ghost use Rattle.gi_store.specs.Book.{IsRead, counted};
 ghost use Rattle.gi_store.specs.Clean.{IsClean};
 ghost use Rattle.gi_pairs.specs.declared.side.Side.TheVariants.{I, M};
-ghost use Rattle.gi_service.specs.Opening.{IsFirstSideFault, IsKeptFrom, IsSideFault};
-ghost use Rattle.gi_service.specs.Serving.{IsBooksFault, IsServedFrom, IsStationFault};
+ghost use Rattle.gi_audit.specs.Agreeing.{Agree};
+ghost use Rattle.gi_service.specs.KeptFrom.{IsKeptFrom};
+ghost use Rattle.gi_service.specs.Opening.{IsFirstSideFault, IsSideFault};
+ghost use Rattle.gi_service.specs.Pasts.{HaveOnePast, IsPastFault};
+ghost use Rattle.gi_service.specs.Serving.{IsBooksFault, IsServedFrom};
+ghost use Rattle.gi_service.specs.Stations.{IsStationFault};
 
 use crate::places::Place;
+use gi_audit::{Audited, Verdict, audit};
 use gi_command_line::Sessions;
 use gi_commands::{Fault, replayed};
 use gi_desk::{Desk, Role};
@@ -40,6 +45,7 @@ fn station<R: Role, P: Place>(
 {
     let mut book = place.book(R::SIDE)?;
     let facts = book.load()?;
+    place.keep(R::SIDE, &mut book, &facts)?;
     match replayed(alloc, point, facts) {
         Ok(desk) => Ok((desk, book)),
         Err(fault) => Err(fault),
@@ -84,8 +90,28 @@ fn stations<P: Place>(
     }
 }
 
+/// Whether both desks have one past: no table of theirs differs. `TwoPasts` names the first cycle that differs.
+fn agreed(
+    alloc: Global,
+    initiating: &Desk<Initiating>,
+    matching: &Desk<Matching>,
+) -> Result<(), Fault>
+    requires initiating { initiating.now.halted ≡ false }
+    requires matching { matching.now.halted ≡ false }
+    ensures agreed { OnOk result (Agree initiating.now matching.now) }
+    ensures fault { IfErr result (IsPastFault initiating.now matching.now) }
+{
+    let Audited { text, verdict } = audit(alloc, initiating, matching)?;
+    drop(text);
+    match verdict {
+        Verdict::Differs(id) => Err(Fault::TwoPasts(id.day, id.cycle)),
+        _ => Ok(()),
+    }
+}
+
 /// Serves a script over the books of both sides, the initiating one's loaded before the matching
-/// one's is opened. The fault is of one of the books, or `OutOfMemory`, before the first step: the first of them.
+/// one's is opened, where they have one past. The fault is of one of the books or of both, or `OutOfMemory`, before
+/// the first step: the first of them.
 pub(crate) fn served<P: Place, T: Threads + Wait + Sync, V: Watch>(
     threads: &T,
     watch: &mut V,
@@ -95,10 +121,15 @@ pub(crate) fn served<P: Place, T: Threads + Wait + Sync, V: Watch>(
     place: &P,
 ) -> Result<Served, Fault>
     ensures served { IfOk result (λ served. IsServedFrom sessions script.now (string_bytes served.text) served.end) }
+    ensures agreed { IfOk result (λ served. HaveOnePast P.Store.Store (P.opens place.now) script.now.point) }
     ensures fault { IfErr result (IsBooksFault script.now.point) }
     ensures first { IfErr result (IsFirstSideFault (P.opens place.now) (P.refuses place.now) script.now.point) }
 {
     let (initiating, matching) = stations(alloc, script.point(), place)?;
+    if let Err(fault) = agreed(alloc, &initiating.0, &matching.0) {
+        drop((initiating, matching));
+        return Err(fault);
+    }
     Ok(serve(
         threads,
         alloc,

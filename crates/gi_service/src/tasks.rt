@@ -41,14 +41,6 @@ pub fn perform_task<B: BookSource, R: Read, W: Write, T: Threads + Wait + Sync, 
             Ok(()) => Ok(()),
             Err(fault) => Err(ProgramFault::Command(fault)),
         },
-        Task::Serve(service) => serve_script(
-            rt,
-            threads,
-            watch,
-            service.sessions,
-            service.books,
-            input,
-            output,
-        ),
+        Task::Serve(service) => serve_script(rt, threads, watch, service, input, output),
     }
 }
