@@ -1,5 +1,5 @@
 -- What comes of reading a book by its name as that of a side and a point.
-use Rattle.std.specs.Prelude.{◌≡◌, ◌≢◌, ℕ, List, Option, Some, IfSome, Result, Ok, Err}
+use Rattle.std.specs.Prelude.{◌≡◌, ◌≢◌, ℕ, List, Some, IfSome, Result, Ok, Err}
 use Rattle.gi_facts.specs.declared.fact.Fact.{Fact}
 use Rattle.gi_pairs.specs.declared.side.Side.{Side}
 use Rattle.gi_store.specs.Copies.{BookCopyState}

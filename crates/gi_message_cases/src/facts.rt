@@ -24,7 +24,7 @@ impl Facts {
         Facts { fact: None }
     }
 
-    /// Keeps a fact that was read. The answer is what is written for it.
+    /// Keeps a fact that was read. The answer is what is written for it, or that memory is wanted for that.
     fn keep(
         &mut self,
         alloc: Global,
@@ -34,8 +34,10 @@ impl Facts {
         text: &mut Answer,
     ) -> Result<bool, Fault> {
         let fact = self.fact.insert(fact);
-        let written = encode_fact(alloc, fact)?;
-        add_written(form, read, &written, text);
+        match encode_fact(alloc, fact) {
+            Ok(written) => add_written(form, read, &written, text),
+            Err(_) => text.add("OutOfMemory"),
+        }
         Ok(true)
     }
 

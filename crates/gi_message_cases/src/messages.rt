@@ -27,7 +27,7 @@ impl Messages {
         }
     }
 
-    /// Keeps a message that was read. The answer is what is written for it.
+    /// Keeps a message that was read. The answer is what is written for it, or that memory is wanted for that.
     fn keep(
         &mut self,
         alloc: Global,
@@ -37,8 +37,10 @@ impl Messages {
         text: &mut Answer,
     ) -> Result<bool, Fault> {
         let message = self.message.insert(message);
-        let written = encode(alloc, message)?;
-        add_written(form, read, &written, text);
+        match encode(alloc, message) {
+            Ok(written) => add_written(form, read, &written, text),
+            Err(_) => text.add("OutOfMemory"),
+        }
         Ok(true)
     }
 

@@ -1,5 +1,4 @@
 -- What is told of a copy of a book is told of the prefix.
-use Rattle.std.proofs.Common.{◌≡◌}
 use Rattle.gi_store.specs.declared.store_fault.StoreFault.{StoreFault}
 use Rattle.gi_store.specs.declared.store_fault.StoreFault.TheVariants as store
 use Rattle.gi_commands.specs.Fault.{store_fault}

@@ -1,5 +1,5 @@
 -- That two books have one past, as an audit finds it.
-use Rattle.std.specs.Prelude.{◌≡◌, ℕ, List, Some}
+use Rattle.std.specs.Prelude.{ℕ, List}
 use Rattle.sqlite_trees.specs.declared.store.Store.{Ghosts}
 use Rattle.sqlite.specs.Held.{state}
 use Rattle.gi_pairs.specs.declared.side.Side.{Side}

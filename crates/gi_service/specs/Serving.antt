@@ -1,12 +1,10 @@
 -- What both running offices write of a script, and the faults of that in their order.
-use Rattle.std.specs.Prelude.{◌≡◌, ◌<◌, ◌≤◌, ◌⊎◌, ℕ, Bool, true, false, List, length, Option, Some, None, IfSome, Result, Ok, Err}
+use Rattle.std.specs.Prelude.{◌≡◌, ◌<◌, ◌≤◌, ◌⊎◌, ℕ, List, length, Option, Some, IfSome, Result, Ok, Err}
 use Rattle.std.specs.Io.KnownBytes.{Appends, Keeps}
 use Rattle.gi_pairs.specs.declared.side.Side.{Side}
 use Rattle.gi_pairs.specs.declared.side.Side.TheVariants.{I, M}
 use Rattle.gi_script.specs.Script.{IsOfficeFault, IsOfficeScript, ScriptContents}
 use Rattle.gi_table_commands.specs.Input.{most_input}
-use Rattle.gi_facts.specs.declared.fact.Fact.{Fact}
-use Rattle.gi_desk.specs.Machine.{bad_fact}
 use Rattle.gi_store.specs.declared.store_fault.StoreFault.{StoreFault}
 use Rattle.gi_store.specs.declared.store_fault.StoreFault.TheVariants as store
 use Rattle.gi_commands.specs.declared.fault.Fault.{Fault}

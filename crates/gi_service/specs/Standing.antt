@@ -1,8 +1,9 @@
 -- What stands under the names of two books before they are opened, and what is refused for it.
-use Rattle.std.specs.Prelude.{Bool, true, false, List, [], ◌∷◌, Option, None, Some, Result, Ok, Err}
+use Rattle.std.specs.Prelude.{Bool, true, false, ◌==◌, if◌then◌else◌, List, [], ◌∷◌, Option, None, Some, Result, Ok, Err}
 use Rattle.gi_facts.specs.declared.fact.Fact.{Fact}
 use Rattle.gi_pairs.specs.declared.side.Side.{Side}
 use Rattle.gi_pairs.specs.declared.side.Side.TheVariants.{I, M}
+use Rattle.gi_store.specs.declared.head.Head.{Head}
 use Rattle.gi_store.specs.declared.store_fault.StoreFault.{StoreFault}
 use Rattle.gi_store.specs.declared.store_fault.StoreFault.TheVariants as store
 use Rattle.gi_commands.specs.Fault.{store_fault}
@@ -19,6 +20,12 @@ standing_of (fact ∷ facts) = Facts
 -- what stands there, or what is told of it
 abbrev pub Found : Type 0
 Found = Result Standing StoreFault
+
+-- where no file is there, by the head that is left: facts that it tells are lost
+abbrev pub left_of : Result (Option Head) StoreFault → Found
+left_of (Ok None) = Ok Missing
+left_of (Ok (Some head)) = if head.facts == 0 then Ok Missing else Err (store.Lost head.facts)
+left_of (Err why) = Err why
 
 -- a book with no facts is no reason, where one may be made at all
 abbrev pub of_standing : Bool → Side → Standing → Option Fault

@@ -3,7 +3,7 @@
 ghost use Rattle.std.specs.Prelude.{◌≡◌, IfErr};
 ghost use Rattle.gi_service.specs.Standing.{IsPrefixFault};
 
-use crate::standing::{Found, Standing, may_open};
+use crate::standing::{Found, found, left, may_open};
 use gi_command_line::WaitSeconds;
 use gi_commands::{Fault, owned_facts};
 use gi_desk::Fact;
@@ -107,33 +107,12 @@ fn name_of(rt: &HostRuntime, prefix: &str, side: Side) -> Result<String, AllocEr
     format!(in rt.alloc(); "{prefix}-{side}.db")
 }
 
-/// What stands where no book is read, this or that a head is left, which tells of facts.
-fn left(rt: &HostRuntime, name: &str, standing: Standing) -> Found {
-    match left_head(rt, name) {
-        Ok(Some(head)) if head.facts > 0 => Err(StoreFault::Lost(head.facts)),
-        Ok(_) => Ok(standing),
-        Err(fault) => Err(fault),
-    }
-}
-
-/// The same of a file that is there and is no book, as where its log has all of it and is damaged: where it is
-/// empty the opening makes its tables, and else tells it. The head stands beside the file that a link leads to.
-fn left_of_none(rt: &HostRuntime, name: &str) -> Found {
-    match fs::canonicalize(rt, name) {
-        Ok(real) => left(rt, real.as_str(), Standing::Empty),
-        Err(_) => Err(StoreFault::Store),
-    }
-}
-
-/// What stands under the name of a book, read in a copy.
+/// What stands under the name of a book: read in a copy where a file is there, else as the head that is left tells.
 fn standing(rt: &HostRuntime, name: &str, owner: Owner) -> Found {
-    if !fs::exists(rt, name).unwrap_or(true) {
-        return left(rt, name, Standing::Missing);
-    }
-    match owned_facts(&FileSource::new(rt), name, owner) {
-        Ok(facts) => Ok(Standing::of(&facts)),
-        Err(StoreFault::Version) => left_of_none(rt, name),
-        Err(fault) => Err(fault),
+    if fs::exists(rt, name).unwrap_or(true) {
+        found(owned_facts(&FileSource::new(rt), name, owner))
+    } else {
+        left(left_head(rt, name))
     }
 }
 

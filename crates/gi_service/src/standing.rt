@@ -1,18 +1,19 @@
 //! What stands under the names of two books before they are opened, and what is refused for it.
 
-ghost use Rattle.std.specs.Prelude.{◌≡◌, ◌↔◌, IfErr, IfOk, IfSome, IsTrue, None, Ok, Some};
-ghost use Rattle.gi_service.specs.Standing.{IsPrefixFault, first_refusal, of_one, standing_of};
-ghost use Rattle.gi_service.specs.declared.standing.Standing.TheVariants.{Missing};
+ghost use Rattle.std.specs.Prelude.{◌≡◌, ◌≢◌, ◌↔◌, Err, IfErr, IfOk, IfSome, IsTrue, None, Ok, Some};
+ghost use Rattle.gi_service.specs.Standing.{IsPrefixFault, first_refusal, left_of, of_one, standing_of};
+ghost use Rattle.gi_service.specs.declared.standing.Standing.TheVariants.{Empty, Missing};
+ghost use Rattle.gi_store.specs.declared.store_fault.StoreFault.TheVariants.{Version};
 
 use gi_commands::Fault;
 use gi_desk::Fact;
 use gi_pairs::Side;
-use gi_store::StoreFault;
+use gi_store::{Head, StoreFault};
 
 /// What stands under the name of a book, where nothing is told of it.
 #[derive(Clone, Copy, Debug, PartialEq, Eq)]
 pub(crate) enum Standing {
-    /// Nothing.
+    /// No file, and no head that tells facts of one.
     Missing,
     /// A book with no facts, or a file that is none: a run that was killed before it had made both leaves one.
     Empty,
@@ -33,6 +34,30 @@ impl Standing {
         } else {
             Standing::Facts
         }
+    }
+}
+
+/// Where a file is there, and its book was read so. Of one that is no book it is left to the opening to tell whether
+/// one can be made in it.
+pub(crate) fn found(read: Result<Vec<Fact>, StoreFault>) -> Found
+    ensures facts { IfOk read (λ facts. result ≡ Ok (standing_of facts.items)) }
+    ensures none { read ≡ Err Version → result ≡ Ok Empty }
+    ensures told { IfErr read (λ fault. fault ≢ Version → result ≡ Err fault) }
+{
+    match read {
+        Ok(facts) => Ok(Standing::of(&facts)),
+        Err(StoreFault::Version) => Ok(Standing::Empty),
+        Err(fault) => Err(fault),
+    }
+}
+
+/// Where no file is there, and the head that a book of its name has beside it was read so.
+pub(crate) fn left(head: Result<Option<Head>, StoreFault>) -> Found
+    ensures { result ≡ left_of head }
+{
+    match head? {
+        Some(head) if 0 < head.facts => Err(StoreFault::Lost(head.facts)),
+        _ => Ok(Standing::Missing),
     }
 }
 

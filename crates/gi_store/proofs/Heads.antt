@@ -3,7 +3,7 @@ use Rattle.std.proofs.Common.{◌≡◌, ℕ, zero, suc, ◌+◌, ◌*◌, ◌-�
 use Rattle.std.proofs.Math.Nat.{pow-le-pow_right, pow-suc}
 use Rattle.std.proofs.lemmas.Bool.{cases_Bool}
 use Rattle.std.proofs.lemmas.Nat.{div_below}
-use Rattle.std.proofs.lemmas.List.{drop-set, drop_at, set_at, take_at, take_more}
+use Rattle.std.proofs.lemmas.List.{drop-set, drop_at, length-drop, set_at, take-append-drop, take_at, take_more}
 use Rattle.std.proofs.lemmas.List.Sums.{fold-append}
 use Rattle.std.specs.Str.{IsAscii}
 use Rattle.std.proofs.lemmas.Str.Ascii.{IsAscii-cons, IsAscii-nil}
@@ -16,7 +16,8 @@ use Rattle.gi_facts.specs.declared.fact.Fact.{Fact}
 use Rattle.gi_store.specs.Book.{IsPut, IsToldOf, KeepsOrPuts, counted}
 use Rattle.gi_store.specs.Keeping.{Keeps}
 use Rattle.gi_store.specs.declared.head.Head.{Head}
-use Rattle.gi_store.specs.Heads.{IsHead, digits, head_text, number_in, told_after}
+use Rattle.gi_store.specs.Digests.{chain_from, chain_of, first_link, next_link}
+use Rattle.gi_store.specs.Heads.{IsHead, Tells, digits, gone_on, head_of, head_text, number_in, told_after}
 
 pub length-digits : (places number : ℕ) → length (digits places number) ≡ places
 unfolding digits
@@ -180,3 +181,13 @@ told_of (Some head) known facts told =
       | inl few ↦ rw same (rw few refl)
       | inr many ↦ rw same (rw many tt)
     ]
+
+-- the head of the facts that one tells, gone on by the rest, is that of all
+pub gone_on_is : (head : Head) (facts : List Fact) → Tells head facts → gone_on head (drop head.facts facts) ≡ head_of facts
+gone_on_is head facts tells =
+    let k : ℕ = head.facts in
+    let split : take k facts ++ drop k facts ≡ facts = take-append-drop k facts in
+    let chain : chain_from (chain_of (take k facts)) (drop k facts) ≡ chain_of facts = sym (fold-append next_link first_link (take k facts) (drop k facts)) ∙ ap chain_of split in
+    let digest : chain_from head.digest (drop k facts) ≡ chain_of facts = ap (λ link. chain_from link (drop k facts)) (sym tells.chain) ∙ chain in
+    let number : head.facts + length (drop k facts) ≡ length facts = simp length-drop (omega (arith, tells.within)) in
+    same_some (both_parts (head.facts + length (drop k facts)) (chain_from head.digest (drop k facts)) (head_of facts) number digest)

@@ -1,8 +1,7 @@
 -- What follows of a book for its owner.
-use Rattle.std.proofs.Common.{◌≡◌, ◌≢◌, ◌⊎◌, inl, inr, ℕ, List, [], ◌∷◌, ◌++◌, Some, None, Ok, Err, Result, OnOk, IfErr, IsErrAnd, codes, refl, sym, ap, subst, ◌∙◌, false, IsTrue, arith}
+use Rattle.std.proofs.Common.{◌≡◌, ◌≢◌, ◌⊎◌, inl, inr, ℕ, List, [], ◌∷◌, ◌++◌, Some, Ok, Err, Result, OnOk, IfErr, IsErrAnd, codes, refl, sym, ap, subst, ◌∙◌, false, IsTrue, arith}
 use Rattle.sqlite_value.specs.declared.value.Value.TheVariants.{Text as Words}
 use Rattle.sqlite_value.specs.Order.{Row}
-use Rattle.sqlite_trees.specs.Tree.{Trees}
 use Rattle.sqlite.specs.Schema.{Schema}
 use Rattle.sqlite.specs.Table.{Table}
 use Rattle.sqlite.specs.Effect.{Database}
@@ -20,7 +19,7 @@ use Rattle.gi_store.specs.Owner.{IsOwnerText, owner_text}
 use Rattle.gi_store.specs.FaultText.{IsFailure}
 use Rattle.gi_store.specs.Tables.{IsFree, TakesOwner, table_at}
 use Rattle.gi_store.specs.Rows.{HasName, IsOwned, row_of}
-use Rattle.gi_store.specs.Keeping.{AddsNoOutcome, AddsName, AddsOwner, IsBookOf, IsFirstBook, IsMade, IsReady, KeepsOrAdds, KeepsOrMakes, LeavesOr, LeavesOrMakes, MakesBook, MakesNamed, MayLeave}
+use Rattle.gi_store.specs.Keeping.{AddsNoOutcome, AddsName, AddsOwner, IsBookOf, IsFirstBook, IsMade, IsReady, KeepsOrAdds, KeepsOrMakes, LeavesOr, LeavesOrMakes, MakesNamed, MayLeave}
 use Rattle.gi_store.specs.Opening.{IsOpenFault, IsOwnerFault, IsVersionFault}
 use Rattle.gi_store.proofs.Listed.{is_at}
 

@@ -1,5 +1,5 @@
 -- The chain of digests over the texts of facts, which tells facts that were lost or changed.
-use Rattle.std.specs.Prelude.{ℕ, List, [], ◌++◌}
+use Rattle.std.specs.Prelude.{List, [], ◌++◌}
 use Rattle.std.specs.List.{fold}
 use Rattle.sha2.specs.Sha256.{sha256}
 use Rattle.gi_facts.specs.declared.fact.Fact.{Fact}

@@ -39,6 +39,11 @@ number_in digits = fold (λ number digit. number * 10 + (digit - 48)) 0 digits
 
 -- ---- what it tells of a book
 
+-- a head tells facts, so many
+abbrev pub TellsSome : Option Head → ℕ → Type 0
+TellsSome None n = ⊥
+TellsSome (Some head) n = (head.facts ≡ n) × (0 < n)
+
 -- the book has the facts that the head tells, and perhaps more after them
 pub record Tells (head : Head) (facts : List Fact) : Type 0 where
   pub within : head.facts ≤ length facts

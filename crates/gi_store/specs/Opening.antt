@@ -1,11 +1,11 @@
 -- Why a database is not taken as a book. The failures of the database and want of memory have no cause here.
-use Rattle.std.specs.Prelude.{◌≡◌, ◌≢◌, ⊤}
+use Rattle.std.specs.Prelude.{◌≢◌, ⊤}
 use Rattle.sqlite.specs.State.{State}
 use Rattle.gi_store.specs.declared.store_fault.StoreFault.{StoreFault}
 use Rattle.gi_store.specs.declared.store_fault.StoreFault.TheVariants.{Version, OtherBook, Store, OutOfMemory}
 use Rattle.gi_pairs.specs.Code.{IsCode}
 use Rattle.gi_store.specs.declared.owner.Owner.{Owner}
-use Rattle.gi_store.specs.Tables.{HasOwnerTable, IsFree, TakesOwner}
+use Rattle.gi_store.specs.Tables.{IsFree}
 use Rattle.gi_store.specs.Rows.{IsOwned, SaysNone}
 use Rattle.gi_store.specs.Keeping.{IsBookOf, IsFirstBook, IsOlderBook}
 

@@ -1,5 +1,5 @@
 -- Whose a book is: a side's, at a point.
-use Rattle.std.specs.Prelude.{◌≡◌, ◌≢◌, ⊤, ℕ, List, ◌++◌, codes}
+use Rattle.std.specs.Prelude.{◌≡◌, ℕ, List, ◌++◌, codes}
 use Rattle.gi_pairs.specs.Code.{IsCode}
 use Rattle.gi_pairs.specs.Side.{side_text}
 use Rattle.gi_store.specs.declared.owner.Owner.{Owner}

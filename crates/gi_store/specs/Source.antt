@@ -10,7 +10,3 @@ Reading = Result BookCopyState StoreFault → Type 0
 -- the same of each name
 abbrev pub Source : Type 1
 Source = List ℕ → Reading
-
--- where nothing is known
-abbrev pub anything : Reading
-anything read = Unit {0}

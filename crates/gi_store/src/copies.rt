@@ -1,6 +1,6 @@
 //! Books read from copies of their files: the files stay as they are, whoever has them open.
 
-ghost use Rattle.std.specs.Prelude.{◌≡◌, IfErr, IfOk, IsTrue};
+ghost use Rattle.std.specs.Prelude.{◌≡◌, Err, IfErr, IfOk, IfSome, IsTrue};
 ghost use Rattle.sqlite_disk.specs.Memory.{memory_bytes, memory_is_usable};
 ghost use Rattle.sqlite.specs.State.{HasCleanDisk};
 ghost use Rattle.sqlite.specs.Files.{Finds, file_state};
@@ -9,10 +9,15 @@ ghost use Rattle.gi_store.specs.Book.{IsRead};
 ghost use Rattle.gi_store.specs.Clean.{IsClean};
 ghost use Rattle.gi_store.specs.Copies.{IsCopyIn};
 ghost use Rattle.gi_store.specs.FaultText.{IsFailure, IsLoadRefusal};
+ghost use Rattle.gi_store.specs.Heads.{Tells, TellsSome};
 ghost use Rattle.gi_store.specs.Keeping.{IsIdle, Keeps};
 ghost use Rattle.gi_store.specs.Rows.{SaysOwner};
+ghost use Rattle.gi_store.specs.Tables.{HasTables, IsFree};
+ghost use Rattle.gi_store.specs.declared.store_fault.StoreFault.TheVariants.{Lost, Version};
 
+use crate::checking::{check_some, checked};
 use crate::file_bytes::io_fault;
+use crate::head::Head;
 use crate::owner::Owner;
 use crate::owning::read_owner;
 use crate::reading::read_facts;
@@ -88,21 +93,28 @@ fn said_owner<S: Alter>(connection: &mut Connection<S>) -> Result<Option<Owner>,
     Ok(Some(owner))
 }
 
-/// What the database has of a book, the version first, then the owner, then the facts.
+/// What the database has of a book, the version first, then the owner, then the facts, which have to be
+/// those that the head tells. One in which a book could be made is no book, or has lost all that the head tells.
 fn read_copy<S: Alter>(
     alloc: Global,
+    head: Option<Head>,
     connection: &mut Connection<S>,
 ) -> Result<BookCopy, StoreFault>
     requires { IsClean S.Store connection.old → IsIdle (state S.Store connection.old) }
     ensures early { IsClean S.Store connection.new → IsClean S.Store connection.old }
     ensures copy { IsClean S.Store connection.new → IfOk result (λ copy. IsRead (state S.Store connection.new) copy.facts.items × SaysOwner copy.owner (state S.Store connection.new).now) }
+    ensures whole { IfOk result (λ copy. IfSome head (λ head. Tells head copy.facts.items)) }
+    ensures lost { (n : _) → TellsSome head n → IsFree (state S.Store connection.old).now.schema → result ≡ Err (Lost n) }
+    ensures other { ¬ (IsFree (state S.Store connection.old).now.schema) → ¬ (HasTables (state S.Store connection.old).now.schema) → result ≡ Err Version }
     ensures named { IfErr result IsLoadRefusal }
     ensures kept { IsClean S.Store connection.new → Keeps (state S.Store connection.old) (state S.Store connection.new) }
 {
+    check_some(head, connection.schema())?;
     check_version(connection)?;
     let owner = said_owner(connection)?;
     let rows = fact_rows(connection)?;
     let facts = read_facts(alloc, rows.as_slice())?;
+    checked(alloc, head, &facts)?;
     Ok(BookCopy {
         owner,
         facts,
@@ -111,14 +123,21 @@ fn read_copy<S: Alter>(
 }
 
 /// Whose the book is that the bytes of its file and of the log beside it hold, and its facts, or why
-/// there is none: as `BookStore::load` has it, and `Version` where a table of the owner has another
-/// form than a book's, or anything but one owner. No table is made where there is none.
-pub fn book_of_copy(alloc: Global, db: &[u8], log: &[u8]) -> Result<BookCopy, StoreFault>
+/// there is none: as `BookStore::load` has it, `Version` where a table of the owner has another
+/// form than a book's, or anything but one owner, and `Lost` where the head beside it tells facts that
+/// it has not, or there are no tables at all. No table is made where there is none.
+pub fn book_of_copy(
+    alloc: Global,
+    head: Option<Head>,
+    db: &[u8],
+    log: &[u8],
+) -> Result<BookCopy, StoreFault>
     ensures copy { IfOk result (λ copy. IsCopyIn db.now log.now (record { owner = copy.owner; facts = copy.facts.items; log = copy.log })) }
+    ensures whole { IfOk result (λ copy. IfSome head (λ head. Tells head copy.facts.items)) }
     ensures named { IfErr result IsLoadRefusal }
 {
     let mut connection = copied(alloc, db, log)?;
-    let copy = read_copy(alloc, &mut connection);
+    let copy = read_copy(alloc, head, &mut connection);
     drop(connection);
     copy
 }

@@ -11,7 +11,7 @@ ghost use Rattle.gi_store.specs.declared.store_fault.StoreFault.TheVariants.{Ver
 ghost use Rattle.gi_store.specs.FaultText.{IsFailure, IsKeepingFault, IsLoadRefusal, IsOpenRefusal, IsPreparingRefusal, opening_fault};
 
 use crate::book_store::BookStore;
-use crate::checking::checked;
+use crate::checking::head_after;
 use crate::copies::book_of_copy;
 use crate::file_bytes::{file_bytes, io_fault};
 use crate::head::Head;
@@ -115,8 +115,7 @@ fn read_once(rt: &HostRuntime, name: &str) -> Result<BookCopy, StoreFault>
 {
     let head = head_beside(rt, name)?;
     let bytes = file_bytes(rt, name)?;
-    let mut copy = book_of_copy(rt.alloc(), &bytes.file, &bytes.log)?;
-    checked(rt.alloc(), head, &copy.facts)?;
+    let mut copy = book_of_copy(rt.alloc(), head, &bytes.file, &bytes.log)?;
     copy.log = length_with_rows(&bytes.log);
     Ok(copy)
 }
@@ -194,8 +193,7 @@ fn head_for(rt: &HostRuntime, name: &str, facts: &[Fact]) -> Result<HeadFile, St
     ensures named { IfErr result IsKeepingFault }
 {
     let stands = read_head(rt, name)?;
-    checked(rt.alloc(), stands, facts)?;
-    let head = Head::new().then(rt.alloc(), facts)?;
+    let head = head_after(rt.alloc(), stands, facts)?;
     kept_file(rt, name, stands.is_some(), head)
 }
 

@@ -39,7 +39,8 @@ impl HeadFile {
         self.told
     }
 
-    /// Writes the head over the one before, with no sync.
+    /// Writes the head over the one before, with no sync. Where that fails the one before is written again,
+    /// as far as the disk lets it, lest half of each stand there.
     pub fn put(&mut self, head: Head) -> Result<(), StoreFault>
         ensures told { OnOk result (self.new ≡ head) }
         ensures failed { IfErr result IsFailure }
@@ -49,7 +50,10 @@ impl HeadFile {
                 self.told = head;
                 Ok(())
             }
-            Err(error) => Err(io_fault(error)),
+            Err(error) => {
+                let _ = self.file.write_all_at(self.told.text().as_slice(), 0);
+                Err(io_fault(error))
+            }
         }
     }
 

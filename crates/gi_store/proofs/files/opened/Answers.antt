@@ -1,4 +1,3 @@
-use Rattle.std.proofs.Common.{rules}
 use Rattle.gi_store.proofs.Whose.{gone}
 use Rattle.gi_store.proofs.files.opened.Goals as goal
 

@@ -1,4 +1,4 @@
-use Rattle.std.proofs.Common.{◌≡◌, ℕ, ◌++◌, length, drop}
+use Rattle.std.proofs.Common.{◌≡◌, ◌++◌, length, drop}
 use Rattle.gi_store.specs.Heads.{digits}
 use Rattle.gi_store.proofs.head.digits_of.Given as goal
 

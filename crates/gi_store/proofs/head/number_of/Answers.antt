@@ -1,5 +1,5 @@
-use Rattle.std.proofs.Common.{◌<◌, ◌≤◌, ◌^◌, arith, rules}
-use Rattle.gi_store.proofs.Heads.{number_more, pow_low, pow_more}
+use Rattle.std.proofs.Common.{◌<◌, ◌≤◌, ◌^◌, arith}
+use Rattle.gi_store.proofs.Heads.{pow_low}
 use Rattle.gi_store.proofs.head.number_of.Goals as goal
 
 pub overflow_mul-number : goal.overflow_mul-number

@@ -1,4 +1,4 @@
-use Rattle.gi_store.proofs.FirstBook.{kept_first, kept_name, survives_both, written_owner}
+use Rattle.gi_store.proofs.FirstBook.{kept_name, survives_both, written_owner}
 use Rattle.gi_store.proofs.making.write_owner.Goals as goal
 
 pub returns-clause-made : goal.returns-clause-made

@@ -1,7 +1,5 @@
-use Rattle.std.proofs.Common.{rules}
 use Rattle.std.specs.Str.{IsUtf8}
 use Rattle.std.proofs.lemmas.Str.{IsUtf8-from_ascii}
-use Rattle.hex.specs.Hex.{encode_lower}
 use Rattle.gi_store.proofs.Heads.{digest_is_ascii}
 use Rattle.gi_store.proofs.digest.DigestDisplay.fmt.Goals as goal
 

@@ -1,4 +1,4 @@
-use Rattle.std.proofs.Common.{◌≡◌, length, ◌∙◌, sym, ap}
+use Rattle.std.proofs.Common.{length, ◌∙◌, sym, ap}
 use Rattle.gi_store.specs.Heads.{head_text}
 use Rattle.gi_store.proofs.Heads.{digest_of_text, length-text, not_none, not_so, number_of_text, same_some}
 use Rattle.gi_store.proofs.head.Head.read.Goals as goal
