@@ -12,8 +12,8 @@ name (a wrong command line is told in more words), and nothing on standard outpu
 a writer fails, an office that runs gives up, books differ, or a book is not as expected.
 
 Exit status: 0 done, 1 refused input, a reader or writer that failed, offices or books that do not
-agree, or a book that is not as expected, 2 wrong command line, 3 a book that failed, is none, is
-missing or is in use, 4 want of memory.
+agree, books that close no cycle, or a book that is not as expected, 2 wrong command line, 3 a book
+that is none, is another's, is missing, is in use, lost facts or failed, 4 want of memory.
 
 Examples: gi_dispatch match < examples/match.txt
           gi_dispatch hours 2026-01-15
@@ -76,10 +76,12 @@ hour by hour) or `refused` (how many submissions of each portfolio were refused)
 input is a script as for `simulate`, whose steps are made and not told. With --book and --point the
 side's desk is read from its book instead, standard input is not read, and `refused` has no lines.
 
-Faults: those of `simulate`. With a book, the first of: CodeText (CODE is no code), Version (no
-book, as an empty file), Gap N, Damaged N or Store (the file is not there, is no database, or cannot
-be read), BadFact N (no desk records fact N after those before it), Write. The book is read from a
-copy in memory: no file is made or changed, and another command may have it open.";
+Faults: those of `simulate`. With a book, the first of: CodeText (CODE is no code), Head (what stands
+beside it as its head is none), Store (the file is not there, is no database, or cannot be read),
+Version (no book, as an empty file), Gap N or Damaged N (a row is missing or broken), Lost N (the
+book lacks facts of the N that its head tells), OtherBook SIDE POINT (it is theirs), BadFact N (no
+desk records fact N after those before it), Write. The book is read from a copy in memory: no file is
+made or changed, and another command may have it open.";
 
 const EXPLAIN_HELP: &str = "\
 What one quantity comes from at SIDE, `I` or `M`: that of the initiating operator's portfolio
@@ -104,20 +106,20 @@ row and hour, and both quantities. The last line is `agreed` (a cycle is, and no
 closed a cycle) or `differs at DAY CYCLE` for the first cycle that differs, with exit status 1.
 Standard input is not read.
 
-Faults, the first of: CodeText (CODE is no code); Version, Gap N, Damaged N or Store, as for
-`report`, of the initiating operator's book, then of the matching one's; BadFact N of the one, then
-of the other; Write; Differs or Empty, once the lines are written.";
+Faults, the first of: CodeText (CODE is no code); what is told of the initiating operator's book as
+for `report`, then of the matching one's; BadFact N of the one, then of the other; Write; Differs or
+Empty, once the lines are written.";
 
 const BOOK_HELP: &str = "\
 What the book in FILE is. Standard output gets seven lines, such as these, always in this order:
 
   owner I BORDER-1      whose it is: side and point; `?` of a book that an older program made
   facts 152             how many facts are saved
-  digest 3f..           SHA-256 over them, one after the other: 64 digits, 0-9 and a-f
+  digest 3f..           SHA-256, chained from fact to fact: 64 digits, 0-9 and a-f
   closed 12             how many cycles are closed
   confirmed 11          how many of them are confirmed
   room 999848 62        how many more facts, and how many more portfolios, the book takes
-  log 4120              bytes of the log beside it, FILE-wal; 0 where there is none
+  log 4120              bytes of the log beside it, FILE-wal; 0 where it has no rows
 
 A book only grows, so its first N facts keep their digest, whatever comes behind them. With
 --expect the first N (0 to 1000000, with no zero in front) have to be there and to have this DIGEST:
@@ -125,8 +127,8 @@ note what `facts` and `digest` tell, and ask for it later, or of a copy. Standar
 The book is read from a copy in memory: no file is made or changed, and another command may have it
 open.
 
-Faults, the first of: Version, Gap N, Damaged N, Store or BadFact N, as for `report`; Write;
-Unexpected (there are fewer than N facts, or they have another digest), after the lines.
+Faults, the first of: Head, Store, Version, Gap N, Damaged N, Lost N or BadFact N, as for `report`;
+Write; Unexpected (there are fewer than N facts, or they have another digest), after the lines.
 
 Exit status: 0 done, 1 Unexpected or Write, 2 wrong command line, 3 any other fault of the book, 4
 want of memory.
@@ -138,8 +140,8 @@ Standard input is a script as for `simulate`, without `save`, `deliver` and `res
 running offices save by themselves, and only what the carriers give is delivered. Each longest run
 of `submit` lines is a batch, which N sessions of each office (1 to 8, 2 where no number is given)
 make at the same time, each portfolio by one of them. The offices go on with the books in the files
-PREFIX-I.db and PREFIX-M.db, which are both made where neither is there; with no PREFIX, the books
-are in memory. With --old neither is made, and both have to be there. With --wait a book that
+PREFIX-I.db and PREFIX-M.db, which are both made where there is neither; with no PREFIX, the books
+are in memory. With --old none is made, and both have to be there. With --wait a book that
 another process has open is tried again for SECONDS (0 to 3600; 0 where no number is given) before
 it is Busy. Without --books both have no effect.
 
@@ -148,10 +150,12 @@ line, the side, and what came of it. Then come two lines with what each side hol
 tell whether each office's records agree with its desk, and the two offices with each other.
 
 Faults, the first of: Read, TooLarge, Point, `line N: Unreadable`, as for `simulate`; MissingBook I
-or M (it is not there, and the other side's has facts, or --old is given: nothing is made); for the
-book of I and then for that of M, Busy (another process has it open), Version, Gap N, Damaged N,
-Store or BadFact N, as for `report`; Write; and what a running office could not do, told after the
-lines of what was done before.";
+or M (it is not there, and the other side's has facts or cannot be read, or --old is given); what is
+told of a copy of I's book as for `report`, and then of M's; TwoPasts DAY CYCLE (the books differ, as
+`audit` tells it: exit status 1). Up to here nothing is made or changed. Then, for the book of I and
+then for that of M, Busy (another process has it open), or what is told of it as it is opened; Write;
+what a running office could not do, told after the lines of what was done before; and Store, where a
+book could not be closed.";
 
 fn word<'a>(alloc: Global, name: &'a str, help: &'a str) -> Arg<'a>
     ensures rule { rule_of result ≡ word_rule name.entry.now }

@@ -48,10 +48,11 @@ pub enum Fault {
     /// The point of a book, or a portfolio of `explain`, is no code.
     #[error(transparent)]
     Code(CodeText),
-    /// The file is no book of version 1, or it failed.
+    /// The book is none, is another's, is in use, lost facts, or failed.
     #[error(transparent)]
     Store(StoreFault),
-    /// Of the two books of `serve` the one of this side is not there, and the other one has facts.
+    /// Of the two books of `serve` the one of this side is not there, and the other one has facts or cannot be
+    /// read, or no book is to be made.
     #[error("MissingBook {0}")]
     MissingBook(Side),
     /// No desk records the book's fact of this number after those before it.

@@ -21,7 +21,7 @@ pub use commands::perform;
 pub use desk_report::DeskReport;
 pub use fault::Fault;
 pub use laws::one_status;
-pub use owned::owned_facts;
+pub use owned::{facts_of, owned_facts};
 pub use replaying::replayed;
 pub use reporting::{book_report, script_report};
 pub use simulating::{Written, simulated};

@@ -8,8 +8,9 @@ ghost use Rattle.gi_store.specs.declared.store_fault.StoreFault.TheVariants.{Oth
 use gi_desk::Fact;
 use gi_store::{BookCopy, BookSource, Owner, StoreFault};
 
-/// A book that does not say whose it is counts as anybody's.
-fn facts_of(copy: BookCopy, owner: Owner) -> Result<Vec<Fact>, StoreFault>
+/// The facts of a book, where it is this owner's, else `OtherBook`. One that does not say whose it is
+/// counts as anybody's.
+pub fn facts_of(copy: BookCopy, owner: Owner) -> Result<Vec<Fact>, StoreFault>
     ensures facts { IfOk result (λ facts. IsOf owner (copy_state copy) × (copy.facts.items ≡ facts.items)) }
     ensures other { IfErr result (λ fault. (other : Owner) × (fault ≡ OtherBook other) × IsOther owner other (copy_state copy)) }
 {

@@ -24,7 +24,8 @@ impl Facts {
         Facts { fact: None }
     }
 
-    /// Keeps a fact that was read. The answer is what is written for it, or that memory is wanted for that.
+    /// Keeps a fact that was read, and answers what is written for it; or that memory is wanted for that, and keeps
+    /// the one before.
     fn keep(
         &mut self,
         alloc: Global,
@@ -33,10 +34,15 @@ impl Facts {
         fact: Fact,
         text: &mut Answer,
     ) -> Result<bool, Fault> {
-        let fact = self.fact.insert(fact);
-        match encode_fact(alloc, fact) {
-            Ok(written) => add_written(form, read, &written, text),
-            Err(_) => text.add("OutOfMemory"),
+        match encode_fact(alloc, &fact) {
+            Ok(written) => {
+                add_written(form, read, &written, text);
+                self.fact = Some(fact);
+            }
+            Err(_) => {
+                drop(fact);
+                text.add("OutOfMemory");
+            }
         }
         Ok(true)
     }

@@ -27,7 +27,8 @@ impl Messages {
         }
     }
 
-    /// Keeps a message that was read. The answer is what is written for it, or that memory is wanted for that.
+    /// Keeps a message that was read, and answers what is written for it; or that memory is wanted for that, and keeps
+    /// the one before.
     fn keep(
         &mut self,
         alloc: Global,
@@ -36,10 +37,15 @@ impl Messages {
         message: Message,
         text: &mut Answer,
     ) -> Result<bool, Fault> {
-        let message = self.message.insert(message);
-        match encode(alloc, message) {
-            Ok(written) => add_written(form, read, &written, text),
-            Err(_) => text.add("OutOfMemory"),
+        match encode(alloc, &message) {
+            Ok(written) => {
+                add_written(form, read, &written, text);
+                self.message = Some(message);
+            }
+            Err(_) => {
+                drop(message);
+                text.add("OutOfMemory");
+            }
         }
         Ok(true)
     }

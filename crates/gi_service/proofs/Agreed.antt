@@ -1,10 +1,16 @@
 -- What is found of two desks is found of their facts.
-use Rattle.std.proofs.Common.{◌≡◌, ℕ, Bool, false, List, length, ap, ◌∙◌, subst}
+use Rattle.std.proofs.Common.{◌≡◌, ◌⊎◌, ℕ, Bool, false, List, length, ap, ◌∙◌, inl, inr, subst}
 use Rattle.gi_desk.specs.Machine.{DeskState}
 use Rattle.gi_audit.specs.Agreeing.{Agree}
-use Rattle.gi_commands.specs.Reporting.{desk_of}
+use Rattle.gi_pairs.specs.declared.side.Side.{Side}
+use Rattle.gi_pairs.specs.declared.side.Side.TheVariants.{I, M}
+use Rattle.gi_facts.specs.declared.fact.Fact.{Fact}
+use Rattle.gi_commands.specs.Reporting.{IsFactsFault, desk_of}
 use Rattle.gi_commands.specs.declared.fault.Fault.{Fault}
+use Rattle.gi_commands.specs.declared.fault.Fault.TheVariants as fault
 use Rattle.gi_service.specs.Pasts.{IsPastFault, IsPastsFault}
+use Rattle.gi_service.specs.Serving.{IsBooksFault}
+use Rattle.gi_service.specs.Stations.{IsStationFault}
 
 -- a desk of the point that is not halted, whose facts are all saved
 pub record IsWhole (point : List ℕ) (desk : DeskState) : Type 0 where
@@ -31,3 +37,36 @@ pub facts_agree : (point : List ℕ) (ours theirs : DeskState) → IsWhole point
 facts_agree point ours theirs whole peer agree =
     subst (λ (desk : DeskState). Agree desk (desk_of point theirs.facts)) (desk_is point ours whole)
     (subst (λ (desk : DeskState). Agree ours desk) (desk_is point theirs peer) agree)
+
+-- ---- why facts make no desks of one past
+
+of_station : (side : Side) (point : List ℕ) (facts : List Fact) (why : Fault) → IsFactsFault side point facts why → IsStationFault side point why
+of_station side point facts fault.CommandLine is = absurd is
+of_station side point facts fault.Read is = absurd is
+of_station side point facts fault.TooLarge is = absurd is
+of_station side point facts fault.Lines is = absurd is
+of_station side point facts (fault.Message a b) is = absurd is
+of_station side point facts (fault.WrongKind a) is = absurd is
+of_station side point facts fault.ShapeDiffers is = absurd is
+of_station side point facts (fault.Day a) is = absurd is
+of_station side point facts (fault.Calendar a) is = absurd is
+of_station side point facts (fault.Script a) is = absurd is
+of_station side point facts (fault.Code a) is = absurd is
+of_station side point facts (fault.Store a) is = absurd is
+of_station side point facts (fault.MissingBook a) is = absurd is
+of_station side point facts (fault.BadFact a) is = (facts, is)
+of_station side point facts (fault.TwoPasts a b) is = absurd is
+of_station side point facts fault.Unexpected is = absurd is
+of_station side point facts fault.Differs is = absurd is
+of_station side point facts fault.Empty is = absurd is
+of_station side point facts fault.Write is = absurd is
+of_station side point facts fault.OutOfMemory is = tt
+
+pub of_ours : (point : List ℕ) (facts : List Fact) (why : Fault) → IsFactsFault I point facts why → IsBooksFault point why
+of_ours point facts why is = inl (inl (of_station I point facts why is))
+
+pub of_theirs : (point : List ℕ) (facts : List Fact) (why : Fault) → IsFactsFault M point facts why → IsBooksFault point why
+of_theirs point facts why is = inl (inr (of_station M point facts why is))
+
+pub of_both : (point : List ℕ) (ours theirs : List Fact) (why : Fault) → IsPastFault (desk_of point ours) (desk_of point theirs) why → IsBooksFault point why
+of_both point ours theirs why is = inr (ours, theirs, is)

@@ -1,11 +1,13 @@
 //! Where the books of two running offices stand.
 
-ghost use Rattle.std.specs.Prelude.{◌≡◌, IfErr};
-ghost use Rattle.gi_service.specs.Standing.{IsPrefixFault};
+ghost use Rattle.std.specs.Prelude.{◌≡◌, ◌++◌, IfErr, IfOk, codes, false, string_bytes, true};
+ghost use Rattle.gi_pairs.specs.Side.{side_text};
+ghost use Rattle.gi_service.specs.Serving.{IsFilesFault};
 
-use crate::standing::{Found, found, left, may_open};
+use crate::standing::{Found, facts_in, found, left, may_open, standing};
+use crate::stations::one_past;
 use gi_command_line::WaitSeconds;
-use gi_commands::{Fault, owned_facts};
+use gi_commands::Fault;
 use gi_desk::Fact;
 use gi_pairs::{Code, Side};
 use gi_store::{
@@ -19,7 +21,8 @@ use std::{fs, thread};
 
 /// Where books stand.
 pub(crate) trait Place {
-    ghost use Rattle.std.specs.Prelude.{◌≡◌, IfErr, IfOk, OnOk, length};
+    ghost use Rattle.std.specs.Prelude.{◌≡◌, List, IfErr, IfOk, OnOk, length};
+    ghost use Rattle.gi_facts.specs.declared.fact.Fact.{Fact};
     ghost use Rattle.gi_pairs.specs.declared.side.Side.{Side};
     ghost use Rattle.gi_store.specs.Book.{BookState, counted};
     ghost use Rattle.gi_store.specs.declared.store_fault.StoreFault.{StoreFault};
@@ -28,6 +31,9 @@ pub(crate) trait Place {
 
     /// What the book of a side may be as it is opened.
     ghost opens: { Self → Side → BookState Self.Store → Type 0 };
+
+    /// What stands beside a book with these facts once it is kept.
+    ghost keeps: { Self → Side → List Fact → BookState Self.Store → Type 0 };
 
     /// Why the book of a side may not be opened, or kept.
     ghost refuses: { Self → Side → StoreFault → Type 0 };
@@ -47,6 +53,7 @@ pub(crate) trait Place {
         requires loaded { book.old.loaded ≡ counted (length facts.now) }
         ensures connection { OnOk result (book.new.connection ≡ book.old.connection) }
         ensures loaded { OnOk result (book.new.loaded ≡ book.old.loaded) }
+        ensures kept { OnOk result (keeps self.now side facts.now book.new) }
         ensures refused { IfErr result (λ fault. refuses self.now side fault) };
 }
 
@@ -58,12 +65,18 @@ pub(crate) struct InMemory {
 }
 
 impl Place for InMemory {
-    ghost use Rattle.std.specs.Prelude.{◌≡◌, None};
+    ghost use Rattle.std.specs.Prelude.{◌≡◌, None, length};
+    ghost use Rattle.sqlite.specs.Held.{state};
+    ghost use Rattle.sqlite.specs.Steps.{over_memory};
+    ghost use Rattle.gi_store.specs.Book.{counted};
     ghost use Rattle.gi_store.specs.FaultText.{IsPreparingRefusal};
+    ghost use Rattle.gi_store.specs.Keeping.{IsReady};
 
     type Store = MemStore;
 
-    ghost opens = { λ _ side book. book.loaded ≡ None };
+    ghost opens = { λ place side book. (book.loaded ≡ None) × IsReady (record { side = side; point = place.point }) (state over_memory book.connection) };
+
+    ghost keeps = { λ _ _ facts book. book.loaded ≡ counted (length facts) };
 
     ghost refuses = { λ _ side fault. IsPreparingRefusal fault };
 
@@ -103,20 +116,22 @@ pub(crate) struct InFiles<'a> {
 /// How often a book in use is tried in a second.
 const TRIES: u32 = 10;
 
-fn name_of(rt: &HostRuntime, prefix: &str, side: Side) -> Result<String, AllocError> {
+fn name_of(rt: &HostRuntime, prefix: &str, side: Side) -> Result<String, AllocError>
+    ensures { IfOk result (λ name. string_bytes name ≡ prefix.now ++ codes "-" ++ side_text side ++ codes ".db") }
+{
     format!(in rt.alloc(); "{prefix}-{side}.db")
 }
 
-/// What stands under the name of a book: read in a copy where a file is there, else as the head that is left tells.
-fn standing(rt: &HostRuntime, name: &str, owner: Owner) -> Found {
+/// What is found under the name of a book: by a copy where a file is there, else by the head that is left.
+fn looked_at(rt: &HostRuntime, name: &str, owner: Owner) -> Found {
     if fs::exists(rt, name).unwrap_or(true) {
-        found(owned_facts(&FileSource::new(rt), name, owner))
+        found(FileSource::new(rt).look(name), owner)
     } else {
         left(left_head(rt, name))
     }
 }
 
-/// Whether both books are to be made, by what stands under their names.
+/// Whether both books are to be made, by what is found under their names, before anything is opened.
 fn may_open_both(
     rt: &HostRuntime,
     initiating: &str,
@@ -124,13 +139,23 @@ fn may_open_both(
     point: Code,
     only_old: bool,
 ) -> Result<bool, Fault>
-    ensures { IfErr result IsPrefixFault }
+    ensures old { IfOk result (λ is_new. only_old ≡ true → is_new ≡ false) }
+    ensures fault { IfErr result (IsFilesFault point) }
 {
+    let alloc = rt.alloc();
     let side = Side::I;
-    let ours = standing(rt, initiating, Owner { side, point });
+    let ours = looked_at(rt, initiating, Owner { side, point });
     let side = Side::M;
-    let theirs = standing(rt, matching, Owner { side, point });
-    may_open(only_old, ours, theirs)
+    let theirs = looked_at(rt, matching, Owner { side, point });
+    let is_new = match may_open(only_old, standing(&ours), standing(&theirs)) {
+        Ok(is_new) => is_new,
+        Err(fault) => {
+            drop((ours, theirs));
+            return Err(fault);
+        }
+    };
+    one_past(alloc, point, facts_in(alloc, ours), facts_in(alloc, theirs))?;
+    Ok(is_new)
 }
 
 /// Tells on a terminal that both books are made.
@@ -144,7 +169,8 @@ fn tell_new(rt: &HostRuntime, prefix: &str) {
 impl<'a> InFiles<'a> {
     /// The books of a prefix, none of which is opened yet; where one is in use it will be tried for so long.
     /// The first of `MissingBook`, where one of the two is not there and the other one may have facts, or where
-    /// one is not there and only old ones are taken; and of what is told of a copy of I's, and then of M's.
+    /// one is not there and only old ones are taken; of what is told of a copy of I's, and then of M's; and of what
+    /// keeps the facts of the copies from making desks of one past.
     pub(crate) fn at(
         rt: &'a HostRuntime,
         prefix: &str,
@@ -152,7 +178,7 @@ impl<'a> InFiles<'a> {
         wait: WaitSeconds,
         only_old: bool,
     ) -> Result<InFiles<'a>, Fault>
-        ensures { IfErr result IsPrefixFault }
+        ensures { IfErr result (IsFilesFault point) }
     {
         let initiating = name_of(rt, prefix, Side::I)?;
         let matching = name_of(rt, prefix, Side::M)?;
@@ -185,12 +211,18 @@ impl<'a> InFiles<'a> {
 
 impl Place for InFiles<'_> {
     ghost use Rattle.std.specs.Prelude.{◌≡◌, ◌⊎◌, None};
+    ghost use Rattle.sqlite.specs.Files.{file_state};
+    ghost use Rattle.sqlite.specs.State.{HasCleanDisk};
     ghost use Rattle.gi_store.specs.FaultText.{IsKeepingFault, IsOpenRefusal};
+    ghost use Rattle.gi_store.specs.Heads.{head_kept};
+    ghost use Rattle.gi_store.specs.Keeping.{IsReady};
 
     type Store = FileStore<File>;
 
-    // Under which name it stands, and what a file holds, no clause can say.
-    ghost opens = { λ _ side book. book.loaded ≡ None };
+    // Under which name it stands no clause can say, nor what a file held before.
+    ghost opens = { λ place side book. (book.loaded ≡ None) × (HasCleanDisk (file_state book.connection) → IsReady (record { side = side; point = place.point }) (file_state book.connection)) };
+
+    ghost keeps = { λ _ _ facts book. book.head ≡ head_kept book.loaded facts };
 
     ghost refuses = { λ _ side fault. IsOpenRefusal fault ⊎ IsKeepingFault fault };
 

@@ -58,7 +58,11 @@ fn served_in_files<T: Threads + Wait + Sync, V: Watch>(
 {
     let place = InFiles::at(rt, prefix, script.point(), service.wait, service.only_old)?;
     match served(threads, watch, rt.alloc(), script, service.sessions, &place) {
-        Ok(served) => Ok((served, place.close())),
+        // (a book that failed is left as it is: to close it would begin its log anew)
+        Ok(served) => match &served.end {
+            Ok(()) => Ok((served, place.close())),
+            Err(_) => Ok((served, Ok(()))),
+        },
         Err(fault) => Err(fault),
     }
 }

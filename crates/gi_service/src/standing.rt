@@ -1,53 +1,49 @@
 //! What stands under the names of two books before they are opened, and what is refused for it.
 
-ghost use Rattle.std.specs.Prelude.{◌≡◌, ◌≢◌, ◌↔◌, Err, IfErr, IfOk, IfSome, IsTrue, None, Ok, Some};
-ghost use Rattle.gi_service.specs.Standing.{IsPrefixFault, first_refusal, left_of, of_one, standing_of};
-ghost use Rattle.gi_service.specs.declared.standing.Standing.TheVariants.{Empty, Missing};
-ghost use Rattle.gi_store.specs.declared.store_fault.StoreFault.TheVariants.{Version};
+ghost use Rattle.std.specs.Prelude.{◌≡◌, ◌↔◌, IfErr, IfOk, IfSome, IsTrue, None, Ok, Some, false, true};
+ghost use Rattle.gi_service.specs.Standing.{IsFound, IsPrefixFault, facts_found, first_refusal, left_of, of_one, standing_of};
+ghost use Rattle.gi_service.specs.declared.standing.Standing.TheVariants.{Missing};
 
-use gi_commands::Fault;
+use gi_commands::{Fault, facts_of};
 use gi_desk::Fact;
 use gi_pairs::Side;
-use gi_store::{Head, StoreFault};
+use gi_store::{BookCopy, Head, Owner, StoreFault};
+use std::alloc::Global;
 
 /// What stands under the name of a book, where nothing is told of it.
 #[derive(Clone, Copy, Debug, PartialEq, Eq)]
 pub(crate) enum Standing {
-    /// No file, and no head that tells facts of one.
+    /// No book: no file, or one with no table of a book's, and no head that tells facts. A run that was killed before
+    /// it had made both leaves it.
     Missing,
-    /// A book with no facts, or a file that is none: a run that was killed before it had made both leaves one.
+    /// A book with no facts.
     Empty,
     /// A book with facts.
     Facts,
 }
 
-/// That, or what is told of it.
-pub(crate) type Found = Result<Standing, StoreFault>;
+/// The facts of the book under a name, or `None` where it is missing, or what is told of it.
+pub(crate) type Found = Result<Option<Vec<Fact>>, StoreFault>;
 
-impl Standing {
-    /// That of a book with these facts.
-    pub(crate) fn of(facts: &[Fact]) -> Standing
-        ensures { result ≡ standing_of facts.now }
-    {
-        if facts.is_empty() {
-            Standing::Empty
-        } else {
-            Standing::Facts
-        }
+/// What stands there, or what is told of it.
+pub(crate) fn standing(found: &Found) -> Result<Standing, StoreFault>
+    ensures { result ≡ standing_of found.now }
+{
+    match found {
+        Ok(None) => Ok(Standing::Missing),
+        Ok(Some(facts)) if facts.is_empty() => Ok(Standing::Empty),
+        Ok(Some(_)) => Ok(Standing::Facts),
+        Err(fault) => Err(*fault),
     }
 }
 
-/// Where a file is there, and its book was read so. Of one that is no book it is left to the opening to tell whether
-/// one can be made in it.
-pub(crate) fn found(read: Result<Vec<Fact>, StoreFault>) -> Found
-    ensures facts { IfOk read (λ facts. result ≡ Ok (standing_of facts.items)) }
-    ensures none { read ≡ Err Version → result ≡ Ok Empty }
-    ensures told { IfErr read (λ fault. fault ≢ Version → result ≡ Err fault) }
+/// Where a file is there, and was read so.
+pub(crate) fn found(read: Result<Option<BookCopy>, StoreFault>, owner: Owner) -> Found
+    ensures { IsFound owner read result }
 {
-    match read {
-        Ok(facts) => Ok(Standing::of(&facts)),
-        Err(StoreFault::Version) => Ok(Standing::Empty),
-        Err(fault) => Err(fault),
+    match read? {
+        Some(copy) => Ok(Some(facts_of(copy, owner)?)),
+        None => Ok(None),
     }
 }
 
@@ -57,12 +53,26 @@ pub(crate) fn left(head: Result<Option<Head>, StoreFault>) -> Found
 {
     match head? {
         Some(head) if 0 < head.facts => Err(StoreFault::Lost(head.facts)),
-        _ => Ok(Standing::Missing),
+        _ => Ok(None),
+    }
+}
+
+/// The facts that were found, of which there are none where nothing was.
+pub(crate) fn facts_in(alloc: Global, found: Found) -> Vec<Fact>
+    ensures { result.items ≡ facts_found found }
+{
+    match found {
+        Ok(Some(facts)) => facts,
+        _ => Vec::new(alloc),
     }
 }
 
 /// One book is missing, that of this side, and this is the other one.
-fn of_one(only_old: bool, side: Side, other: Found) -> Option<Fault>
+fn of_one(
+    only_old: bool,
+    side: Side,
+    other: Result<Standing, StoreFault>,
+) -> Option<Fault>
     ensures value { result ≡ of_one only_old side other }
     ensures named { IfSome result IsPrefixFault }
 {
@@ -76,7 +86,11 @@ fn of_one(only_old: bool, side: Side, other: Found) -> Option<Fault>
 
 /// The first fault of two books: of the initiating side's, then of the matching side's.
 #[tactic(auto, using(crate::proofs::Prefixes::of_store))]
-fn first_refusal(only_old: bool, initiating: Found, matching: Found) -> Option<Fault>
+fn first_refusal(
+    only_old: bool,
+    initiating: Result<Standing, StoreFault>,
+    matching: Result<Standing, StoreFault>,
+) -> Option<Fault>
     ensures value { result ≡ first_refusal only_old initiating matching }
     ensures named { IfSome result IsPrefixFault }
 {
@@ -89,15 +103,20 @@ fn first_refusal(only_old: bool, initiating: Found, matching: Found) -> Option<F
     }
 }
 
-fn is_missing(found: &Found) -> bool
+fn is_missing(found: &Result<Standing, StoreFault>) -> bool
     ensures { IsTrue result ↔ (found.now ≡ Ok Missing) }
 {
     matches!(found, Ok(Standing::Missing))
 }
 
 /// Whether both books are to be made, where nothing is refused.
-pub(crate) fn may_open(only_old: bool, initiating: Found, matching: Found) -> Result<bool, Fault>
+pub(crate) fn may_open(
+    only_old: bool,
+    initiating: Result<Standing, StoreFault>,
+    matching: Result<Standing, StoreFault>,
+) -> Result<bool, Fault>
     ensures opened { IfOk result (λ is_new. first_refusal only_old initiating matching ≡ None) }
+    ensures old { IfOk result (λ is_new. only_old ≡ true → is_new ≡ false) }
     ensures new { IfOk result (λ is_new. IsTrue is_new ↔ ((initiating ≡ Ok Missing) × (matching ≡ Ok Missing))) }
     ensures refused { IfErr result (λ why. first_refusal only_old initiating matching ≡ Some why) }
     ensures named { IfErr result IsPrefixFault }

@@ -6,6 +6,7 @@ ghost use Rattle.gi_store.specs.Book.{IsRead, counted};
 ghost use Rattle.gi_store.specs.Clean.{IsClean};
 ghost use Rattle.gi_pairs.specs.declared.side.Side.TheVariants.{I, M};
 ghost use Rattle.gi_audit.specs.Agreeing.{Agree};
+ghost use Rattle.gi_commands.specs.Reporting.{desk_of};
 ghost use Rattle.gi_service.specs.KeptFrom.{IsKeptFrom};
 ghost use Rattle.gi_service.specs.Opening.{IsFirstSideFault, IsSideFault};
 ghost use Rattle.gi_service.specs.Pasts.{HaveOnePast, IsPastFault};
@@ -16,7 +17,7 @@ use crate::places::Place;
 use gi_audit::{Audited, Verdict, audit};
 use gi_command_line::Sessions;
 use gi_commands::{Fault, replayed};
-use gi_desk::{Desk, Role};
+use gi_desk::{Desk, Fact, Role};
 use gi_initiator::Initiating;
 use gi_matcher::Matching;
 use gi_pairs::Code;
@@ -40,6 +41,7 @@ fn station<R: Role, P: Place>(
     ensures loaded { IfOk result (λ it. it.1.loaded ≡ counted (length it.0.facts)) }
     ensures facts { IfOk result (λ it. IsClean P.Store.Store it.1.connection → IsRead (state P.Store.Store it.1.connection) it.0.facts) }
     ensures opened { IfOk result (λ it. IsKeptFrom P.Store.Store (P.opens place.now R.SIDE) it.1) }
+    ensures kept { IfOk result (λ it. P.keeps place.now R.SIDE it.0.facts it.1) }
     ensures fault { IfErr result (IsStationFault R.SIDE point) }
     ensures first { IfErr result (IsSideFault (P.opens place.now R.SIDE) (P.refuses place.now R.SIDE) R.SIDE point) }
 {
@@ -107,6 +109,37 @@ fn agreed(
         Verdict::Differs(id) => Err(Fault::TwoPasts(id.day, id.cycle)),
         _ => Ok(()),
     }
+}
+
+/// Whether the facts of both sides make desks of the point that have one past: of I's side is told first why they make
+/// none.
+#[tactic(auto, using(crate::proofs::Agreed::of_ours, crate::proofs::Agreed::of_theirs, crate::proofs::Agreed::of_both))]
+pub(crate) fn one_past(
+    alloc: Global,
+    point: Code,
+    initiating: Vec<Fact>,
+    matching: Vec<Fact>,
+) -> Result<(), Fault>
+    ensures agreed { OnOk result (Agree (desk_of point initiating.items) (desk_of point matching.items)) }
+    ensures fault { IfErr result (IsBooksFault point) }
+{
+    let ours: Desk<Initiating> = match replayed(alloc, point, initiating) {
+        Ok(desk) => desk,
+        Err(fault) => {
+            drop(matching);
+            return Err(fault);
+        }
+    };
+    let theirs: Desk<Matching> = match replayed(alloc, point, matching) {
+        Ok(desk) => desk,
+        Err(fault) => {
+            drop(ours);
+            return Err(fault);
+        }
+    };
+    let told = agreed(alloc, &ours, &theirs);
+    drop((ours, theirs));
+    told
 }
 
 /// Serves a script over the books of both sides, the initiating one's loaded before the matching

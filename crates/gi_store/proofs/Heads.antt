@@ -3,7 +3,7 @@ use Rattle.std.proofs.Common.{◌≡◌, ℕ, zero, suc, ◌+◌, ◌*◌, ◌-�
 use Rattle.std.proofs.Math.Nat.{pow-le-pow_right, pow-suc}
 use Rattle.std.proofs.lemmas.Bool.{cases_Bool}
 use Rattle.std.proofs.lemmas.Nat.{div_below}
-use Rattle.std.proofs.lemmas.List.{drop-set, drop_at, length-drop, set_at, take-append-drop, take_at, take_more}
+use Rattle.std.proofs.lemmas.List.{drop-set, drop_at, length-drop, set_at, take-append-drop, take_all, take_at, take_more}
 use Rattle.std.proofs.lemmas.List.Sums.{fold-append}
 use Rattle.std.specs.Str.{IsAscii}
 use Rattle.std.proofs.lemmas.Str.Ascii.{IsAscii-cons, IsAscii-nil}
@@ -183,7 +183,7 @@ told_of (Some head) known facts told =
     ]
 
 -- the head of the facts that one tells, gone on by the rest, is that of all
-pub gone_on_is : (head : Head) (facts : List Fact) → Tells head facts → gone_on head (drop head.facts facts) ≡ head_of facts
+gone_on_is : (head : Head) (facts : List Fact) → Tells head facts → gone_on head (drop head.facts facts) ≡ head_of facts
 gone_on_is head facts tells =
     let k : ℕ = head.facts in
     let split : take k facts ++ drop k facts ≡ facts = take-append-drop k facts in
@@ -191,3 +191,9 @@ gone_on_is head facts tells =
     let digest : chain_from head.digest (drop k facts) ≡ chain_of facts = ap (λ link. chain_from link (drop k facts)) (sym tells.chain) ∙ chain in
     let number : head.facts + length (drop k facts) ≡ length facts = simp length-drop (omega (arith, tells.within)) in
     same_some (both_parts (head.facts + length (drop k facts)) (chain_from head.digest (drop k facts)) (head_of facts) number digest)
+
+-- (the rest as a range of a slice has it)
+pub gone_on_rest : (head : Head) (facts : List Fact) → Tells head facts → gone_on head (take (length facts - head.facts) (drop head.facts facts)) ≡ head_of facts
+gone_on_rest head facts tells =
+    let rest : take (length facts - head.facts) (drop head.facts facts) ≡ drop head.facts facts = take_all (length facts - head.facts) (drop head.facts facts) (simp length-drop (omega arith)) in
+    ap (gone_on head) rest ∙ gone_on_is head facts tells

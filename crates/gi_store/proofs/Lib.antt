@@ -12,3 +12,4 @@ pub mod Numbering
 pub mod Fronts
 pub mod Heads
 pub mod Kept
+pub mod Copied

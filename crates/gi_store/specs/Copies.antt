@@ -1,18 +1,24 @@
 -- What is read of copies of a book's two files.
-use Rattle.std.specs.Prelude.{◌≡◌, ℕ, List, Option}
+use Rattle.std.specs.Prelude.{◌≡◌, ◌⊎◌, ℕ, List, [], ◌∷◌, length, drop, take, nat_lt, if◌then◌else◌, Option}
+use Rattle.std.specs.Str.{bytes_eq}
 use Rattle.sqlite_disk.specs.Memory.{memory_bytes}
 use Rattle.sqlite_disk.specs.declared.files.Files.{Files}
 use Rattle.sqlite_disk.specs.declared.memory.Memory.{Memory}
 use Rattle.sqlite_disk.specs.contracts.memory.MemoryDisk.TheImpl as memory
 use Rattle.sqlite_store.specs.declared.store.FileStore.{FileStore}
-use Rattle.sqlite.specs.State.{HasCleanDisk}
+use Rattle.sqlite.specs.State.{HasCleanDisk, State}
 use Rattle.sqlite.specs.Held.{Held}
 use Rattle.sqlite.specs.Files.{Finds, file_state}
 use Rattle.gi_facts.specs.declared.fact.Fact.{Fact}
 use Rattle.gi_store.specs.declared.owner.Owner.{Owner}
-use Rattle.gi_store.specs.Book.{IsRead}
+use Rattle.gi_store.specs.declared.head.Head.{Head}
+use Rattle.gi_store.specs.declared.store_fault.StoreFault.{StoreFault}
+use Rattle.gi_store.specs.Book.{IsLoadFault, IsRead}
+use Rattle.gi_store.specs.Facts.{AreFacts}
+use Rattle.gi_store.specs.Heads.{IsHeadFault}
 use Rattle.gi_store.specs.Keeping.{Keeps}
-use Rattle.gi_store.specs.Rows.{SaysOwner}
+use Rattle.gi_store.specs.Opening.{IsNameFault}
+use Rattle.gi_store.specs.Rows.{SaysOwner, facts_in}
 
 -- whose a book is, its facts, and how many bytes a log beside its file has that may have rows
 pub record BookCopyState : Type 0 where
@@ -29,3 +35,11 @@ pub record IsCopyIn (db log : List ℕ) (copy : BookCopyState) : Type 0 where
   pub opened : Held (FileStore Memory memory.ghosts)
   pub read : Held (FileStore Memory memory.ghosts)
   pub found : HasCleanDisk (file_state read) → Finds files opened × Keeps (file_state opened) (file_state read) × IsRead (file_state read) copy.facts × SaysOwner copy.owner (file_state read).now
+
+-- why there is none: its rows are no facts, it says no owner that there is, or its facts are not those that the head tells
+abbrev pub IsCopyFault : Option Head → State → StoreFault → Type 0
+IsCopyFault head s why = IsLoadFault s why ⊎ (IsNameFault s why ⊎ ((facts : List Fact) × AreFacts (facts_in s.now) facts × IsHeadFault head facts why))
+
+-- How long a log is that may have rows, else 0: one that is too short for a page, or has zeros in the place of the first page's number, has none.
+abbrev pub rows_length : List ℕ → ℕ
+rows_length log = if nat_lt (length log) 568 then 0 else if bytes_eq (take 4 (drop 32 log)) (0 ∷ 0 ∷ 0 ∷ 0 ∷ []) then 0 else length log

@@ -1,5 +1,5 @@
 -- The head that stands beside a book: how many facts were saved, and the digest of their chain.
-use Rattle.std.specs.Prelude.{◌≡◌, ⊤, ℕ, zero, suc, ◌+◌, ◌*◌, ◌-◌, ◌/◌, ◌%◌, ◌<◌, ◌≤◌, ◌^◌, List, [], ◌∷◌, ◌++◌, length, take, codes, if◌then◌else◌, ◌==◌, nat_lt, Option, None, Some}
+use Rattle.std.specs.Prelude.{◌≡◌, ⊤, ℕ, zero, suc, ◌+◌, ◌*◌, ◌-◌, ◌/◌, ◌%◌, ◌<◌, ◌≤◌, ◌^◌, List, [], ◌∷◌, ◌++◌, length, take, codes, if◌then◌else◌, ◌==◌, nat_lt, Option, None, Some, Result, Ok, Err}
 use Rattle.std.specs.List.{fold}
 use Rattle.hex.specs.Hex.{IsBytes, encode_lower}
 use Rattle.gi_facts.specs.declared.fact.Fact.{Fact}
@@ -39,11 +39,6 @@ number_in digits = fold (λ number digit. number * 10 + (digit - 48)) 0 digits
 
 -- ---- what it tells of a book
 
--- a head tells facts, so many
-abbrev pub TellsSome : Option Head → ℕ → Type 0
-TellsSome None n = ⊥
-TellsSome (Some head) n = (head.facts ≡ n) × (0 < n)
-
 -- the book has the facts that the head tells, and perhaps more after them
 pub record Tells (head : Head) (facts : List Fact) : Type 0 where
   pub within : head.facts ≤ length facts
@@ -54,6 +49,11 @@ abbrev pub IsHeadFault : Option Head → List Fact → StoreFault → Type 0
 IsHeadFault (Some head) facts (Lost n) = (n ≡ head.facts) × ¬ Tells head facts
 IsHeadFault (Some head) facts OutOfMemory = ⊤
 IsHeadFault head facts _ = ⊥
+
+-- what is read where there is no book: none, or that the facts are lost which the head tells
+abbrev pub none_by : {X : Type 0} → Option Head → Result (Option X) StoreFault
+none_by None = Ok None
+none_by (Some head) = if head.facts == 0 then Ok None else Err (Lost head.facts)
 
 -- ---- a head that is kept with its book
 

@@ -128,21 +128,6 @@ impl<S: Alter + Drop> BookStore<S> {
     }
 }
 
-impl<S: Alter + Drop> BookStore<S> {
-    /// The connection, and the head that was kept.
-    pub(crate) fn into_parts(self) -> (Connection<S>, Option<HeadFile>)
-        ensures { (result.0 ≡ self.connection) × (result.1 ≡ self.head) }
-    {
-        let BookStore {
-            connection,
-            loaded: _,
-            head,
-            alloc: _,
-        } = self;
-        (connection, head)
-    }
-}
-
 impl<S: Alter> BookStore<S> {
     /// How many facts there are, known since the last `load`. `None` where the book is not loaded.
     pub fn count(&self) -> Option<u32>

@@ -1,27 +1,17 @@
 //! A book's files are closed: its file alone is then the whole database.
 
-ghost use Rattle.std.specs.Prelude.{IfErr, IfOk};
+ghost use Rattle.std.specs.Prelude.{IfErr, IfOk, OnOk};
 ghost use Rattle.sqlite_wal.specs.Reads.{AreClean};
 ghost use Rattle.sqlite.specs.Closing.{IsCopied};
 ghost use Rattle.gi_store.specs.FaultText.{IsFailure};
 
-use crate::book_store::BookStore;
-use crate::head_file::{HeadFile, head_name, sync_file};
+use crate::head_file::{beside, real_name, sync_file};
 use crate::store_fault::StoreFault;
 use sqlite::{Connection, Error, ErrorCode, FileStore};
 use sqlite_disk::{Disk, Files};
 
-fn synced(head: Option<HeadFile>) -> Result<(), StoreFault>
-    ensures { IfErr result IsFailure }
-{
-    match head {
-        Some(kept) => kept.sync(),
-        None => Ok(()),
-    }
-}
-
 /// The files of a connection are closed, and what is in the log is copied into the file.
-fn copied<D: Disk + Drop>(connection: Connection<FileStore<D>>) -> Result<Files<D>, StoreFault>
+fn close<D: Disk + Drop>(connection: Connection<FileStore<D>>) -> Result<Files<D>, StoreFault>
     ensures copied { IfOk result (λ files. AreClean D.Disk files.log files.db → IsCopied connection files) }
     ensures failed { IfErr result IsFailure }
 {
@@ -35,30 +25,17 @@ fn copied<D: Disk + Drop>(connection: Connection<FileStore<D>>) -> Result<Files<
     }
 }
 
-impl<D: Disk + Drop> BookStore<FileStore<D>> {
-    /// Closes the book, and gives its files back: what is in the log is copied into the file, which
-    /// is then the whole database, and a head that is kept is synced. After a failure the log may
-    /// hold facts still.
-    pub fn close(self) -> Result<Files<D>, StoreFault>
-        ensures copied { IfOk result (λ files. AreClean D.Disk files.log files.db → IsCopied self.connection files) }
-        ensures failed { IfErr result IsFailure }
-    {
-        let (connection, head) = self.into_parts();
-        let files = copied(connection)?;
-        synced(head)?;
-        Ok(files)
-    }
-}
-
 /// Of any connection: a file's would be dear.
 fn closed<D: Disk + Drop>(
     connection: Result<Connection<FileStore<D>>, Error>,
 ) -> Result<(), StoreFault>
-    ensures { IfErr result IsFailure }
+    ensures copied { IfOk connection (λ c. OnOk result ((files : _) × (AreClean D.Disk files.log files.db → IsCopied c files))) }
+    ensures failed { IfErr result IsFailure }
 {
     match connection {
         Ok(connection) => {
-            drop(copied(connection)?);
+            let files = close(connection)?;
+            drop(files);
             Ok(())
         }
         Err(Error::SqliteFailure(ErrorCode::DatabaseBusy)) => Ok(()),
@@ -73,7 +50,8 @@ fn closed<D: Disk + Drop>(
 pub fn close_book(rt: &HostRuntime, file: &str) -> Result<(), StoreFault>
     ensures { IfErr result IsFailure }
 {
-    let name = head_name(rt, file)?;
+    let real = real_name(rt, file)?;
+    let name = beside(rt.alloc(), real.as_str())?;
     closed(Connection::open_with_sums(rt, file))?;
     sync_file(rt, name.as_str())
 }

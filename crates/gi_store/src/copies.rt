@@ -1,31 +1,30 @@
 //! Books read from copies of their files: the files stay as they are, whoever has them open.
 
-ghost use Rattle.std.specs.Prelude.{◌≡◌, Err, IfErr, IfOk, IfSome, IsTrue};
+ghost use Rattle.std.specs.Prelude.{◌≡◌, Err, IfErr, IfOk, IfSome, IsSome, IsTrue};
 ghost use Rattle.sqlite_disk.specs.Memory.{memory_bytes, memory_is_usable};
 ghost use Rattle.sqlite.specs.State.{HasCleanDisk};
 ghost use Rattle.sqlite.specs.Files.{Finds, file_state};
 ghost use Rattle.sqlite.specs.Held.{state};
 ghost use Rattle.gi_store.specs.Book.{IsRead};
 ghost use Rattle.gi_store.specs.Clean.{IsClean};
-ghost use Rattle.gi_store.specs.Copies.{IsCopyIn};
+ghost use Rattle.gi_store.specs.Copies.{IsCopyFault, IsCopyIn};
 ghost use Rattle.gi_store.specs.FaultText.{IsFailure, IsLoadRefusal};
-ghost use Rattle.gi_store.specs.Heads.{Tells, TellsSome};
+ghost use Rattle.gi_store.specs.Heads.{Tells, none_by};
 ghost use Rattle.gi_store.specs.Keeping.{IsIdle, Keeps};
+ghost use Rattle.gi_store.specs.Opening.{IsNameFault};
 ghost use Rattle.gi_store.specs.Rows.{SaysOwner};
 ghost use Rattle.gi_store.specs.Tables.{HasTables, IsFree};
-ghost use Rattle.gi_store.specs.declared.store_fault.StoreFault.TheVariants.{Lost, Version};
+ghost use Rattle.gi_store.specs.declared.store_fault.StoreFault.TheVariants.{Version};
 
-use crate::checking::{check_some, checked};
+use crate::checking::checked;
 use crate::file_bytes::io_fault;
 use crate::head::Head;
+use crate::loading::read_book;
 use crate::owner::Owner;
 use crate::owning::read_owner;
-use crate::reading::read_facts;
 use crate::source::BookCopy;
-use crate::statements::fact_rows;
 use crate::store_fault::StoreFault;
-use crate::tables::lacks_owner;
-use crate::version::check_version;
+use crate::tables::{is_free, lacks_owner};
 use sqlite::{Alter, Connection, Error, ErrorCode, FileStore};
 use sqlite_disk::{Disk, Files, Memory};
 use sqlite_pager::Options;
@@ -82,6 +81,7 @@ fn said_owner<S: Alter>(connection: &mut Connection<S>) -> Result<Option<Owner>,
     requires idle { IsClean S.Store connection.old → IsIdle (state S.Store connection.old) }
     ensures early { IsClean S.Store connection.new → IsClean S.Store connection.old }
     ensures owner { IsClean S.Store connection.new → IfOk result (λ owner. IsTrue (state S.Store connection.new).is_open × SaysOwner owner (state S.Store connection.new).now) }
+    ensures refused { IsClean S.Store connection.new → IfErr result (IsNameFault (state S.Store connection.old)) }
     ensures named { IfErr result IsLoadRefusal }
     ensures idle { IsClean S.Store connection.new → IsIdle (state S.Store connection.new) }
     ensures kept { IsClean S.Store connection.new → Keeps (state S.Store connection.old) (state S.Store connection.new) }
@@ -93,47 +93,60 @@ fn said_owner<S: Alter>(connection: &mut Connection<S>) -> Result<Option<Owner>,
     Ok(Some(owner))
 }
 
-/// What the database has of a book, the version first, then the owner, then the facts, which have to be
-/// those that the head tells. One in which a book could be made is no book, or has lost all that the head tells.
+/// There is no book where a head tells none of its facts.
+fn no_book(head: Option<Head>) -> Result<Option<BookCopy>, StoreFault>
+    ensures { result ≡ none_by head }
+{
+    match head {
+        Some(head) if 0 < head.facts => Err(StoreFault::Lost(head.facts)),
+        _ => Ok(None),
+    }
+}
+
+/// What the database has of a book: its facts, then whose it is. The facts have to be those that the head tells.
+/// `None` of one in which a book could be made.
+#[tactic(auto, using(crate::proofs::Copied::read_still, crate::proofs::Copied::of_load, crate::proofs::Copied::of_name, crate::proofs::Copied::of_head))]
 fn read_copy<S: Alter>(
     alloc: Global,
     head: Option<Head>,
     connection: &mut Connection<S>,
-) -> Result<BookCopy, StoreFault>
+) -> Result<Option<BookCopy>, StoreFault>
     requires { IsClean S.Store connection.old → IsIdle (state S.Store connection.old) }
     ensures early { IsClean S.Store connection.new → IsClean S.Store connection.old }
-    ensures copy { IsClean S.Store connection.new → IfOk result (λ copy. IsRead (state S.Store connection.new) copy.facts.items × SaysOwner copy.owner (state S.Store connection.new).now) }
-    ensures whole { IfOk result (λ copy. IfSome head (λ head. Tells head copy.facts.items)) }
-    ensures lost { (n : _) → TellsSome head n → IsFree (state S.Store connection.old).now.schema → result ≡ Err (Lost n) }
+    ensures free { IsFree (state S.Store connection.old).now.schema → result ≡ none_by head }
+    ensures some { ¬ (IsFree (state S.Store connection.old).now.schema) → IfOk result IsSome }
     ensures other { ¬ (IsFree (state S.Store connection.old).now.schema) → ¬ (HasTables (state S.Store connection.old).now.schema) → result ≡ Err Version }
+    ensures copy { IsClean S.Store connection.new → IfOk result (λ found. IfSome found (λ copy. IsRead (state S.Store connection.new) copy.facts.items × SaysOwner copy.owner (state S.Store connection.new).now)) }
+    ensures whole { IfOk result (λ found. IfSome found (λ copy. IfSome head (λ head. Tells head copy.facts.items))) }
+    ensures refused { IsClean S.Store connection.new → ¬ (IsFree (state S.Store connection.old).now.schema) → IfErr result (IsCopyFault head (state S.Store connection.old)) }
     ensures named { IfErr result IsLoadRefusal }
     ensures kept { IsClean S.Store connection.new → Keeps (state S.Store connection.old) (state S.Store connection.new) }
 {
-    check_some(head, connection.schema())?;
-    check_version(connection)?;
+    if is_free(connection.schema()) {
+        return no_book(head);
+    }
+    let facts = read_book(alloc, connection)?;
     let owner = said_owner(connection)?;
-    let rows = fact_rows(connection)?;
-    let facts = read_facts(alloc, rows.as_slice())?;
     checked(alloc, head, &facts)?;
-    Ok(BookCopy {
+    Ok(Some(BookCopy {
         owner,
         facts,
         log: 0,
-    })
+    }))
 }
 
 /// Whose the book is that the bytes of its file and of the log beside it hold, and its facts, or why
-/// there is none: as `BookStore::load` has it, `Version` where a table of the owner has another
-/// form than a book's, or anything but one owner, and `Lost` where the head beside it tells facts that
-/// it has not, or there are no tables at all. No table is made where there is none.
+/// there is none: as `BookStore::load` has it, then `Version` where a table of the owner has another
+/// form than a book's, or anything but one owner, then `Lost` where the head beside it tells facts that
+/// it has not. `None` of a database in which a book could be made, where the head tells no facts: no table is made.
 pub fn book_of_copy(
     alloc: Global,
     head: Option<Head>,
     db: &[u8],
     log: &[u8],
-) -> Result<BookCopy, StoreFault>
-    ensures copy { IfOk result (λ copy. IsCopyIn db.now log.now (record { owner = copy.owner; facts = copy.facts.items; log = copy.log })) }
-    ensures whole { IfOk result (λ copy. IfSome head (λ head. Tells head copy.facts.items)) }
+) -> Result<Option<BookCopy>, StoreFault>
+    ensures copy { IfOk result (λ found. IfSome found (λ copy. IsCopyIn db.now log.now (record { owner = copy.owner; facts = copy.facts.items; log = copy.log }))) }
+    ensures whole { IfOk result (λ found. IfSome found (λ copy. IfSome head (λ head. Tells head copy.facts.items))) }
     ensures named { IfErr result IsLoadRefusal }
 {
     let mut connection = copied(alloc, db, log)?;

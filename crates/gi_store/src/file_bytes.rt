@@ -1,8 +1,11 @@
 //! The bytes of a book's two files, as they stand together, read while others may write them.
 
-ghost use Rattle.std.specs.Prelude.{IfErr};
+ghost use Rattle.std.specs.Prelude.{◌≡◌, [], Err, IfErr, IfOk};
+ghost use Rattle.gi_store.specs.Copies.{rows_length};
 ghost use Rattle.gi_store.specs.FaultText.{IsFailure};
+ghost use Rattle.gi_store.specs.declared.store_fault.StoreFault.TheVariants.{Store};
 
+use crate::log_rows::{LEAST_LOG, length_with_rows};
 use crate::store_fault::StoreFault;
 use std::alloc::Global;
 use std::fs;
@@ -70,10 +73,32 @@ fn is_hot(rt: &HostRuntime, journal: &str) -> Result<bool, StoreFault>
     Ok(!first.is_empty() && first[0] != 0)
 }
 
+/// `Store` where the file is empty and the log has rows: a book is begun in its file, so that nothing but the file
+/// that was lost could make a book of them, and whoever opens the two begins the log anew.
+fn whole(file: Vec<u8>, log: Vec<u8>) -> Result<FileBytes, StoreFault>
+    ensures both { IfOk result (λ bytes. (bytes.file ≡ file) × (bytes.log ≡ log)) }
+    ensures lost { file.items ≡ [] → ¬ (rows_length log.items ≡ 0) → result ≡ Err Store }
+    ensures named { IfErr result IsFailure }
+{
+    if file.is_empty() && length_with_rows(&log) > 0 {
+        drop((file, log));
+        return Err(StoreFault::Store);
+    }
+    Ok(FileBytes { file, log })
+}
+
+/// The log beside the file of this name, which is not there.
+pub(crate) fn log_beside(rt: &HostRuntime, file: &str) -> Result<Vec<u8>, StoreFault>
+    ensures { IfErr result IsFailure }
+{
+    let name = format!(in rt.alloc(); "{file}-wal")?;
+    first_bytes(rt, name.as_str(), LEAST_LOG)
+}
+
 /// Both files' bytes, and no change of either. A log that is not there has none. `Store` where the
 /// file is not there, where one of the two is no plain file or has a second name, or cannot be read;
 /// where a rollback journal stands beside them, which only SQLite can play back; and where the log was
-/// begun anew each time that both were read.
+/// begun anew each time that both were read; and where the file is empty and the log has rows.
 pub fn file_bytes(rt: &HostRuntime, name: &str) -> Result<FileBytes, StoreFault>
     ensures { IfErr result IsFailure }
 {
@@ -88,7 +113,7 @@ pub fn file_bytes(rt: &HostRuntime, name: &str) -> Result<FileBytes, StoreFault>
             return Err(StoreFault::Store);
         }
         if first_bytes(rt, &log_name, HEAD)? == head {
-            return Ok(FileBytes { file, log });
+            return whole(file, log);
         }
     }
     Err(StoreFault::Store)

@@ -1,23 +1,23 @@
-//! Books in files.
+//! Books in files, opened and kept with their heads.
 
-ghost use Rattle.std.specs.Prelude.{◌≡◌, ◌<◌, ◌^◌, false, None, Ok, Err, IfErr, IfOk, IsErrAnd, OnErr, OnOk, length};
+ghost use Rattle.std.specs.Prelude.{◌≡◌, ◌<◌, ◌^◌, false, None, Ok, Err, IfErr, IfOk, IfSome, IsErrAnd, OnErr, OnOk, length};
+ghost use Rattle.sqlite.specs.Files.{file_state};
 ghost use Rattle.sqlite.specs.Held.{state};
+ghost use Rattle.sqlite.specs.State.{HasCleanDisk};
 ghost use Rattle.gi_store.specs.Book.{counted};
 ghost use Rattle.gi_store.specs.Clean.{IsClean};
-ghost use Rattle.gi_store.specs.Heads.{head_kept, head_of};
+ghost use Rattle.gi_store.specs.Heads.{Tells, head_kept, head_of};
 ghost use Rattle.gi_store.specs.Keeping.{IsReady};
 ghost use Rattle.gi_store.specs.Tables.{HasTables, IsFree};
 ghost use Rattle.gi_store.specs.declared.store_fault.StoreFault.TheVariants.{Version};
-ghost use Rattle.gi_store.specs.FaultText.{IsFailure, IsKeepingFault, IsLoadRefusal, IsOpenRefusal, IsPreparingRefusal, opening_fault};
+ghost use Rattle.gi_store.specs.FaultText.{IsFailure, IsKeepingFault, IsOpenRefusal, IsPreparingRefusal, opening_fault};
 
 use crate::book_store::BookStore;
 use crate::checking::head_after;
-use crate::copies::book_of_copy;
-use crate::file_bytes::{file_bytes, io_fault};
+use crate::file_bytes::io_fault;
 use crate::head::Head;
-use crate::head_file::{HeadFile, head_beside, head_name, kept_file, read_head};
+use crate::head_file::{HeadFile, beside, made, read_head, real_name, written};
 use crate::owner::Owner;
-use crate::source::{BookCopy, BookSource};
 use crate::store_fault::StoreFault;
 use gi_facts::Fact;
 use sqlite::{Alter, Connection, Error, ErrorCode, File, FileStore};
@@ -90,60 +90,11 @@ pub fn book_of_file(
     owner: Owner,
 ) -> Result<BookStore<FileStore<File>>, StoreFault>
     ensures not_loaded { IfOk result (λ book. book.loaded ≡ None) }
+    ensures ready { IfOk result (λ book. HasCleanDisk (file_state book.connection) → IsReady owner (file_state book.connection)) }
     ensures named { IfErr result IsOpenRefusal }
 {
     made_private(rt, file)?;
     opened(rt.alloc(), Connection::open_with_sums(rt, file), owner)
-}
-
-/// A shorter log has no row: it begins with 32 bytes, and each page in it takes 24 and at least 512.
-const LEAST_LOG: usize = 568;
-
-/// How long a log is that may have rows, else 0.
-fn length_with_rows(log: &[u8]) -> u64 {
-    if log.len() < LEAST_LOG {
-        0
-    } else {
-        log.len() as u64
-    }
-}
-
-/// A book, read from a copy of its files, and held against its head, which is read first: so it tells
-/// no fact that is saved meanwhile.
-fn read_once(rt: &HostRuntime, name: &str) -> Result<BookCopy, StoreFault>
-    ensures { IfErr result IsLoadRefusal }
-{
-    let head = head_beside(rt, name)?;
-    let bytes = file_bytes(rt, name)?;
-    let mut copy = book_of_copy(rt.alloc(), head, &bytes.file, &bytes.log)?;
-    copy.log = length_with_rows(&bytes.log);
-    Ok(copy)
-}
-
-/// The same, read anew where the head tells facts that are not there, or was read half written: an
-/// office may write both meanwhile.
-fn read_whole(rt: &HostRuntime, name: &str) -> Result<BookCopy, StoreFault>
-    ensures { IfErr result IsLoadRefusal }
-{
-    for _ in 1..MOST_READS {
-        match read_once(rt, name) {
-            Err(StoreFault::Lost(_) | StoreFault::Head) => {}
-            read => return read,
-        }
-    }
-    read_once(rt, name)
-}
-
-/// How often a book is read at most, where it is not what its head tells.
-const MOST_READS: u32 = 8;
-
-/// What the head tells that stands where a book would stand under this name, and is not there: none
-/// where no head is left either.
-pub fn left_head(rt: &HostRuntime, file: &str) -> Result<Option<Head>, StoreFault>
-    ensures { IfErr result IsKeepingFault }
-{
-    let name = format!(in rt.alloc(); "{file}-head")?;
-    read_head(rt, name.as_str())
 }
 
 /// The head beside a book is kept with it from now on, made where it is missing, and written up to
@@ -161,15 +112,15 @@ pub fn head_of_file(
     ensures unchanged { OnErr result (book.new ≡ book.old) }
     ensures named { IfErr result IsKeepingFault }
 {
-    let name = head_name(rt, file)?;
-    keep_in(rt, book, name.as_str(), facts)
+    let real = real_name(rt, file)?;
+    keep_in(rt, book, real.as_str(), facts)
 }
 
 /// Of any connection: a file's would be dear.
 fn keep_in<S: Alter>(
     rt: &HostRuntime,
     book: &mut BookStore<S>,
-    name: &str,
+    file: &str,
     facts: &[Fact],
 ) -> Result<(), StoreFault>
     requires { book.old.loaded ≡ counted (length facts.now) }
@@ -181,43 +132,30 @@ fn keep_in<S: Alter>(
         book.keep_none();
         return Ok(());
     }
-    let head = head_for(rt, name, facts)?;
+    let name = beside(rt.alloc(), file)?;
+    let stands = read_head(rt, name.as_str())?;
+    let head = head_for(rt, file, name.as_str(), stands, facts)?;
     book.keep_head(head);
     Ok(())
 }
 
-/// The head of these facts, written into the file of this name, which tells no others.
-fn head_for(rt: &HostRuntime, name: &str, facts: &[Fact]) -> Result<HeadFile, StoreFault>
+/// The head of these facts, written into the file of this name, beside the book's, where this one stands: it
+/// tells no others.
+fn head_for(
+    rt: &HostRuntime,
+    book: &str,
+    name: &str,
+    stands: Option<Head>,
+    facts: &[Fact],
+) -> Result<HeadFile, StoreFault>
     requires { length facts.now < 2 ^ 32 }
+    ensures whole { OnOk result (IfSome stands (λ head. Tells head facts.now)) }
     ensures kept { IfOk result (λ kept. kept ≡ head_of facts.now) }
     ensures named { IfErr result IsKeepingFault }
 {
-    let stands = read_head(rt, name)?;
     let head = head_after(rt.alloc(), stands, facts)?;
-    kept_file(rt, name, stands.is_some(), head)
-}
-
-/// Books in files, each under the name of its file, read from copies of the file and its log in memory:
-/// nothing is made or changed, whoever has the book open. Of a file that is not there, or that is no
-/// database, `Store` is told; then come the faults of `BookStore::load`, and where the head beside the
-/// book tells facts that it has not, `Lost`. What stands there and is no head is `Head`.
-#[derive(Clone, Copy)]
-pub struct FileSource<'a> {
-    rt: &'a HostRuntime,
-}
-
-impl<'a> FileSource<'a> {
-    /// The files that this process can open.
-    pub fn new(rt: &'a HostRuntime) -> FileSource<'a> {
-        FileSource { rt }
-    }
-}
-
-impl BookSource for FileSource<'_> {
-    // What a file holds no clause can say.
-    ghost gives = { λ _ name read. IfErr read IsLoadRefusal };
-
-    fn read(&self, name: &str) -> Result<BookCopy, StoreFault> {
-        read_whole(self.rt, name)
+    match stands {
+        Some(before) => written(rt, name, before, head),
+        None => made(rt, book, name, head),
     }
 }

@@ -1,9 +1,9 @@
 //! The file beside a book that has its head: `FILE-head`.
 
-ghost use Rattle.std.specs.Prelude.{◌≡◌, ◌+◌, ◌<◌, ◌^◌, IfErr, IfOk, IfSome, IsSome, OnErr, OnOk, length};
+ghost use Rattle.std.specs.Prelude.{◌≡◌, ◌+◌, ◌++◌, ◌<◌, ◌^◌, IfErr, IfOk, IfSome, IsSome, Ok, OnErr, OnOk, codes, length, string_bytes};
 ghost use Rattle.gi_store.specs.FaultText.{IsFailure, IsKeepingFault};
 ghost use Rattle.gi_store.specs.Book.{IsToldOf};
-ghost use Rattle.gi_store.specs.Heads.{told_after, told_on};
+ghost use Rattle.gi_store.specs.Heads.{IsHead, head_text, told_after, told_on};
 
 use crate::file_bytes::{io_fault, plain_file};
 use crate::head::{Head, LENGTH};
@@ -11,9 +11,10 @@ use crate::store_fault::StoreFault;
 use gi_facts::Fact;
 use std::alloc::{AllocError, Global};
 use std::fs;
-use std::io::Read;
+use std::io::{self, Read};
 use std::marker::Model;
-use std::os::unix::fs::{FileExt, OpenOptionsExt};
+use std::os::unix::fs::{FileExt, MetadataExt, OpenOptionsExt};
+use std::path::PathBuf;
 
 /// The open file of a head. A contract sees the head that was written into it last: what the file
 /// holds no clause can name.
@@ -120,22 +121,27 @@ pub(crate) fn kept_on(head: Option<HeadFile>, loaded: Option<u32>) -> Option<Hea
     }
 }
 
-/// The real name of a book's file, and that of its head.
-pub(crate) fn head_name(rt: &HostRuntime, book: &str) -> Result<String, StoreFault>
-    ensures { IfErr result IsFailure }
+/// The name of the head beside a book's file.
+pub(crate) fn beside(alloc: Global, file: &str) -> Result<String, AllocError>
+    ensures { IfOk result (λ name. string_bytes name ≡ file.now ++ codes "-head") }
 {
-    let real = fs::canonicalize(rt, book).map_err(io_fault)?;
-    Ok(format!(in rt.alloc(); "{}-head", real.as_str())?)
+    format!(in alloc; "{file}-head")
 }
 
-fn head_in(rt: &HostRuntime, file: fs::File) -> Result<Head, StoreFault>
-    ensures { IfErr result IsKeepingFault }
+/// The name of a book's file, whichever links lead to it: its log and its head stand beside that.
+pub(crate) fn real_name(rt: &HostRuntime, book: &str) -> Result<PathBuf, StoreFault>
+    ensures { IfErr result IsFailure }
 {
-    let mut bytes = Vec::new(rt.alloc());
-    if let Err(error) = file.take(LENGTH as u64 + 1).read_to_end(&mut bytes) {
-        return Err(io_fault(error));
-    }
-    match Head::read(&bytes) {
+    fs::canonicalize(rt, book).map_err(io_fault)
+}
+
+/// The head that the bytes of its file are.
+fn head_in(bytes: &[u8]) -> Result<Head, StoreFault>
+    ensures text { IfOk result (λ head. bytes.now ≡ head_text head) }
+    ensures whole { (head : _) → IsHead head → bytes.now ≡ head_text head → result ≡ Ok head }
+    ensures named { IfErr result IsKeepingFault }
+{
+    match Head::read(bytes) {
         Some(head) => Ok(head),
         None => Err(StoreFault::Head),
     }
@@ -145,20 +151,26 @@ fn head_in(rt: &HostRuntime, file: fs::File) -> Result<Head, StoreFault>
 pub(crate) fn read_head(rt: &HostRuntime, name: &str) -> Result<Option<Head>, StoreFault>
     ensures { IfErr result IsKeepingFault }
 {
-    match plain_file(rt, name)? {
-        Some(file) => Ok(Some(head_in(rt, file)?)),
-        None => Ok(None),
+    let Some(file) = plain_file(rt, name)? else {
+        return Ok(None);
+    };
+    let mut bytes = Vec::new(rt.alloc());
+    if let Err(error) = file.take(LENGTH as u64 + 1).read_to_end(&mut bytes) {
+        return Err(io_fault(error));
     }
+    Ok(Some(head_in(&bytes)?))
 }
 
 /// The head beside this book, read as `read_head` does.
 pub(crate) fn head_beside(rt: &HostRuntime, book: &str) -> Result<Option<Head>, StoreFault>
     ensures { IfErr result IsKeepingFault }
 {
-    let name = head_name(rt, book)?;
+    let real = real_name(rt, book)?;
+    let name = beside(rt.alloc(), real.as_str())?;
     read_head(rt, name.as_str())
 }
 
+/// The file of this name, in which this head stands, open for others.
 fn opened(rt: &HostRuntime, name: &str, told: Head) -> Result<HeadFile, StoreFault>
     ensures told { IfOk result (λ kept. kept ≡ told) }
     ensures failed { IfErr result IsFailure }
@@ -169,54 +181,85 @@ fn opened(rt: &HostRuntime, name: &str, told: Head) -> Result<HeadFile, StoreFau
     }
 }
 
-fn created(rt: &HostRuntime, name: &str) -> Result<fs::File, StoreFault>
+/// The file of this name, in which the one before stands, open, with this head written over it.
+pub(crate) fn written(
+    rt: &HostRuntime,
+    name: &str,
+    before: Head,
+    head: Head,
+) -> Result<HeadFile, StoreFault>
+    ensures told { IfOk result (λ kept. kept ≡ head) }
+    ensures failed { IfErr result IsFailure }
+{
+    let mut kept = opened(rt, name, before)?;
+    kept.put(head)?;
+    Ok(kept)
+}
+
+/// Who may read and write a book may do so with its head.
+fn mode_of(rt: &HostRuntime, book: &str) -> Result<u32, StoreFault>
     ensures { IfErr result IsFailure }
 {
+    match fs::metadata(rt, book) {
+        Ok(found) => Ok(found.mode() & 0o777),
+        Err(error) => Err(io_fault(error)),
+    }
+}
+
+/// Takes away what a killed run may have left under this name.
+fn removed(rt: &HostRuntime, name: &str) -> Result<(), StoreFault>
+    ensures { IfErr result IsFailure }
+{
+    match fs::remove_file(rt, name) {
+        Ok(()) => Ok(()),
+        Err(error) if error.kind() == io::ErrorKind::NotFound => Ok(()),
+        Err(error) => Err(io_fault(error)),
+    }
+}
+
+/// A new file of this name, with this mode less the `umask`.
+fn created(rt: &HostRuntime, name: &str, mode: u32) -> Result<fs::File, StoreFault>
+    ensures { IfErr result IsFailure }
+{
+    removed(rt, name)?;
     let mut options = fs::OpenOptions::new();
-    options
-        .read(true)
-        .write(true)
-        .create(true)
-        .truncate(true)
-        .mode(0o600);
+    options.read(true).write(true).create_new(true).mode(mode);
     match options.open(rt, name) {
         Ok(file) => Ok(file),
         Err(error) => Err(io_fault(error)),
     }
 }
 
-/// A new file of this name with this head: it is written whole under another name, so that a kill
-/// leaves no half of one.
-fn made(rt: &HostRuntime, name: &str, head: Head) -> Result<HeadFile, StoreFault>
-    ensures told { IfOk result (λ kept. kept ≡ head) }
-    ensures failed { IfErr result IsFailure }
+/// Waits until the disk has the names in the folder of a file, whose name begins with a `/`.
+fn sync_folder(rt: &HostRuntime, name: &str) -> Result<(), StoreFault>
+    ensures { IfErr result IsFailure }
 {
-    let fresh = format!(in rt.alloc(); "{name}.new")?;
-    let file = created(rt, fresh.as_str())?;
-    let mut kept = HeadFile { file, told: head };
-    kept.put(head)?;
-    kept.sync()?;
-    match fs::rename(rt, fresh.as_str(), name) {
-        Ok(()) => Ok(kept),
+    let (folder, _) = name.rsplit_once('/').unwrap_or(("", name));
+    let folder = if folder.is_empty() { "/" } else { folder };
+    match fs::File::open(rt, folder) {
+        Ok(folder) => folder.sync_all().map_err(io_fault),
         Err(error) => Err(io_fault(error)),
     }
 }
 
-/// The file of this name, open, with this head written into it, whether it was there or not.
-pub(crate) fn kept_file(
+/// A new file of this name with this head, beside the book's, for those who have that: it is written whole under
+/// another name, so that a kill leaves no half of one.
+pub(crate) fn made(
     rt: &HostRuntime,
+    book: &str,
     name: &str,
-    was_there: bool,
     head: Head,
 ) -> Result<HeadFile, StoreFault>
     ensures told { IfOk result (λ kept. kept ≡ head) }
     ensures failed { IfErr result IsFailure }
 {
-    if !was_there {
-        return made(rt, name, head);
-    }
-    let mut kept = opened(rt, name, head)?;
+    let fresh = format!(in rt.alloc(); "{name}.new")?;
+    let file = created(rt, fresh.as_str(), mode_of(rt, book)?)?;
+    let mut kept = HeadFile { file, told: head };
     kept.put(head)?;
+    kept.sync()?;
+    fs::rename(rt, fresh.as_str(), name).map_err(io_fault)?;
+    sync_folder(rt, name)?;
     Ok(kept)
 }
 

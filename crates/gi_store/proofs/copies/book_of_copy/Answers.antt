@@ -1,4 +1,4 @@
-use Rattle.std.proofs.Common.{Result, Ok, Err, IfOk}
+use Rattle.std.proofs.Common.{Result, Ok, Err, Option, None, Some, IfOk, IfSome}
 use Rattle.gi_store.specs.Book.{IsRead}
 use Rattle.gi_store.specs.Copies.{BookCopyState, IsCopyIn}
 use Rattle.gi_store.specs.Rows.{SaysOwner}
@@ -7,8 +7,10 @@ use Rattle.sqlite.specs.Files.{file_state}
 use Rattle.gi_store.proofs.copies.book_of_copy.Goals as goal
 
 -- what holds of a value under a premise
-under : {T E : Type 0} (r : Result T E) (Premise : Type 0) (P Q : T → Type 0) → ((x : T) → (Premise → P x) → Q x) → (Premise → IfOk r P) → IfOk r Q
-under (Ok x) Premise P Q then h = then x h
+under : {T E : Type 0} (r : Result (Option T) E) (Premise : Type 0) (P Q : T → Type 0) → ((x : T) → (Premise → P x) → Q x)
+    → (Premise → IfOk r (λ found. IfSome found P)) → IfOk r (λ found. IfSome found Q)
+under (Ok (Some x)) Premise P Q then h = then x h
+under (Ok None) Premise P Q then h = tt
 under (Err e) Premise P Q then h = tt
 
 pub returns-clause-copy : goal.returns-clause-copy
