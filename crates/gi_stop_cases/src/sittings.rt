@@ -108,16 +108,17 @@ fn send_all(notes: &[Note], sent: &mut Vec<Body>) -> u32 {
     recorded
 }
 
-/// Adds what the call was answered, unless that the desk is halted.
-fn add_unhalted(answer: &Result<Receipt, OfficeFault>, text: &mut Answer) {
+/// Whether the call was answered that the desk is halted. Else what it was answered is added.
+fn is_halted(answer: &Result<Receipt, OfficeFault>, text: &mut Answer) -> bool {
     match answer {
         Ok(receipt) => match receipt.reply.answer {
-            gi_desk::Answer::Refused(Refusal::Halted) => {}
+            gi_desk::Answer::Refused(Refusal::Halted) => return true,
             gi_desk::Answer::Refused(refusal) => text.word(refusal),
             _ => text.word("made"),
         },
         Err(fault) => text.word(*fault),
     }
+    false
 }
 
 /// Why the turn saved nothing.
@@ -267,22 +268,31 @@ impl<'a, R: Role, L: Ledger, S: Alter + Drop> Sitting<'a, R, L, S> {
         }
     }
 
-    /// Makes a call, and adds what it is answered, unless that the desk is halted.
-    fn try_call<W: Wait>(&mut self, handle: &W, call: Option<Call>, text: &mut Answer) {
-        if let Some(answer) = self.ask(handle, call) {
-            add_unhalted(&answer, text);
-            drop(answer);
-        }
+    /// Makes a call. Gives how many were answered that the desk is halted, and adds any other answer.
+    fn try_call<W: Wait>(&mut self, handle: &W, call: Option<Call>, text: &mut Answer) -> u32 {
+        let Some(answer) = self.ask(handle, call) else {
+            return 0;
+        };
+        let is_halted = is_halted(&answer, text);
+        drop(answer);
+        u32::from(is_halted)
     }
 
-    /// Makes a call of each kind on the desk that is halted, and a turn, and adds what that is answered.
-    /// What is delivered is a packet of the peer, where there is one.
+    /// Makes a call of each kind on the desk that is halted, and a turn, and adds what that is answered, and where not
+    /// each of these calls was answered `Halted`, how many were. What is delivered is a packet of the peer, where there
+    /// is one.
     pub fn call_each<W: Wait>(&mut self, handle: &W, packets: &[Body], text: &mut Answer) {
+        let mut halted = 0u32;
         for number in 0..KINDS {
-            self.try_call(handle, self.script.call(number), text);
+            let one = self.try_call(handle, self.script.call(number), text);
+            halted = halted.wrapping_add(one);
+        }
+        if halted != KINDS {
+            text.word("halted for");
+            text.word(halted);
         }
         if let Some(packet) = packets.first() {
-            self.try_call(handle, packet.copy().ok().map(Call::Deliver), text);
+            let _ = self.try_call(handle, packet.copy().ok().map(Call::Deliver), text);
         }
         if let Some(fault) = self.save(handle) {
             text.word(fault);

@@ -52,12 +52,13 @@ fn save<S: Alter>(book: &mut BookStore<S>, facts: &[Fact], is_next: bool) -> Res
     }
 }
 
-/// Loads the book, and adds whether it then knows as many facts as it gave, or why it gave none.
+/// Loads the book, and adds how many facts it gave, where it then knows as many, or why it gave none.
 fn add_loaded<S: Alter>(book: &mut BookStore<S>, text: &mut Answer) -> bool {
     match book.load() {
         Ok(facts) => {
             let is_known = book.count() == u32::try_from(facts.len()).ok();
             text.word(if is_known { "loaded" } else { "other facts" });
+            text.word(facts.len());
             drop(facts);
             true
         }
