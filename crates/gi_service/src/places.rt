@@ -12,6 +12,7 @@ use gi_desk::Fact;
 use gi_pairs::{Code, Side};
 use gi_store::{
     BookStore, FileSource, Owner, StoreFault, book_of_file, close_book, head_of_file, left_head,
+    memory_is_clean,
 };
 use sqlite::{Alter, Connection, File, FileStore, MemStore};
 use std::alloc::{AllocError, Global};
@@ -83,6 +84,7 @@ impl Place for InMemory {
     fn book(&self, side: Side) -> Result<BookStore<MemStore>, StoreFault> {
         let connection = Connection::open_in_memory(self.alloc)?;
         let point = self.point;
+        memory_is_clean();
         match BookStore::open(self.alloc, connection, Owner { side, point }) {
             Ok(book) => Ok(book),
             Err((connection, fault)) => {

@@ -68,11 +68,7 @@ pub(crate) fn facts_in(alloc: Global, found: Found) -> Vec<Fact>
 }
 
 /// One book is missing, that of this side, and this is the other one.
-fn of_one(
-    only_old: bool,
-    side: Side,
-    other: Result<Standing, StoreFault>,
-) -> Option<Fault>
+fn of_one(only_old: bool, side: Side, other: Result<Standing, StoreFault>) -> Option<Fault>
     ensures value { result ≡ of_one only_old side other }
     ensures named { IfSome result IsPrefixFault }
 {
