@@ -1,5 +1,5 @@
 -- What stands under the names of two books before they are opened, and what is refused for it.
-use Rattle.std.specs.Prelude.{◌≡◌, Bool, true, false, List, [], ◌∷◌, Option, None, Some, Result, Ok, Err}
+use Rattle.std.specs.Prelude.{◌≡◌, ℕ, ◌++◌, codes, Bool, true, false, List, [], ◌∷◌, Option, None, Some, Result, Ok, Err}
 use Rattle.std.specs.Global.{Vec}
 use Rattle.gi_facts.specs.declared.fact.Fact.{Fact}
 use Rattle.gi_pairs.specs.declared.side.Side.{Side}
@@ -17,6 +17,11 @@ use Rattle.gi_commands.specs.declared.fault.Fault.{Fault}
 use Rattle.gi_commands.specs.declared.fault.Fault.TheVariants as fault
 use Rattle.gi_service.specs.declared.standing.Standing.{Standing}
 use Rattle.gi_service.specs.declared.standing.Standing.TheVariants.{Missing, Empty, Facts}
+
+-- the name of a side's book
+abbrev pub book_name : Side → List ℕ → List ℕ
+book_name I prefix = prefix ++ codes "-I.db"
+book_name M prefix = prefix ++ codes "-M.db"
 
 -- the facts of the book under a name, none where it is missing, or what is told of it
 abbrev pub Found : Type 0

@@ -1,10 +1,10 @@
 //! Where the books of two running offices stand.
 
-ghost use Rattle.std.specs.Prelude.{◌≡◌, ◌++◌, IfErr, IfOk, codes, false, string_bytes, true};
-ghost use Rattle.gi_pairs.specs.Side.{side_text};
+ghost use Rattle.std.specs.Prelude.{◌≡◌, IfErr, IfOk, false, string_bytes, true};
 ghost use Rattle.gi_service.specs.Serving.{IsFilesFault};
+ghost use Rattle.gi_service.specs.Standing.{book_name};
 
-use crate::standing::{Found, facts_in, found, left, may_open, standing};
+use crate::standing::{Found, facts_in, found, left, may_open, stands};
 use crate::stations::one_past;
 use gi_command_line::WaitSeconds;
 use gi_commands::Fault;
@@ -119,9 +119,12 @@ pub(crate) struct InFiles<'a> {
 const TRIES: u32 = 10;
 
 fn name_of(rt: &HostRuntime, prefix: &str, side: Side) -> Result<String, AllocError>
-    ensures { IfOk result (λ name. string_bytes name ≡ prefix.now ++ codes "-" ++ side_text side ++ codes ".db") }
+    ensures { IfOk result (λ name. string_bytes name ≡ book_name side prefix.now) }
 {
-    format!(in rt.alloc(); "{prefix}-{side}.db")
+    match side {
+        Side::I => format!(in rt.alloc(); "{prefix}-I.db"),
+        Side::M => format!(in rt.alloc(); "{prefix}-M.db"),
+    }
 }
 
 /// What is found under the name of a book: by a copy where a file is there, else by the head that is left.
@@ -149,7 +152,7 @@ fn may_open_both(
     let ours = looked_at(rt, initiating, Owner { side, point });
     let side = Side::M;
     let theirs = looked_at(rt, matching, Owner { side, point });
-    let is_new = match may_open(only_old, standing(&ours), standing(&theirs)) {
+    let is_new = match may_open(only_old, stands(&ours), stands(&theirs)) {
         Ok(is_new) => is_new,
         Err(fault) => {
             drop((ours, theirs));
@@ -237,7 +240,8 @@ impl Place for InFiles<'_> {
                 Err(StoreFault::Busy) if tried < tries => {
                     thread::sleep(self.rt, Duration::from_millis(100));
                 }
-                opened => return opened,
+                Ok(book) => return Ok(book),
+                Err(fault) => return Err(fault),
             }
         }
         Err(StoreFault::Busy)

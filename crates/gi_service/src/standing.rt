@@ -26,7 +26,7 @@ pub(crate) enum Standing {
 pub(crate) type Found = Result<Option<Vec<Fact>>, StoreFault>;
 
 /// What stands there, or what is told of it.
-pub(crate) fn standing(found: &Found) -> Result<Standing, StoreFault>
+pub(crate) fn stands(found: &Found) -> Result<Standing, StoreFault>
     ensures { result ≡ standing_of found.now }
 {
     match found {
