@@ -21,6 +21,9 @@ WRITES = {"write", "writev", "pwrite"}
 READS = {"read", "pread"}
 TAKES_ROOM = {*WRITES, "open_to_make", "ftruncate", "fallocate", "fsync", "fdatasync", "rename"}
 CHANGES = {*TAKES_ROOM, "unlink", "fchmod", "fchown"}
+# what asks whether a file is there; and what may fail without effect: what only asks or reads, since its answer is not always wanted
+ASKS = {"access", "statx"}
+UNSEEN = {*ASKS, *READS, "realpath", "open", "fadvise"}
 # each way to break a call, what it is in words, and which calls are broken by it (None: all)
 WAYS = {
     "EIO": ("EIO", None),
@@ -61,14 +64,15 @@ def shown(call):
 def can_be_broken(call, way):
     """Whether the call can be broken in this way."""
     kinds = WAYS[way][1]
-    # (a head is a line at the beginning of its file, within one sector, which a disk finishes)
-    is_whole = call.file.endswith("-head") and way in HALVES - HARMLESS
+    # (a head is a line at the beginning of its file, within one sector, which a disk finishes: no kill leaves half of it)
+    is_whole = call.file.endswith("-head") and way == "halfway"
     return (kinds is None or call.name in kinds) and (call.size > 1 or way not in HALVES) and not is_whole
 
 
 def without_effect(call):
-    """That this call failed and nothing came of it: what only asks or reads may do so, since its answer is not always wanted."""
-    if call.name in CHANGES:
+    """That this call failed and nothing came of it."""
+    # (a folder is opened to be synced)
+    if call.name not in UNSEEN or (call.name, call.file) == ("open", "."):
         raise Wrong("it failed, and nothing was told")
     return f"{call.name} without effect"
 

@@ -7,7 +7,7 @@ import shutil
 import tempfile
 
 from book_files import SIDES, Wrong, book_of, both_facts, make_books
-from breaking import AS, AT_THE_END, HARMLESS, KILLS, READS, WRITES, gone, on_the_disk, shown, without_effect
+from breaking import AS, ASKS, AT_THE_END, HARMLESS, KILLS, READS, WRITES, gone, on_the_disk, shown, without_effect
 
 POINT, DAY = "BORDER-1", "2026-01-15"
 KINDS = ("open", "confirmed")
@@ -161,14 +161,16 @@ class Served:
         if not is_front(done.output, self.whole.output):
             raise Wrong(f"{done.output[-80:]!r} was written")
         if way in KILLS:
-            if done.status != -9 or done.errors:
-                raise Wrong("it was not killed")
+            # (it writes all that it tells once its books are closed)
+            if done.status != -9 or done.errors or done.output:
+                raise Wrong("it was not killed, or had told something")
             return "killed"
         if is_whole:
             return "whole" if way in HARMLESS else without_effect(done.hit)
         # (a page that is held against its digest is read by one call: less of it is a fault)
         is_fault = way not in HARMLESS or done.hit.name in READS
-        if not is_fault or done.status != 3 or done.errors not in (FAULTS if self.begins else FAULTS + ONE_ALONE):
+        is_asked = not self.begins and done.hit.name in ASKS
+        if not is_fault or done.status != 3 or done.errors not in (FAULTS + ONE_ALONE if is_asked else FAULTS):
             raise Wrong("it ended otherwise")
         return "told"
 

@@ -2,14 +2,15 @@
 call that was: the first that is answered otherwise, and its answer must be that memory is wanted. A second run of the same allocation,
 whose lines are as many bytes, has more lines behind that call: what stands is asked, and must be what stood before; the call is made
 again, and must be answered as it is with all memory; and so must be what follows. What took its values by move cannot be made again,
-and is gone. Where the driver of the cases itself wants memory, as for the text of a message that was read, the program ends, or makes nothing
-of the call, which is made again too."""
+and is gone. Where the driver of the cases itself wants memory, the program ends, or makes nothing of the call, which is made again too. A
+message that was read and whose own text is refused memory then is not kept."""
+import collections
 import re
 import shutil
 import tempfile
 
 from book_files import Wrong
-from refusal import ENDS
+from refusal import ENDS, all_reached
 
 # an answer that tells of want of memory, by the desk, a world, a book or an office
 WANTS = re.compile(r"(Refused |Store |Office )?OutOfMemory$")
@@ -35,8 +36,8 @@ class Cases:
         if whole is None:
             raise Wrong("it does not end with all memory")
         self.answers, self.count = whole
-        # the calls that were refused memory and told it
-        self.wanting = set()
+        # the calls that were refused memory and told it, and how often
+        self.wanting = collections.Counter()
 
     def questions(self, _at):
         """What is asked of what stands before a call."""
@@ -85,23 +86,31 @@ class Cases:
         counted as of all, and each of these ways has to be gone."""
         self.stood = self.before()
         evenly = self.refusing.numbers(self.count, most)
-        counts = self.refusing.each(sorted(self.in_each().union(evenly)), self.one)
-        if counts["not reached"]:
-            raise Wrong(f"{counts['not reached']} allocations were not asked for again")
+        counts = self.refusing.each(evenly, self.one)
         again = sum(count for what, count in counts.items() if what not in ("ended", "done without"))
         if again * evenly.step < least:
             raise Wrong(f"only {again} calls were made again")
+        counts += self.refusing.each(sorted(self.in_each().difference(evenly)), self.one)
+        all_reached(counts, False)
         for way in ways:
             if not counts[way]:
                 raise Wrong(f"no refusal was {way}")
         for name, places in self.wanted().items():
-            if not self.wanting.intersection(places):
+            if not any(self.wanting[at] for at in places):
                 raise Wrong(f"{name} never told that it wants memory")
         return counts, self.count
 
     def wanted(self):
         """Names, and of each the places of calls of which one at least has to be refused memory, and to tell it."""
         return {}
+
+    def of_kinds(self, words):
+        """The places of the calls of each of these words that the file has."""
+        made = {}
+        for at, call in enumerate(self.calls):
+            for word in set(call.split()[:2]).intersection(words):
+                made.setdefault(word, []).append(at)
+        return made
 
     def one(self, number):
         """What came of one refusal."""
@@ -114,9 +123,10 @@ class Cases:
         at = next((at for at, it in enumerate(answers) if it != self.answers[at]), None)
         if at is None:
             return "done without"
-        if any(map(WANTS.match, answers[at][-1:])):
-            self.wanting.add(at)
-        return self.made_again(number, at, answers[at])
+        what = self.made_again(number, at, answers[at])
+        if what != "ended" and any(map(WANTS.match, answers[at][-1:])):
+            self.wanting[at] += 1
+        return what
 
     def made_again(self, number, at, answer):
         """What came of a call that was refused memory and is made again."""
@@ -168,16 +178,25 @@ class Cases:
 
 
 class Messages(Cases):
-    """Messages: the one that was read before stays."""
+    """Messages: the one that was read before stays, also where it is the text of a new one that is refused memory."""
 
     def questions(self, at):
         return ["fields"] if at else []
 
     def wanted(self):
-        """A message of each kind. (An order or a response in the office's own text is read in one pass, and as JSON where that is refused
-        memory; so it tells nothing.)"""
+        """A message of each kind."""
         kinds = ("NOMINT", "ACKNOW", "NOMRES", "DELORD", "DELRES")
         return {kind: [at for at, call in enumerate(self.calls) if f'"kind":"{kind}"' in call] for kind in kinds}
+
+    def all(self, most, least, ways):
+        counts = super().all(most, least, ways)
+        # (an order or a response in the office's own text is read in one pass, and as JSON where that is refused memory: so it tells only
+        # of the text that is written for it; with its keys in another order it tells of its reading too)
+        for kind in ("DELORD", "DELRES"):
+            own, other = self.wanted()[kind]
+            if self.wanting[other] <= self.wanting[own]:
+                raise Wrong(f"{kind} never told that its reading wants memory")
+        return counts
 
 
 class Worlds(Cases):
@@ -226,6 +245,10 @@ class Book(Cases):
     def driver_wants(self, at):
         return ["failed"] if self.calls[at].startswith(("folder ", "remove_folder ")) else None
 
+    def wanted(self):
+        """Each kind of call on a book that takes memory."""
+        return self.of_kinds(("load", "open", "save_next", "save_batch"))
+
     def behind(self, at, _answer):
         call = self.calls[at]
         if call == "open":
@@ -255,7 +278,7 @@ class Offices(Cases):
 
     # (a wait for a fact that no turn saved would have no end; so what a wait answers without memory is not tried)
     LEFT_OUT = ("wait_saved",)
-    EACH = ("open", "fact", "contract", "submit", "close", "deliver", "join_lives", "reconcile")
+    EACH = ("open", "fact", "contract", "notice", "submit", "close", "resend", "deliver", "halt", "join_lives", "reconcile")
     SIDES = ("I", "later", "M")
 
     def questions(self, at):
@@ -281,12 +304,11 @@ class Offices(Cases):
         return self.stood[at][self.questions(at).index(question)]
 
     def wanted(self):
-        """Of each kind of call one."""
-        made = {}
-        for at, call in enumerate(self.calls):
-            for word in call.split()[:2]:
-                if word in ("open", "contract", "submit", "close", "deliver", "save_turn", "join_lives"):
-                    made.setdefault(word, []).append(at)
+        """Of each kind of call one. (A fact is read by the driver. A halt takes no memory but for its note, and that at some places
+        alone. To reconcile, what a side let out is copied: nothing is let out where no turn saves.)"""
+        made = self.of_kinds({*self.EACH, "save_turn"} - {"fact", "halt"})
+        if "save_turn" not in made:
+            made.pop("reconcile", None)
         return made
 
     def made_again(self, number, at, answer):

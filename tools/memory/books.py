@@ -4,7 +4,7 @@ import shutil
 import tempfile
 
 from book_files import SIDES, Wrong, both_facts, make_books
-from refusal import ended, whole_run
+from refusal import RECONCILED, all_reached, ended, whole_run
 
 SERVE = ["gi_dispatch", "serve", "--books", "day"]
 # what `serve` writes behind the lines of its steps
@@ -12,29 +12,31 @@ LAST_OF_SERVE = 5
 
 
 class Books:
-    """A day that `serve` ran over books: each refusal of a command over them, or of that day itself."""
+    """A day that `serve` ran over books that stand so at first, or over none: each refusal of a command over them, or of that day itself."""
 
-    def __init__(self, refusing, script):
-        self.refusing, self.script = refusing, script
-        self.folder = tempfile.mkdtemp(dir=refusing.scratch)
+    def __init__(self, refusing, script, begins=None):
+        self.refusing, self.script, self.begins = refusing, script, begins
+        self.folder = self.copied(begins)
+        self.before = both_facts(self.folder)
         self.whole = whole_run(refusing, SERVE, script, self.folder)
         self.held = both_facts(self.folder)
         # what the day comes to, from books of these numbers of facts
         self.known = {}
 
-    def copied(self):
-        """A copy of the day's books, with their logs, in a folder of its own."""
+    def copied(self, of):
+        """A copy of these books, with their logs, in a folder of its own."""
         folder = tempfile.mkdtemp(dir=self.refusing.scratch)
-        shutil.copytree(self.folder, folder, dirs_exist_ok=True)
+        if of:
+            shutil.copytree(of, folder, dirs_exist_ok=True)
         return folder
 
     def looked_at(self, words, most, least):
         """Refuses the memory of a command that looks at the books, which has one thread: they stand as before, and the command
         made again says what it says otherwise. So many refusals must be told at least."""
-        whole = whole_run(self.refusing, words, os.devnull, self.copied())
+        whole = whole_run(self.refusing, words, os.devnull, self.copied(self.folder))
 
         def one(number):
-            folder = self.copied()
+            folder = self.copied(self.folder)
             what = ended(words, number, self.refusing.run(words, os.devnull, number, folder), whole, None)
             again = self.refusing.run(words, os.devnull, 0, folder)
             if (again.status, again.output, again.errors) != (whole.status, whole.output, whole.errors):
@@ -45,8 +47,9 @@ class Books:
             return what
 
         counts = self.refusing.each(self.refusing.numbers(whole.count, most), one)
-        if counts["not reached"] or counts["told"] < least:
-            raise Wrong(f"{counts['not reached']} allocations were not asked for again, and {counts['told']} refusals told")
+        all_reached(counts, False)
+        if counts["told"] < least:
+            raise Wrong(f"only {counts['told']} refusals were told")
         return counts, whole.count
 
     def from_here(self, held):
@@ -56,19 +59,22 @@ class Books:
             folder = tempfile.mkdtemp(dir=self.refusing.scratch)
             make_books(folder, held)
             done = self.refusing.run(SERVE, self.script, 0, folder)
+            if done.status or done.errors or not done.output.endswith(RECONCILED):
+                raise Wrong(f"over books of {key} facts the day has status {done.status}, {done.errors!r}")
             self.known[key] = (done.status, done.output, done.errors, both_facts(folder))
         return self.known[key]
 
     def is_front_of_day(self, held):
-        """Whether these are first facts of the day, at both sides."""
-        return all(its is None or its == self.held[side][: len(its)] for side, its in held.items())
+        """Whether these are first facts of the day, at both sides, with those of before."""
+        return all((its or []) == self.held[side][: max(len(its or []), len(self.before[side] or []))] for side, its in held.items())
 
-    def served(self, most):
-        """Refuses the memory of the day itself, which has several threads, from no books. Each book has first facts of the day
-        then, and the day that is run over them again comes to what it comes to over others of the same facts."""
+    def served(self, most, least):
+        """Refuses the memory of the day itself, which has several threads. Each book has first facts of the day then, with those of
+        before, and the day that is run over them again comes to what it comes to over others of the same facts. So many refusals must be
+        told at least, counted as of all."""
 
         def one(number):
-            folder = tempfile.mkdtemp(dir=self.refusing.scratch)
+            folder = self.copied(self.begins)
             done = self.refusing.run(SERVE, self.script, number, folder)
             what = ended(SERVE, number, done, self.whole, LAST_OF_SERVE)
             held = both_facts(folder)
@@ -81,4 +87,9 @@ class Books:
             shutil.rmtree(folder)
             return what
 
-        return self.refusing.each(self.refusing.numbers(self.whole.count + self.whole.count // 16, most), one), self.whole.count
+        numbers = self.refusing.numbers(self.whole.count + self.whole.count // 16, most)
+        counts = self.refusing.each(numbers, one)
+        all_reached(counts, True)
+        if counts["told"] * numbers.step < least:
+            raise Wrong(f"only {counts['told']} refusals were told")
+        return counts, self.whole.count

@@ -73,6 +73,13 @@ class Refusing:
         return counts
 
 
+def all_reached(counts, has_threads):
+    """Each allocation was asked for again; of several threads, all but a quarter."""
+    of = sum(counts.values()) if has_threads else 0
+    if 4 * counts["not reached"] > of:
+        raise Wrong(f"{counts['not reached']} allocations were not asked for again")
+
+
 def is_front(written, whole, last):
     """Whether these are the lines of first steps, each with all of its own; `last` lines tell no step and end the whole. None
     stands for a command that writes all at once or nothing."""
