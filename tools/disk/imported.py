@@ -9,8 +9,10 @@ from breaking import PROGRAM
 UNBROKEN = {
     "close": "what it could tell was told by the last sync of the file, and no answer of it is looked at",
     "lseek": "it moves no bytes",
+    "flock": "a book is locked by fcntl, and no run here makes this call",
     "getcwd": "it is of no file",
     "isatty": "it is asked of the standard streams alone",
+    "syscall": "by it threads wait and are woken: no run here makes another call by its number",
     "__write": "it is the line on standard error of a processor that is too old",
 }
 # memory, texts, threads, time, the process itself: on no file
