@@ -39,6 +39,12 @@ def sum_of_kit():
     return rt.kit_sum() if hasattr(rt, "kit_sum") else rtlib.sum_of(f"{rtlib.KIT}/KIT-ID")
 
 
+@functools.cache
+def logic_of_kit():
+    """The kit's number and logic without the letter by which builds of one number differ: `rattle-kit-13 logic dac8..`."""
+    return re.sub(r"(?<=kit-)(\d+)[a-z]+\b", r"\1", rtlib.text_of(f"{rtlib.KIT}/KIT-ID").strip())
+
+
 def stamp_of(crate):
     """A sum of all that a verdict on the crate stands on: the kit, and the files and libraries of the crate and of those below."""
     whole = [*crate.below(), crate]

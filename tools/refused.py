@@ -1,6 +1,6 @@
 """The record of the wrong bodies that were refused: the file `refused` of their folder, sorted, with a line for each edit: its crate and
-name, and a sum of all that the verdict stands on: the kit, the crate's files, what a trial sees of the crates below, the edit, and the
-tools that judge. A trial sees no body and no comment of a crate below, so that these are not in the sum; its clauses, types, specs/ and
+name, and a sum of all that the verdict stands on: the kit's number and logic, the crate's files, what a trial sees of the crates below,
+the edit, and the tools that judge. A trial sees no body and no comment of a crate below, so that these are not in the sum; its clauses, types, specs/ and
 proofs/ are. A line is written only by a run that has itself refused the edit, and goes with the edit. One whose sum is no longer that
 of the files says nothing."""
 import contextlib
@@ -47,7 +47,7 @@ def base_of(crate):
     below = crate.below()
     libraries = [(it.name, it.of_kit, [dep.name for dep in it.deps]) for it in [*below, crate]]
     files = [*(row for it in below for row in files_of(it, True)), *files_of(crate, False)]
-    return sum_of(repr((kit.sum_of_kit(), libraries, files, [kit.rtlib.sum_of(it) for it in TOOLS])))
+    return sum_of(repr((kit.logic_of_kit(), libraries, files, [kit.rtlib.sum_of(it) for it in TOOLS])))
 
 
 def stamp_of(edit, base):

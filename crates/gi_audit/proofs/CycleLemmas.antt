@@ -35,7 +35,7 @@ closed_in id [] closed = absurd cc
 closed_in id (Contracted contract ∷ later) closed = closed_in id later closed
 closed_in id (Noticed notice ∷ later) closed = closed_in id later closed
 closed_in id (Nominated document ∷ later) closed = closed_in id later closed
-closed_in id (Closed other ∷ later) closed = in_by id other (closings later) (same_cycle other id) (list_any (is_closing id) later) refl (closed_in id later) closed
+closed_in id (Closed other rule ∷ later) closed = in_by id other (closings later) (same_cycle other id) (list_any (is_closing id) later) refl (closed_in id later) closed
 closed_in id (Met other peer ∷ later) closed = closed_in id later closed
 
 or_true : (a b : Bool) → b ≡ true → (a || b) ≡ true
@@ -52,7 +52,7 @@ in_closed id [] there = absurd there
 in_closed id (Contracted contract ∷ later) there = in_closed id later there
 in_closed id (Noticed notice ∷ later) there = in_closed id later there
 in_closed id (Nominated document ∷ later) there = in_closed id later there
-in_closed id (Closed other ∷ later) there = by_in id other (closings later) (list_any (is_closing id) later) (in_closed id later) there
+in_closed id (Closed other rule ∷ later) there = by_in id other (closings later) (list_any (is_closing id) later) (in_closed id later) there
 in_closed id (Met other peer ∷ later) there = in_closed id later there
 
 -- those of a desk

@@ -11,6 +11,7 @@ use Rattle.gi_facts.specs.declared.fact.Fact.TheVariants.{Contracted, Noticed, N
 use Rattle.gi_facts.proofs.SameLemmas.{same_cycle-is}
 use Rattle.gi_desk.specs.History.{facts_before, is_closing, is_meeting, number_of, peer_in, peer_of}
 use Rattle.gi_desk.specs.LetOut.{IsFact}
+use Rattle.gi_processing.specs.declared.rule.Rule.{Rule}
 
 pub number_here : (is : Fact → Bool) (fact : Fact) (facts : List Fact) → is fact ≡ true → number_of is (fact ∷ facts) ≡ 1
 unfolding number_of facts_before
@@ -97,18 +98,18 @@ first_fact is (fact ∷ facts) any = first_by is (is fact) fact facts refl (firs
 
 -- ---- closings and meetings
 
-pub closing_is : (id : CycleId) (fact : Fact) → is_closing id fact ≡ true → fact ≡ Closed id
+pub closing_is : (id : CycleId) (fact : Fact) → is_closing id fact ≡ true → (rule : Rule) × (fact ≡ Closed id rule)
 closing_is id (Contracted contract) e = absurd cc
 closing_is id (Noticed notice) e = absurd cc
 closing_is id (Nominated document) e = absurd cc
-closing_is id (Closed other) e = ap Closed (same_cycle-is other id e)
+closing_is id (Closed other rule) e = (rule, ap (λ (c : CycleId). Closed c rule) (same_cycle-is other id e))
 closing_is id (Met other peer) e = absurd cc
 
 pub meeting_is : (id : CycleId) (fact : Fact) → is_meeting id fact ≡ true → (peer : TableContents) × (fact ≡ Met id peer)
 meeting_is id (Contracted contract) e = absurd cc
 meeting_is id (Noticed notice) e = absurd cc
 meeting_is id (Nominated document) e = absurd cc
-meeting_is id (Closed other) e = absurd cc
+meeting_is id (Closed other rule) e = absurd cc
 meeting_is id (Met other peer) e = (peer, ap (λ (cycle : CycleId). Met cycle peer) (same_cycle-is other id e))
 
 first_met : (b : Bool) (peer : TableContents) (rest : List TableContents) (any : Bool) → is_some (slice_get rest 0) ≡ any
@@ -121,7 +122,7 @@ any_met id [] = refl
 any_met id (Contracted contract ∷ facts) = any_met id facts
 any_met id (Noticed notice ∷ facts) = any_met id facts
 any_met id (Nominated document ∷ facts) = any_met id facts
-any_met id (Closed other ∷ facts) = any_met id facts
+any_met id (Closed other rule ∷ facts) = any_met id facts
 any_met id (Met other peer ∷ facts) = first_met (same_cycle other id) peer (filter_map (peer_in id) facts) (list_any (is_meeting id) facts) (any_met id facts)
 
 pub met_any : (id : CycleId) (facts : List Fact) → is_some (peer_of id facts) ≡ list_any (is_meeting id) facts

@@ -83,7 +83,7 @@ is_met : (id : CycleId) (fact : Fact) (peer : TableContents) → peer_in id fact
 is_met id (Contracted contract) peer e = absurd cc
 is_met id (Noticed notice) peer e = absurd cc
 is_met id (Nominated document) peer e = absurd cc
-is_met id (Closed other) peer e = absurd cc
+is_met id (Closed other rule) peer e = absurd cc
 is_met id (Met other table) peer e = met_by_test id table peer (same_cycle other id) e
 
 some_get : (facts : List Fact) (i : ℕ) → i < length facts → (fact : Fact) × (slice_get facts i ≡ Some fact)

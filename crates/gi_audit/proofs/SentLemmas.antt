@@ -34,6 +34,7 @@ use Rattle.gi_world.proofs.Fronts.{front-closed, saved-front}
 use Rattle.gi_world.proofs.Meetings.{some_in}
 use Rattle.gi_audit.specs.Sent.{sent_table, table_in}
 use Rattle.gi_audit.proofs.Places.{any_to, closing_is, first_fact, meeting_is, met_any, to_any}
+use Rattle.gi_processing.specs.declared.rule.Rule.{Rule}
 
 -- the first that passes is the first of those that do
 kept_by : {X : Type 0} (test : X → Bool) (x : X) (xs : List X) (b : Bool) → find test xs ≡ slice_get (filter test xs) 0
@@ -103,11 +104,12 @@ to_closed : (s : DeskState) (id : CycleId) → s.saved ≤ length s.facts → nu
 unfolding is_closed
 to_closed s id within below = to_any (is_closing id) s.facts s.saved within below
 
-closing_fact : (facts : List Fact) (id : CycleId) → is_closed id facts ≡ true → IsFact facts (number_of (is_closing id) facts) (Closed id)
+closing_fact : (facts : List Fact) (id : CycleId) → is_closed id facts ≡ true → (rule : Rule) × IsFact facts (number_of (is_closing id) facts) (Closed id rule)
 unfolding is_closed
 closing_fact facts id closed =
     let first = first_fact (is_closing id) facts closed in
-    subst (λ (fact : Fact). IsFact facts (number_of (is_closing id) facts) fact) (closing_is id first.fact first.passes) first.at
+    let closing = closing_is id first.fact first.passes in
+    (closing.0, subst (λ (fact : Fact). IsFact facts (number_of (is_closing id) facts) fact) closing.1 first.at)
 
 meeting_fact : (facts : List Fact) (id : CycleId) → list_any (is_meeting id) facts ≡ true → (peer : TableContents) × IsFact facts (number_of (is_meeting id) facts) (Met id peer)
 meeting_fact facts id any =
@@ -121,8 +123,9 @@ ordered : (s : DeskState) (id : CycleId) → s.halted ≡ false → is_closed id
 ordered s id runs saved =
     let closed = front-closed (saved_facts s) s.facts id (saved-front s) saved in
     let n = number_of (is_closing id) s.facts in
+    let closing = closing_fact s.facts id closed in
     let out =
-    sym (closing_for_peer I s.point s.facts n id (closing_fact s.facts id closed))
+    sym (closing_for_peer I s.point s.facts n id closing.0 closing.1)
     ∙ ap (let_out_on_closing I s.point) (state-closed I s.facts id closed)
     ∙ ordered_by s.point (frozen_cycle I s.facts id) (peer_of id s.facts) in
     first_of_both I s id runs (closed_to s id saved)
@@ -138,7 +141,8 @@ unordered_by s id false e runs within unclosed = none_again I s id runs (leb-fal
 
 silent : (s : DeskState) (id : CycleId) → is_closed id s.facts ≡ true → filter is_for_peer (let_out M s.point s.facts (number_of (is_closing id) s.facts)) ≡ []
 silent s id closed =
-    sym (closing_for_peer M s.point s.facts (number_of (is_closing id) s.facts) id (closing_fact s.facts id closed))
+    let closing = closing_fact s.facts id closed in
+    sym (closing_for_peer M s.point s.facts (number_of (is_closing id) s.facts) id closing.0 closing.1)
     ∙ ap (let_out_on_closing M s.point) (state-closed M s.facts id closed)
     ∙ unanswered_by s.point (frozen_cycle M s.facts id) (peer_of id s.facts)
 

@@ -9,9 +9,9 @@ ghost use Rattle.gi_audit.specs.Verdict.{IsToldExactly, any_agrees, first_differ
 use crate::comparing::{found_at, place_found};
 use crate::cycles::closed_at_either;
 use crate::finding::Finding;
-use crate::knowing::known;
 use crate::laws::agreeing_desks_confirm_one_quantity;
 use crate::place::Place;
+use crate::revealing::reveal_invariant;
 use crate::verdict::Verdict;
 use gi_desk::Desk;
 use gi_initiator::Initiating;
@@ -142,8 +142,8 @@ pub fn audit(
     ensures one_quantity { IfOk result (λ audit. names_difference audit.verdict ≡ false → ConfirmOneQuantity initiating.now matching.now) }
 {
     agreeing_desks_confirm_one_quantity();
-    known(initiating);
-    known(matching);
+    reveal_invariant(initiating);
+    reveal_invariant(matching);
     let ids = closed_at_either(alloc, initiating, matching)?;
     let Found {
         mut text,

@@ -35,7 +35,7 @@ fn closes<R: Role>(desk: &Desk<R>, n: u32, id: &CycleId) -> bool
     ensures { result ≡ is_closing_at id.now desk.now.facts n }
 {
     match desk.fact(n) {
-        Some(Fact::Closed(other)) => other == id,
+        Some(Fact::Closed { id: other, .. }) => other == id,
         _ => false,
     }
 }

@@ -11,7 +11,7 @@ ghost use Rattle.gi_audit.specs.LetOut.{HaveLetOut};
 ghost use Rattle.gi_audit.specs.Verdict.{names_difference};
 
 use crate::auditing::{Audited, audit};
-use crate::knowing::known;
+use crate::revealing::reveal_invariant;
 use gi_pairs::Side;
 use gi_world::{Step, World, WorldFault, WorldReply};
 use std::alloc::{AllocError, Global};
@@ -27,8 +27,8 @@ fn make(world: &mut World, step: &Step) -> Result<(), AllocError>
     ensures next { OnOk result (world.new ≡ after world.old step.now) }
     ensures sound { OnOk result (IsSound world.new) }
 {
-    known(world.initiating());
-    known(world.matching());
+    reveal_invariant(world.initiating());
+    reveal_invariant(world.matching());
     let outcome = world.step(step);
     if is_short(&outcome) {
         return Err(AllocError);

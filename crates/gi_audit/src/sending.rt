@@ -7,7 +7,7 @@ ghost use Rattle.gi_desk.specs.Machine.{is_for_peer as is_for_peer_of, reply as 
 ghost use Rattle.gi_desk.specs.declared.call.Call.TheVariants.{Resend};
 ghost use Rattle.gi_audit.specs.Sent.{sent_table as sent_table_of, table_in as table_in_read};
 
-use crate::knowing::known;
+use crate::revealing::reveal_invariant;
 use gi_desk::{Answer, Call, Desk, Packet, Packets, Recipient, Refusal, Role};
 use gi_messages::{Delord, Delres, Message, MessageFault, decode};
 use gi_pairs::{CycleId, Table};
@@ -61,7 +61,7 @@ pub(crate) fn sent_table<R: Role>(
     requires { desk.now.halted ≡ false }
     ensures { IfOk result (λ table. table ≡ sent_table_of R.SIDE desk.now id.now) }
 {
-    known(desk);
+    reveal_invariant(desk);
     let packets = let_out_again(desk, id)?;
     match first_for_peer(packets.as_slice()) {
         Some(packet) => table_in(alloc, packet.body.as_slice()),

@@ -1,6 +1,6 @@
 use gi_day::GasDay;
 use gi_pairs::{Code, CycleId, Direction, Key, Pair, Quantity, Side};
-use gi_processing::{Contract, Notice};
+use gi_processing::{Contract, Notice, Rule};
 
 /// The words of a call that are still to be read, with one space between them.
 #[derive(Clone, Copy, Drop)]
@@ -87,6 +87,23 @@ impl<'a> Words<'a> {
             day: self.day()?,
             cycle: self.byte()?,
         })
+    }
+
+    /// The next word as a rule, rule 2 where no word is left.
+    pub fn rule(&mut self) -> Option<Rule> {
+        if self.is_empty() {
+            return Some(Rule::Two);
+        }
+        match self.next() {
+            "1" => Some(Rule::One),
+            "2" => Some(Rule::Two),
+            _ => None,
+        }
+    }
+
+    /// The next words as a closing: a cycle, and the rule.
+    pub fn closing(&mut self) -> Option<(CycleId, Rule)> {
+        Some((self.cycle()?, self.rule()?))
     }
 
     /// The next two words as a pair: the initiating code and the matching one.

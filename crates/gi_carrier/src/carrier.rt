@@ -81,7 +81,7 @@ impl Carrier {
         ensures full { most_waiting ≤ length self.old.waiting → result ≡ Err (message, Full) }
         ensures wants { length self.old.waiting < most_waiting → IfErr result (λ refused. refused.1 ≡ OutOfMemory) }
         ensures bytes { IfErr result (λ refused. refused.0 ≡ message) }
-        ensures kept { OnErr result (self.new ≡ self.old) }
+        ensures unchanged { OnErr result (self.new ≡ self.old) }
         ensures few { length self.new.waiting ≤ most_waiting }
     {
         if MOST_WAITING <= self.waiting.len() {
@@ -102,7 +102,7 @@ impl Carrier {
         ensures left { OnOk result (self.new ≡ after_next plan.now self.old) }
         ensures repeats { OnErr result (move_at plan.now self.old.position ≡ Repeat) }
         ensures some { OnErr result (0 < length self.old.waiting) }
-        ensures kept { OnErr result (self.new ≡ self.old) }
+        ensures unchanged { OnErr result (self.new ≡ self.old) }
         ensures waited { IfOk result (λ out. IfSome out (λ message. Contains self.old.waiting message.items)) }
         ensures wait { All (Contains self.old.waiting) self.new.waiting }
     {

@@ -28,7 +28,7 @@ pub(crate) fn make(
     ensures given { IfOk result (λ out. option_map bytes_of out ≡ given_by next (messages_of waiting.old)) }
     ensures left { OnOk result (messages_of waiting.new ≡ left_by next (messages_of waiting.old)) }
     ensures few { length waiting.new.items ≤ length waiting.old.items }
-    ensures kept { OnErr result (waiting.new.items ≡ waiting.old.items) }
+    ensures unchanged { OnErr result (waiting.new.items ≡ waiting.old.items) }
     ensures repeats { OnErr result (next ≡ Repeat) }
 {
     Ok(match next {

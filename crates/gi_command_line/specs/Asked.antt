@@ -6,6 +6,7 @@ use Rattle.gi_command_line.specs.declared.expected.ExpectedFacts.{ExpectedFacts}
 use Rattle.gi_command_line.specs.declared.request.BookFile.{BookFile}
 use Rattle.gi_command_line.specs.declared.request.Format.{Format}
 use Rattle.gi_command_line.specs.declared.request.NamedQuantity.{NamedQuantity}
+use Rattle.gi_command_line.specs.declared.request.OfficeRun.{OfficeRun}
 use Rattle.gi_command_line.specs.declared.request.ReportKind.{ReportKind}
 use Rattle.gi_command_line.specs.declared.request.Request.{Request}
 use Rattle.gi_command_line.specs.declared.request.Request.TheVariants as request
@@ -22,9 +23,9 @@ pub record QuantityWords : Type 0 where
   pub cycle : ℕ
   pub hour : ℕ
 
--- one of the commands but `serve`: a script's steps, with a trace or without; a report of this kind, in this format and of
--- this side, or what a quantity comes from at a side, over a script or over the book in a file, for this point; the audit of
--- the initiating and the matching operator's books in files, for this point; what a book in a file is, with the number of its
+-- one of the commands but `office` and `serve`: a script's steps, with a trace or without; a report of this kind, in this format
+-- and of this side, or what a quantity comes from at a side, over a script or over the book in a file, for this point; the audit
+-- of the initiating and the matching operator's books in files, for this point; what a book in a file is, with the number of its
 -- first facts that are expected to have a digest, and the digest; or a command in wrong words
 pub data Asked : Type 0 where
   match_tables : Asked
@@ -80,11 +81,29 @@ service_words service = record {
   only_old = service.only_old;
 }
 
--- any of the commands: one of these, or both offices run by a script
+-- how one operator's office runs: of this side, with its book in this file, for this point; for so many seconds a book that is in
+-- use is tried again
+pub record OfficeWords : Type 0 where
+  pub side : Side
+  pub file : List ℕ
+  pub point : List ℕ
+  pub wait : ℕ
+
+abbrev pub office_words : OfficeRun → OfficeWords
+office_words run = record {
+  side = run.side;
+  file = run.book.file.now;
+  point = run.book.point.now;
+  wait = run.wait;
+}
+
+-- any of the commands: one of these, one operator's office, or both offices run by a script
 pub data Wanted : Type 0 where
   at_once : Asked → Wanted
+  office : OfficeWords → Wanted
   serve : ServiceWords → Wanted
 
 abbrev pub task_meaning : Task → Wanted
 task_meaning (task.AtOnce request) = at_once (meaning request)
+task_meaning (task.Office run) = office (office_words run)
 task_meaning (task.Serve service) = serve (service_words service)

@@ -9,7 +9,7 @@ use Rattle.gi_pairs.specs.Direction.{direction_named}
 use Rattle.gi_pairs.specs.Side.{side_named}
 use Rattle.gi_pairs.specs.declared.direction.Direction.{Direction}
 use Rattle.gi_pairs.specs.declared.side.Side.{Side}
-use Rattle.gi_command_line.specs.Asked.{Asked, QuantityWords, Wanted, about_book, at_once, audit, explain, hours, match_tables, mistaken, report, serve, simulate}
+use Rattle.gi_command_line.specs.Asked.{Asked, QuantityWords, Wanted, about_book, at_once, audit, explain, hours, match_tables, mistaken, office, report, serve, simulate}
 use Rattle.gi_command_line.specs.Expected.{expected_named}
 use Rattle.gi_command_line.specs.Numbers.{cycle_named, hour_named}
 use Rattle.gi_command_line.specs.ReportWords.{format_named, kind_named}
@@ -65,6 +65,12 @@ the_audit = with_rule (with_rule (with_rule (new_app (codes "audit")) (needed (c
 abbrev pub the_book : App
 the_book = with_rule (with_rule (new_app (codes "book")) (word (codes "FILE"))) (option (codes "expect"))
 
+-- the side; its book and the point, which are both needed, and how long is waited for the book
+abbrev pub the_office : App
+the_office =
+    let of_side = with_rule (new_app (codes "office")) (word (codes "SIDE")) in
+    with_rule (with_rule (with_rule of_side (needed (codes "book"))) (needed (codes "point"))) (option (codes "wait"))
+
 -- the sessions and the books; how long is waited for these, and whether only old ones are taken
 abbrev pub the_serve : App
 the_serve =
@@ -77,8 +83,8 @@ named = let new = new_app (codes "gi_dispatch") in record new { top = record new
 
 abbrev pub the_program : App
 the_program =
-    let with_simulate = with_subcommand (with_subcommand (with_subcommand named the_match.top) the_hours.top) the_simulate.top in
-    let with_audit = with_subcommand (with_subcommand (with_subcommand with_simulate the_report.top) the_explain.top) the_audit.top in
+    let with_office = with_subcommand (with_subcommand (with_subcommand (with_subcommand named the_match.top) the_hours.top) the_simulate.top) the_office.top in
+    let with_audit = with_subcommand (with_subcommand (with_subcommand with_office the_report.top) the_explain.top) the_audit.top in
     with_subcommand (with_subcommand with_audit the_book.top) the_serve.top
 
 -- why the words ask for no command, as `clap` tells it: none of these where they ask for one
@@ -194,6 +200,16 @@ abbrev pub serve_asked : List Row → Wanted
 serve_asked rows =
     service_of (sessions_asked (first_of (codes "sessions") rows)) (wait_asked (first_of (codes "wait") rows)) (first_of (codes "books") rows) (is_set (first_of (codes "old") rows))
 
+-- an office is of a side, with the book in the file and for the point that are named
+abbrev pub office_of : List Row → Option Side → Option ℕ → Wanted
+office_of rows None wait = at_once mistaken
+office_of rows (Some side) None = at_once mistaken
+office_of rows (Some side) (Some wait) =
+    office (record { side = side; file = value_of (codes "book") rows; point = value_of (codes "point") rows; wait = wait })
+
+abbrev pub office_asked : List Row → Wanted
+office_asked rows = office_of rows (side_named (value_of (codes "SIDE") rows)) (wait_asked (first_of (codes "wait") rows))
+
 -- a command is asked for by its name, and `match` also by no name
 abbrev pub asked_at_once : List ℕ → List Row → Asked
 asked_at_once name rows =
@@ -205,7 +221,9 @@ asked_at_once name rows =
     else (if bytes_eq name (codes "book") then about_book_asked rows else match_tables)))))
 
 abbrev pub asked_by : List ℕ → List Row → Wanted
-asked_by name rows = if bytes_eq name (codes "serve") then serve_asked rows else at_once (asked_at_once name rows)
+asked_by name rows =
+    if bytes_eq name (codes "office") then office_asked rows
+    else (if bytes_eq name (codes "serve") then serve_asked rows else at_once (asked_at_once name rows))
 
 abbrev pub asked_of : Entered → Wanted
 asked_of None = at_once match_tables

@@ -2,10 +2,10 @@
 use Rattle.std.specs.Prelude.{◌≡◌, ◌≤◌, ℕ, Bool, List, [], ◌∷◌, ◌++◌, Option, None, Some, true, false, codes, decimal}
 use Rattle.clap.specs.declared.error.kind.ErrorKind.TheVariants.{MissingRequiredArgument}
 use Rattle.gi_pairs.specs.Direction.{direction_text}
-use Rattle.gi_pairs.specs.Side.{side_text}
+use Rattle.gi_pairs.specs.Side.{side_named, side_text}
 use Rattle.gi_pairs.specs.declared.direction.Direction.{Direction}
 use Rattle.gi_pairs.specs.declared.side.Side.{Side}
-use Rattle.gi_command_line.specs.Asked.{QuantityWords, ServiceWords, Wanted, about_book, at_once, audit, explain, hours, match_tables, mistaken, report, serve, simulate}
+use Rattle.gi_command_line.specs.Asked.{QuantityWords, Wanted, about_book, at_once, audit, explain, hours, match_tables, mistaken, office, report, serve, simulate}
 use Rattle.gi_command_line.specs.CommandLine.{MeansHours, MeansMatch, asked, objections}
 use Rattle.gi_command_line.specs.Expected.{expected_named, is_digest, most_facts}
 use Rattle.gi_command_line.specs.Numbers.{cycle_named, hour_named}
@@ -210,6 +210,53 @@ abbrev pub ExpectedIsItsText : Type 0
 ExpectedIsItsText =
     (word digest : List ℕ) (facts : ℕ) → expected_named word ≡ Some (facts, digest)
     → (word ≡ expected_text facts digest) × (facts ≤ most_facts) × (is_digest digest ≡ true)
+
+-- ---- `office`
+
+abbrev pub words_of_office : List ℕ → Side → List (List ℕ) → List (List ℕ)
+words_of_office program side more = program ∷ codes "office" ∷ side_text side ∷ more
+
+abbrev pub runs : (side : Side) (file point : List ℕ) → ℕ → Wanted
+runs side file point wait = office (record { side = side; file = file; point = point; wait = wait })
+
+-- a side with its book and its point asks for its office, for no wait; with `--wait`, for these seconds
+abbrev pub OfficeIsTaken : Type 0
+OfficeIsTaken = (program file point : List ℕ) (side : Side) → AreTaken (words_of_office program side (book_words file point)) (runs side file point no_wait)
+
+abbrev pub OfficeWaitIsTaken : Type 0
+OfficeWaitIsTaken =
+    (program file point wait : List ℕ) (side : Side) (seconds : ℕ) → wait_named wait ≡ Some seconds
+    → AreTaken (words_of_office program side (with_value (codes "wait") wait ∷ book_words file point)) (runs side file point seconds)
+
+-- each in two words too, as `office I --book day-I.db --point BORDER-1`, where the file's name begins with `day`, and the point
+-- with `BORDER`
+abbrev pub OfficeInWordsIsTaken : Type 0
+OfficeInWordsIsTaken =
+    (program file point : List ℕ) (side : Side)
+    → AreTaken (words_of_office program side (book_in_words file point)) (runs side (codes "day" ++ file) (codes "BORDER" ++ point) no_wait)
+
+-- a side that is none, whatever it begins with behind `--`, and seconds that are none, are wrong words
+abbrev pub OfficeIsOfNoSide : Type 0
+OfficeIsOfNoSide =
+    (program file point side : List ℕ) → side_named side ≡ None
+    → AreTaken (program ∷ codes "office" ∷ (book_words file point ++ codes "--" ∷ side ∷ [])) (at_once mistaken)
+
+abbrev pub OfficeWaitIsWrong : Type 0
+OfficeWaitIsWrong =
+    (program file point wait : List ℕ) (side : Side) → wait_named wait ≡ None
+    → AreTaken (words_of_office program side (with_value (codes "wait") wait ∷ book_words file point)) (at_once mistaken)
+
+-- without its side, its book or its point, that is missing
+abbrev pub OfficeNeedsASide : Type 0
+OfficeNeedsASide = (program file point : List ℕ) → objections (program ∷ codes "office" ∷ book_words file point) ≡ MissingRequiredArgument ∷ []
+
+abbrev pub OfficeNeedsItsBook : Type 0
+OfficeNeedsItsBook =
+    (program point : List ℕ) (side : Side) → objections (words_of_office program side (with_value (codes "point") point ∷ [])) ≡ MissingRequiredArgument ∷ []
+
+abbrev pub OfficeNeedsItsPoint : Type 0
+OfficeNeedsItsPoint =
+    (program file : List ℕ) (side : Side) → objections (words_of_office program side (with_value (codes "book") file ∷ [])) ≡ MissingRequiredArgument ∷ []
 
 -- ---- `serve`
 

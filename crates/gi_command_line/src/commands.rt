@@ -1,7 +1,7 @@
 //! The commands that the program knows, their words and options, and what their help teaches.
 ghost use Rattle.std.specs.Prelude.{◌≡◌, IfOk, false, true};
 ghost use Rattle.clap.specs.Words.{App, app_of, new_app, rule_of, with_rule, with_subcommand};
-ghost use Rattle.gi_command_line.specs.CommandLine.{flag as flag_rule, named, needed as needed_rule, option as option_rule, the_audit, the_book, the_explain, the_hours, the_match, the_program, the_report, the_serve, the_simulate, with_book as with_book_rules, with_hour as with_hour_rules, with_pair as with_pair_rules, word as word_rule};
+ghost use Rattle.gi_command_line.specs.CommandLine.{flag as flag_rule, named, needed as needed_rule, option as option_rule, the_audit, the_book, the_explain, the_hours, the_match, the_office, the_program, the_report, the_serve, the_simulate, with_book as with_book_rules, with_hour as with_hour_rules, with_pair as with_pair_rules, word as word_rule};
 
 use clap::{Arg, ArgAction, Command};
 use std::alloc::{AllocError, Global};
@@ -18,6 +18,7 @@ that is none, is another's, is missing, is in use, lost facts or failed, 4 want 
 Examples: gi_dispatch match < examples/match.txt
           gi_dispatch hours 2026-01-15
           gi_dispatch simulate --trace < examples/day.script
+          gi_dispatch office I --book day-I.db --point BORDER-1 < requests
           gi_dispatch report confirmed I < examples/day.script
           gi_dispatch explain I A B IM 2026-01-15 35 24 < examples/day.script
           gi_dispatch audit --initiating day-I.db --matching day-M.db --point BORDER-1
@@ -49,7 +50,7 @@ first line is `point CODE`, and each further one, with SIDE `I` or `M`, is one o
   SIDE contract PORTFOLIO DAY DIRECTION FIRM INTERRUPTIBLE      kWh/h in each hour
   SIDE notice DAY DIRECTION FIRST LAST FIRM INTERRUPTIBLE       hours, and per mille
   SIDE submit BODY                                              a NOMINT, to the end of the line
-  SIDE close DAY CYCLE
+  SIDE close DAY CYCLE [RULE]                                   1 or 2; 2 where it is left out
   SIDE resend DAY CYCLE
   SIDE halt
   SIDE save COUNT                                               the next COUNT unsaved facts
@@ -57,6 +58,9 @@ first line is `point CODE`, and each further one, with SIDE `I` or `M`, is one o
   SIDE restart KEEP                                             from the first KEEP facts
   SIDE carry                                                    what the carrier gives to SIDE
   plan SIDE MOVES                                               pass, drop, repeat, hold
+
+By rule 1 a portfolio's lines share what is available to it all alike, by rule 2 those of lower
+priority numbers come first.
 
 Standard output gets a line for each step: the number of the script's line, the side, and what came
 of it. Two lines with what each side holds come last. With --trace, lines that begin with two spaces
@@ -68,6 +72,46 @@ and quantities in kWh/h.
 Faults, the first of: Read, TooLarge (over 67,108,864 bytes), Point (no first line `point CODE`),
 `line N: Unreadable`, before any step; then Write. Where memory runs out in a step, the lines of
 those before it are written.";
+
+const OFFICE_HELP: &str = "\
+One operator's office, of SIDE `I` or `M`, which runs as long as standard input has lines. FILE is its
+book, an SQLite database, which is made where it is not there, and CODE is the interconnection point
+that it is of. With --wait a book that another process has open is tried again for SECONDS (0 to 3600;
+0 where no number is given) before it is Busy. Each line of standard input is a request, in the words
+that a script has behind its SIDE:
+
+  contract PORTFOLIO DAY DIRECTION FIRM INTERRUPTIBLE      kWh/h in each hour
+  notice DAY DIRECTION FIRST LAST FIRM INTERRUPTIBLE       hours, and per mille
+  submit BODY                                              a NOMINT, to the end of the line
+  deliver BODY                                             a message of the other operator, likewise
+  close DAY CYCLE [RULE]                                   1 or 2; 2 where it is left out
+  resend DAY CYCLE
+  halt
+
+Standard output gets one JSON object a line, compact and with its keys in byte order. Each line of
+standard input is answered, in their order:
+
+  {\"answer\":\"recorded\",\"fact\":2,\"line\":4}
+  {\"answer\":\"refused\",\"line\":6,\"name\":\"Stale 2\",\"portfolio\":\"A\"}
+
+The answer is `recorded` or `repeat`, with the number of the fact; `resent`; `stopped`; or `refused`,
+with the name of what is wrong, and with the portfolio where a submission could be read. A line that is
+no request is refused as Unreadable, and one of more than 16,777,472 bytes as TooLarge; the office runs
+on. Each message that is let out is a packet, to a portfolio or to the other operator, `peer`:
+
+  {\"fact\":2,\"message\":{..},\"to\":\"A\"}
+
+It comes behind the answer of its fact. No `recorded` and no packet is written before its fact stands in
+the book. At the end of standard input all is saved, and the book is closed.
+
+Faults, the first of: CodeText (CODE is no code); Head, Store, Version, Gap N, Damaged N, Lost N,
+OtherBook SIDE POINT, BadFact N or Busy, as `serve` tells them of one book; then, behind the lines of
+what was done, Read, Write, Store (a save failed; what was saved before is written) or OutOfMemory.
+
+Exit status: 0 done, 1 CodeText, Read or Write, 2 wrong command line, 3 any other fault of the book, 4
+want of memory.
+
+Example: gi_dispatch office I --book day-I.db --point BORDER-1 < requests";
 
 const REPORT_HELP: &str = "\
 KIND is `open` (closed cycles that are not confirmed), `confirmed` (confirmed quantities in kWh/h,
@@ -87,8 +131,9 @@ const EXPLAIN_HELP: &str = "\
 What one quantity comes from at SIDE, `I` or `M`: that of the initiating operator's portfolio
 INITIATING and the matching one's MATCHING, in DIRECTION (`IM` or `MI`), on the gas day DAY
 (YYYY-MM-DD), in nomination cycle CYCLE (0 to 36) and in hour HOUR (1 to 25). Standard output gets
-twelve lines, always in the same order, with the numbers of the facts: what was asked, the
-nomination, the contract and the notice that count, what is available, the sums of what is
+lines in an order that is always the same, with the numbers of the facts: what was asked, the
+nomination, the contract and the notice that count, what is available, what lines of lower priority
+numbers leave of that (left out where the cycle is closed by rule 1), the sums of what is
 nominated, the processed quantity by its formula, the closing that froze it, the other side's
 quantity, the lower of both, whether that is confirmed, and whom it was told. Standard input is a
 script as for `report`; with --book and --point the side's desk is read from its book instead.
@@ -143,7 +188,8 @@ make at the same time, each portfolio by one of them. The offices go on with the
 PREFIX-I.db and PREFIX-M.db, which are both made where there is neither; with no PREFIX, the books
 are in memory. With --old none is made, and both have to be there. With --wait a book that
 another process has open is tried again for SECONDS (0 to 3600; 0 where no number is given) before
-it is Busy. Without --books both have no effect.
+it is Busy. Without --books both have no effect. A book of version 1 becomes one of version 2, which
+older programs refuse.
 
 Standard output gets a line for each step, with no numbers of facts: the number of the script's
 line, the side, and what came of it. Then come two lines with what each side holds, and three that
@@ -319,6 +365,24 @@ fn simulate_command<'a>(alloc: Global) -> Result<Command<'a>, AllocError>
     )
 }
 
+fn office_command<'a>(alloc: Global) -> Result<Command<'a>, AllocError>
+    ensures { IfOk result (λ it. app_of it ≡ the_office) }
+{
+    let command = with_help(
+        alloc,
+        "office",
+        "Runs one operator's office, a request a line",
+        OFFICE_HELP,
+    );
+    let command = with_arg(command, word(alloc, "SIDE", "I or M"));
+    let book = "The side's book, which is made where it is not there";
+    let command = with_arg(command, needed(alloc, "book", "FILE", book));
+    let point = "The point that the office is of";
+    let command = with_arg(command, needed(alloc, "point", "CODE", point));
+    let wait = "How long a book in use is tried again, 0 to 3600";
+    with_arg(command, option(alloc, "wait", "SECONDS", wait))
+}
+
 fn report_command<'a>(alloc: Global) -> Result<Command<'a>, AllocError>
     ensures { IfOk result (λ it. app_of it ≡ the_report) }
 {
@@ -438,6 +502,12 @@ fn with_simulate<'a>(alloc: Global, program: Command<'a>) -> Result<Command<'a>,
     with(program, simulate_command(alloc))
 }
 
+fn with_office<'a>(alloc: Global, program: Command<'a>) -> Result<Command<'a>, AllocError>
+    ensures { IfOk result (λ with. app_of with ≡ with_subcommand (app_of program.entry) the_office.top) }
+{
+    with(program, office_command(alloc))
+}
+
 fn with_report<'a>(alloc: Global, program: Command<'a>) -> Result<Command<'a>, AllocError>
     ensures { IfOk result (λ with. app_of with ≡ with_subcommand (app_of program.entry) the_report.top) }
 {
@@ -477,11 +547,18 @@ fn named_program<'a>(alloc: Global) -> Command<'a>
         .after_help(PROGRAM_HELP)
 }
 
-/// Adds the commands about scripts.
-fn with_scripts<'a>(alloc: Global, program: Command<'a>) -> Result<Command<'a>, AllocError>
-    ensures { IfOk result (λ with. app_of with ≡ with_subcommand (with_subcommand (with_subcommand (app_of program.entry) the_simulate.top) the_report.top) the_explain.top) }
+/// Adds the commands that make steps at desks.
+fn with_desks<'a>(alloc: Global, program: Command<'a>) -> Result<Command<'a>, AllocError>
+    ensures { IfOk result (λ with. app_of with ≡ with_subcommand (with_subcommand (app_of program.entry) the_simulate.top) the_office.top) }
 {
     let program = with_simulate(alloc, program)?;
+    with_office(alloc, program)
+}
+
+/// Adds the commands about what a side holds.
+fn with_sides<'a>(alloc: Global, program: Command<'a>) -> Result<Command<'a>, AllocError>
+    ensures { IfOk result (λ with. app_of with ≡ with_subcommand (with_subcommand (app_of program.entry) the_report.top) the_explain.top) }
+{
     let program = with_report(alloc, program)?;
     with_explain(alloc, program)
 }
@@ -500,7 +577,8 @@ pub fn commands<'a>(alloc: Global) -> Result<Command<'a>, AllocError>
     let program = named_program(alloc);
     let program = with_match(alloc, program)?;
     let program = with_hours(alloc, program)?;
-    let program = with_scripts(alloc, program)?;
+    let program = with_desks(alloc, program)?;
+    let program = with_sides(alloc, program)?;
     let program = with_books(alloc, program)?;
     with_serve(alloc, program)
 }

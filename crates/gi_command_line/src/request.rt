@@ -97,6 +97,15 @@ pub struct Service<'a> {
     pub only_old: bool,
 }
 
+/// One operator's office, which runs as long as lines come.
+#[derive(Clone, Copy, Debug, PartialEq, Eq)]
+pub struct OfficeRun<'a> {
+    pub side: Side,
+    pub book: BookFile<'a>,
+    /// How long a book that is in use is tried again.
+    pub wait: WaitSeconds,
+}
+
 /// What is wrong with the words of a command, where `clap` objects to nothing.
 #[derive(Clone, Copy, Debug, PartialEq, Eq)]
 pub enum Mistake<'a> {
@@ -122,7 +131,7 @@ pub enum Mistake<'a> {
     Wait(&'a str),
 }
 
-/// What a command line asks for, but `serve`.
+/// What a command line asks for, but `office` and `serve`.
 #[derive(Clone, Copy, Debug, PartialEq, Eq)]
 pub enum Request<'a> {
     /// The lesser of an order and an own table.
@@ -148,6 +157,8 @@ pub enum Request<'a> {
 pub enum Task<'a> {
     /// What one thread does from its input to its output.
     AtOnce(Request<'a>),
+    /// One running office.
+    Office(OfficeRun<'a>),
     /// Both running offices.
     Serve(Service<'a>),
 }

@@ -3,14 +3,14 @@ ghost use Rattle.std.specs.Prelude.{◌≡◌, IfOk, codes, false, map, option_m
 ghost use Rattle.std.specs.Result.{result_ok};
 ghost use Rattle.clap.specs.Words.{FailsBy, first_of, found_of, rows_of, subcommand_rows_of};
 ghost use Rattle.gi_command_line.specs.Asked.{book_of as book_words, expected_words, meaning, quantity_words, task_meaning};
-ghost use Rattle.gi_command_line.specs.CommandLine.{about_book_asked, asked, asked_at_once, asked_of, audit_asked, book_asked, expected_asked, explain_asked, format_asked, hours_asked, is_set as is_set_by, objections, quantity_asked, report_asked, serve_asked, sessions_asked, value_of as value_at, wait_asked};
+ghost use Rattle.gi_command_line.specs.CommandLine.{about_book_asked, asked, asked_at_once, asked_of, audit_asked, book_asked, expected_asked, explain_asked, format_asked, hours_asked, is_set as is_set_by, objections, office_asked, quantity_asked, report_asked, serve_asked, sessions_asked, value_of as value_at, wait_asked};
 
 use crate::commands::commands;
 use crate::expected::ExpectedFacts;
 use crate::numbers::{cycle_named, hour_named};
 use crate::request::{
-    BookFile, BookFiles, BookQuestion, Explanation, Format, Mistake, NamedQuantity, Report,
-    Request, Service, Task, format_named, kind_named,
+    BookFile, BookFiles, BookQuestion, Explanation, Format, Mistake, NamedQuantity, OfficeRun,
+    Report, Request, Service, Task, format_named, kind_named,
 };
 use crate::sessions::Sessions;
 use crate::wait::WaitSeconds;
@@ -216,6 +216,27 @@ fn service_of<'a>(matches: &ArgMatches<'a>) -> Task<'a>
     })
 }
 
+fn office_of<'a>(matches: &ArgMatches<'a>) -> Task<'a>
+    ensures { task_meaning result ≡ office_asked (rows_of (found_of matches.now)) }
+{
+    let side_word = word_of(matches, "SIDE");
+    let Ok(side) = side_word.parse::<Side>() else {
+        return Task::AtOnce(Request::Mistaken(Mistake::Side(side_word)));
+    };
+    let seconds_word = value_of(matches, "wait");
+    let Some(wait) = wait_of(seconds_word) else {
+        return Task::AtOnce(Request::Mistaken(Mistake::Wait(seconds_word.unwrap_or(""))));
+    };
+    Task::Office(OfficeRun {
+        side,
+        book: BookFile {
+            file: word_of(matches, "book"),
+            point: word_of(matches, "point"),
+        },
+        wait,
+    })
+}
+
 fn request_of<'a>(name: &str, entered: &ArgMatches<'a>) -> Request<'a>
     ensures { meaning result ≡ asked_at_once name.now (rows_of (found_of entered.now)) }
 {
@@ -239,6 +260,7 @@ fn task_of<'a>(matches: &ArgMatches<'a>) -> Task<'a>
         return Task::AtOnce(Request::Match);
     };
     match name {
+        "office" => office_of(entered),
         "serve" => service_of(entered),
         _ => Task::AtOnce(request_of(name, entered)),
     }

@@ -25,7 +25,7 @@ abbrev pub most_portfolios : ℕ
 most_portfolios = 64
 
 abbrev pub is_closing : Fact → Bool
-is_closing (Closed id) = true
+is_closing (Closed id rule) = true
 is_closing _ = false
 
 abbrev pub is_meeting : Fact → Bool

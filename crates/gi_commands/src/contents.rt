@@ -22,7 +22,7 @@ use std::alloc::{AllocError, Global};
 fn is_closing(fact: &Fact) -> bool
     ensures { result ≡ closes fact.now }
 {
-    matches!(fact, Fact::Closed(_))
+    matches!(fact, Fact::Closed { .. })
 }
 
 fn is_meeting(fact: &Fact) -> bool

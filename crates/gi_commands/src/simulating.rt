@@ -31,7 +31,7 @@ fn counts(alloc: Global, simulation: &Simulation) -> Result<String, AllocError>
 
 fn add_counts(alloc: Global, text: &mut String, simulation: &Simulation) -> Result<(), AllocError>
     ensures added { OnOk result (string_bytes text.new ≡ string_bytes text.old ++ counts_of simulation.now) }
-    ensures kept { OnErr result (string_bytes text.new ≡ string_bytes text.old) }
+    ensures unchanged { OnErr result (string_bytes text.new ≡ string_bytes text.old) }
 {
     let counts = counts(alloc, simulation)?;
     text.push_str(counts.as_str())

@@ -63,7 +63,7 @@ impl Frozen {
         ensures differs { ¬ HasShapeOf self.own peer → result ≡ Err (self, MeetFault.ShapeDiffers) }
         ensures wants { HasShapeOf self.own peer → IfErr result (λ refused. refused.1 ≡ MeetFault.OutOfMemory) }
         ensures fault { IfErr result (λ refused. IsMeetFault self peer refused.1) }
-        ensures kept { IfErr result (λ refused. refused.0 ≡ self) }
+        ensures unchanged { IfErr result (λ refused. refused.0 ≡ self) }
     {
         if !self.own.covers_same_hours(&peer) {
             return Err((self, MeetFault::ShapeDiffers));

@@ -6,7 +6,7 @@ use Rattle.std.specs.Int.{IsInRange}
 use Rattle.jiff_core.proofs.SignedLemmas.{signed_arith}
 use Rattle.jiff_core.specs.declared.civil.date.Date.{Date}
 use Rattle.gi_day.specs.Cycles.{day_start, first_cycle_start, cycle_start, wait_hours, hour_count, cycle_count, hour_start, first_hour, IsCycle, IsCovered, IsDue, IsOpen}
-use Rattle.gi_day.specs.FrameKept.{IsFrame, lead_hours}
+use Rattle.gi_day.specs.FrameRepr.{IsFrame, lead_hours}
 use Rattle.gi_day.specs.declared.day_frame.DayFrame.TheInside.{Inside}
 use Rattle.gi_day.proofs.DayFacts.{DayFacts, day_facts}
 

@@ -7,7 +7,7 @@ use Rattle.jiff_tz.specs.Year.{year_of_day}
 use Rattle.jiff_core.specs.declared.civil.date.Date.{Date}
 use Rattle.gi_day.specs.Zone.{civil_hour, clock_offset, instant_at, is_summer}
 use Rattle.gi_day.specs.Cycles.{day_start, day_end, first_cycle_start, hour_count, cycle_count}
-use Rattle.gi_day.specs.FrameKept.{lead_hours}
+use Rattle.gi_day.specs.FrameRepr.{lead_hours}
 
 -- the clock is one or two hours ahead of UTC
 pub record Ahead (day : ℤ) (hour : ℕ) : Type 0 where

@@ -1,7 +1,7 @@
 pub mod CalendarText
 pub mod Cycles
 pub mod Day
-pub mod FrameKept
+pub mod FrameRepr
 pub mod Read
 pub mod SameDay
 pub mod Zone

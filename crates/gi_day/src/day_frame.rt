@@ -40,7 +40,7 @@ pub struct DayFrame {
 impl Model for DayFrame {
     ghost use Rattle.jiff_core.specs.declared.civil.date.Date.{Date};
     ghost use Rattle.gi_day.specs.Cycles.{first_cycle_start, hour_count};
-    ghost use Rattle.gi_day.specs.FrameKept.{IsFrame, lead_hours, same_frame};
+    ghost use Rattle.gi_day.specs.FrameRepr.{IsFrame, lead_hours, same_frame};
 
     ghost Value = { Date };
 

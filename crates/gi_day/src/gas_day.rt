@@ -106,7 +106,7 @@ impl GasDay {
     }
 
     /// Every gas day lies in the years 2000 to 2199.
-    pub fn known(self)
+    pub fn reveal_invariant(self)
         ensures { IsGasYear self.year }
     {}
 }

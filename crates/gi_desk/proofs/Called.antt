@@ -13,7 +13,7 @@ use Rattle.gi_cycles.specs.declared.cycle_state.CycleState.TheVariants.{Collecti
 use Rattle.gi_desk.specs.Deciding.{IsDecided, IsUnlessShort, address_of, by_order, decision, may_want_at}
 use Rattle.gi_desk.specs.History.{frozen_cycle, is_closed, met_by, peer_of, state_of}
 use Rattle.gi_desk.specs.Judging.{by_decision, delivered, if_addressed}
-use Rattle.gi_desk.specs.Kept.{closed_state}
+use Rattle.gi_desk.specs.Caches.{closed_state}
 use Rattle.gi_desk.specs.Machine.{DeskState, comes_to, is_record, learns_with_memory, may_want_to_prepare, out_of, outcome, some_leave, unless_full}
 use Rattle.gi_desk.specs.declared.call.Call.{Call}
 use Rattle.gi_desk.specs.declared.decision.Decision.{Decision}

@@ -1,6 +1,7 @@
 -- What the saved facts say of a cycle that met its peer's table.
 use Rattle.std.proofs.Common.{arith, ◌≡◌, ◌<◌, ◌≤◌, ◌+◌, ℕ, zero, suc, List, [], ◌∷◌, ◌++◌, length, take, Bool, true, false, cond, not, nat_lt, Option, Some, None, refl, sym, ap, ◌∙◌, subst}
 use Rattle.std.specs.Prelude.{option_map}
+use Rattle.std.specs.Option.{option_and_then}
 use Rattle.std.proofs.lemmas.Bool.{and_parts}
 use Rattle.std.proofs.lemmas.List.{append_assoc}
 use Rattle.std.proofs.lemmas.List.Sums.{take_while-cons}
@@ -12,14 +13,14 @@ use Rattle.gi_cycles.specs.States.{FrozenCycle, MatchedCycle, matched_of}
 use Rattle.gi_cycles.specs.declared.cycle_state.CycleState.{CycleState}
 use Rattle.gi_cycles.specs.declared.cycle_state.CycleState.TheVariants.{Collecting, Matched}
 use Rattle.gi_desk.specs.History.{facts_before, frozen_cycle, is_closed, is_meeting, met_by, number_of, peer_in, peer_of, state_of}
-use Rattle.gi_desk.specs.Kept.{closed_state}
+use Rattle.gi_desk.specs.Caches.{closed_state}
 use Rattle.gi_desk.specs.Machine.{DeskState, bad_fact, bad_from, most_facts, would_record}
-use Rattle.gi_desk.specs.Queries.{confirmed, met_saved, stage_of}
+use Rattle.gi_desk.specs.Queries.{confirmed, frozen, meeting, met_saved, own_in, peer_in as peer_in_state, stage_of}
 use Rattle.gi_facts.specs.declared.fact.Fact.{Fact}
 use Rattle.gi_facts.specs.declared.fact.Fact.TheVariants.{Contracted, Noticed, Nominated, Closed, Met}
 use Rattle.gi_desk.specs.declared.stage_name.StageName.TheVariants as stages
 use Rattle.gi_facts.proofs.SameLemmas.{same_cycle-is}
-use Rattle.gi_desk.proofs.CycleLaws.{recorded-meeting}
+use Rattle.gi_desk.proofs.CycleLaws.{none_of, recorded-meeting, unmet}
 use Rattle.gi_desk.proofs.Legality.{legal-first}
 use Rattle.gi_desk.proofs.StateLaws.{is_closed-more, number_of-from}
 
@@ -30,14 +31,14 @@ no_peer : (id : CycleId) (fact : Fact) → is_meeting id fact ≡ false → peer
 no_peer id (Contracted contract) e = refl
 no_peer id (Noticed notice) e = refl
 no_peer id (Nominated document) e = refl
-no_peer id (Closed other) e = refl
+no_peer id (Closed other rule) e = refl
 no_peer id (Met other peer) e = rw e refl
 
 pub a_peer : (id : CycleId) (fact : Fact) → is_meeting id fact ≡ true → (peer : TableContents) × (peer_in id fact ≡ Some peer)
 a_peer id (Contracted contract) e = absurd cc
 a_peer id (Noticed notice) e = absurd cc
 a_peer id (Nominated document) e = absurd cc
-a_peer id (Closed other) e = absurd cc
+a_peer id (Closed other rule) e = absurd cc
 a_peer id (Met other peer) e = (peer, rw e refl)
 
 -- the number of the first fact that is so, by the first fact
@@ -96,7 +97,7 @@ meeting_closes : (side : Side) (point : List ℕ) (before : List Fact) (fact : F
 meeting_closes side point before (Contracted contract) id is e = absurd cc
 meeting_closes side point before (Noticed notice) id is e = absurd cc
 meeting_closes side point before (Nominated document) id is e = absurd cc
-meeting_closes side point before (Closed other) id is e = absurd cc
+meeting_closes side point before (Closed other rule) id is e = absurd cc
 meeting_closes side point before (Met other peer) id is e = subst (λ (cycle : CycleId). is_closed cycle before ≡ true) (same_cycle-is other id is) (recorded-meeting side point before other peer e).closed
 
 met_by_test : (side : Side) (point : List ℕ) (before : List Fact) (fact : Fact) (later : List Fact) (id : CycleId) (peer : TableContents) (b : Bool) → is_meeting id fact ≡ b
@@ -145,3 +146,40 @@ pub confirmed-met : (side : Side) (s : DeskState) (id : CycleId) (o : Option Mat
 unfolding confirmed met_saved
 confirmed-met side s id o e =
     ap (option_map (λ (met : MatchedCycle). met.confirmed)) e ∙ confirmed_by (frozen_cycle side s.facts id) (peer_of id (take s.saved s.facts))
+
+-- ---- the tables of a cycle, by all facts
+
+own_by : (cycle : FrozenCycle) (o : Option TableContents) → own_in (met_by cycle o) ≡ Some cycle.own
+own_by cycle None = refl
+own_by cycle (Some peer) = refl
+
+frozen_by : (closed : Bool) (cycle : FrozenCycle) (o : Option TableContents) (id : CycleId)
+    → option_and_then own_in (cond closed (Some (cond closed (met_by cycle o) (Collecting id))) None) ≡ cond closed (Some cycle.own) None
+frozen_by true cycle o id = own_by cycle o
+frozen_by false cycle o id = refl
+
+pub frozen-read : (side : Side) (facts : List Fact) (id : CycleId) (o : Option CycleState) → o ≡ closed_state side facts id → option_and_then own_in o ≡ frozen side facts id
+unfolding state_of frozen
+frozen-read side facts id o e = ap (option_and_then own_in) e ∙ frozen_by (is_closed id facts) (frozen_cycle side facts id) (peer_of id facts) id
+
+peer_by : (cycle : FrozenCycle) (o : Option TableContents) → peer_in_state (met_by cycle o) ≡ o
+peer_by cycle None = refl
+peer_by cycle (Some peer) = refl
+
+met_by_closed : (closed : Bool) (cycle : FrozenCycle) (o : Option TableContents) (id : CycleId) → (closed ≡ false → o ≡ None)
+    → option_and_then peer_in_state (cond closed (Some (cond closed (met_by cycle o) (Collecting id))) None) ≡ o
+met_by_closed true cycle o id none = peer_by cycle o
+met_by_closed false cycle o id none = sym (none refl)
+
+-- of legal facts a cycle that met is closed
+pub peer-read : (side : Side) (point : List ℕ) (facts : List Fact) (id : CycleId) (o : Option CycleState) → bad_fact side point facts ≡ None → o ≡ closed_state side facts id
+    → option_and_then peer_in_state o ≡ peer_of id facts
+unfolding state_of
+peer-read side point facts id o legal e =
+    ap (option_and_then peer_in_state) e
+    ∙ met_by_closed (is_closed id facts) (frozen_cycle side facts id) (peer_of id facts) id (λ unclosed. none_of facts id (unmet side point facts id legal unclosed))
+
+pub meeting-read : (facts : List Fact) (id : CycleId) (n : ℕ) (o : Option TableContents) → n ≡ number_of (is_meeting id) facts → o ≡ peer_of id facts
+    → option_map (λ (peer : TableContents). (n, peer)) o ≡ meeting facts id
+unfolding meeting
+meeting-read facts id n o n_is o_is = λ t. option_map (λ (peer : TableContents). (n_is t, peer)) (o_is t)

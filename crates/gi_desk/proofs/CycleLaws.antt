@@ -28,6 +28,7 @@ use Rattle.gi_desk.specs.declared.outcome.Outcome.TheVariants.{Records, Refuses}
 use Rattle.gi_desk.specs.declared.refusal.Refusal.TheVariants.{AlreadyClosed, Conflict, NoSuchCycle, ShapeDiffers}
 use Rattle.gi_desk.proofs.Legality.{legal-first, legal-parts, legal-recorded}
 use Rattle.gi_desk.proofs.StateLaws.{is_closed-more, peer_of-more}
+use Rattle.gi_processing.specs.declared.rule.Rule.{Rule}
 
 -- ---- what is known of a closing and of a meeting that would be recorded
 
@@ -37,17 +38,17 @@ closing_by false true next e = absurd cc
 closing_by false false next e = refl
 
 -- a closing is of a cycle that is not closed
-pub recorded-closing : (side : Side) (point : List ℕ) (before : List Fact) (id : CycleId) → would_record side point before (Closed id) ≡ true → is_closed id before ≡ false
-recorded-closing side point before id e =
-    closing_by (not (nat_lt id.cycle (cycle_count id.day))) (is_closed id before) (unless_later id.cycle (last_closed id.day before) (Records (Closed id))) e
+pub recorded-closing : (side : Side) (point : List ℕ) (before : List Fact) (id : CycleId) (rule : Rule) → would_record side point before (Closed id rule) ≡ true → is_closed id before ≡ false
+recorded-closing side point before id rule e =
+    closing_by (not (nat_lt id.cycle (cycle_count id.day))) (is_closed id before) (unless_later id.cycle (last_closed id.day before) (Records (Closed id rule))) e
 
 below_by : (b : Bool) (next : Outcome) → is_record (cond (not b) (Refuses NoSuchCycle) next) ≡ true → b ≡ true
 below_by true next e = refl
 below_by false next e = absurd cc
 
 -- which its gas day has
-pub recorded-below : (side : Side) (point : List ℕ) (before : List Fact) (id : CycleId) → would_record side point before (Closed id) ≡ true → id.cycle < cycle_count id.day
-recorded-below side point before id e = ltb-true id.cycle (cycle_count id.day) (below_by (nat_lt id.cycle (cycle_count id.day)) _ e)
+pub recorded-below : (side : Side) (point : List ℕ) (before : List Fact) (id : CycleId) (rule : Rule) → would_record side point before (Closed id rule) ≡ true → id.cycle < cycle_count id.day
+recorded-below side point before id rule e = ltb-true id.cycle (cycle_count id.day) (below_by (nat_lt id.cycle (cycle_count id.day)) _ e)
 
 meeting_hours : (before : List Fact) (id : CycleId) (own peer : TableContents) (first last : Bool) → nat_eq own.first peer.first ≡ first → nat_eq own.last peer.last ≡ last
     → is_record (by_decision before id (cond (first && last) (Meet peer) (Refused ShapeDiffers))) ≡ true → HasShapeOf own peer
@@ -131,11 +132,11 @@ not_again side point before (Contracted contract) id e closed = refl
 not_again side point before (Noticed notice) id e closed = refl
 not_again side point before (Nominated document) id e closed = refl
 not_again side point before (Met other peer) id e closed = refl
-not_again side point before (Closed other) id e closed =
+not_again side point before (Closed other rule) id e closed =
     false_from_ne_true (same_cycle other id)
     (λ same.
     both_ways (is_closed id before)
-    (recorded-closing side point before id (subst (λ (id : CycleId). would_record side point before (Closed id) ≡ true) (same_cycle-is other id same) e)) closed)
+    (recorded-closing side point before id rule (subst (λ (id : CycleId). would_record side point before (Closed id rule) ≡ true) (same_cycle-is other id same) e)) closed)
 
 pub closed-after : (side : Side) (point : List ℕ) (before later : List Fact) (id : CycleId) → bad_from side point before later ≡ None → is_closed id before ≡ true
     → is_closed id later ≡ false
@@ -145,17 +146,17 @@ closed-after side point before (fact ∷ later) id e closed =
     or_from (is_closing id fact) (is_closed id later) (not_again side point before fact id (first_recorded side point before fact later e) closed)
     (closed-after side point (before ++ fact ∷ []) later id (legal-first side point before fact later e).1 (is_closed-more id before (fact ∷ []) closed))
 
-pub is_closed-last : (facts : List Fact) (id : CycleId) → is_closed id (facts ++ Closed id ∷ []) ≡ true
+pub is_closed-last : (facts : List Fact) (id : CycleId) (rule : Rule) → is_closed id (facts ++ Closed id rule ∷ []) ≡ true
 unfolding is_closed
-is_closed-last facts id =
-    list_any-append (is_closing id) facts (Closed id ∷ [])
+is_closed-last facts id rule =
+    list_any-append (is_closing id) facts (Closed id rule ∷ [])
     ∙ or_right (list_any (is_closing id) facts) (same_cycle id id || false) (ap (λ (b : Bool). b || false) (same_cycle-self id))
 
-pub closes-once : (side : Side) (point : List ℕ) (before after : List Fact) (id : CycleId) → bad_fact side point (before ++ Closed id ∷ after) ≡ None
+pub closes-once : (side : Side) (point : List ℕ) (before after : List Fact) (id : CycleId) (rule : Rule) → bad_fact side point (before ++ Closed id rule ∷ after) ≡ None
     → (is_closed id before ≡ false) × (is_closed id after ≡ false)
-closes-once side point before after id e = (
-  recorded-closing side point before id (legal-recorded side point before (Closed id) after e),
-  closed-after side point (before ++ Closed id ∷ []) after id (legal-rest side point before (Closed id) after e) (is_closed-last before id),
+closes-once side point before after id rule e = (
+  recorded-closing side point before id rule (legal-recorded side point before (Closed id rule) after e),
+  closed-after side point (before ++ Closed id rule ∷ []) after id (legal-rest side point before (Closed id rule) after e) (is_closed-last before id rule),
 )
 
 -- ---- the tables that a cycle met
@@ -168,7 +169,7 @@ pub none_in : (id : CycleId) (fact : Fact) → ((peer : TableContents) → fact 
 none_in id (Contracted contract) not_met = refl
 none_in id (Noticed notice) not_met = refl
 none_in id (Nominated document) not_met = refl
-none_in id (Closed other) not_met = refl
+none_in id (Closed other rule) not_met = refl
 none_in id (Met other peer) not_met = meets_by (same_cycle other id) id other peer refl (not_met peer)
 
 meeting_at : (side : Side) (point : List ℕ) (before : List Fact) (fact : Fact) (later : List Fact) (id : CycleId) (peer : TableContents)

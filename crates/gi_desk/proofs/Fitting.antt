@@ -1,10 +1,11 @@
 -- Which facts and states can be written.
-use Rattle.std.proofs.Common.{◌≡◌, ℕ, zero, suc, List, [], ◌∷◌, ◌++◌, Bool, true, false, cond, not, leb-true, All, Some, None, refl, sym, ap, ◌∙◌, subst, arith}
+use Rattle.std.proofs.Common.{◌≡◌, ℕ, zero, suc, List, [], ◌∷◌, ◌++◌, Bool, true, false, cond, not, leb-true, nat_le, All, Some, None, refl, sym, ap, ◌∙◌, subst, arith}
 use Rattle.std.specs.Int.{IsInRange}
+use Rattle.std.specs.List.{list_all}
 use Rattle.std.specs.Prelude.{slice_get}
 use Rattle.std.proofs.lemmas.Bool.{and_parts}
 use Rattle.std.proofs.lemmas.Bool.Decides.{nat_tests}
-use Rattle.std.proofs.lemmas.List.Elements.{All-head, All-nil, All-push, All-set, All-tail}
+use Rattle.std.proofs.lemmas.List.Elements.{All-cons, All-head, All-nil, All-push, All-set, All-tail}
 use Rattle.gi_day.specs.Cycles.{cycle_count, hour_count}
 use Rattle.gi_day.specs.Day.{IsGasYear}
 use Rattle.gi_day.proofs.DayFacts.{day_facts}
@@ -15,20 +16,22 @@ use Rattle.gi_pairs.specs.declared.side.Side.{Side}
 use Rattle.gi_pairs.proofs.Reading.{find_all}
 use Rattle.gi_lesser.specs.Lesser.{HasShapeOf, lesser_of}
 use Rattle.gi_lesser.proofs.LesserLaws.{AreMatched, lesser_of-is_table}
-use Rattle.gi_messages.specs.Grammar.{FitsLine, FitsNomint}
-use Rattle.gi_messages.specs.Limits.{last_version}
+use Rattle.gi_messages.specs.Grammar.{FitsNominationLine, FitsNomint}
+use Rattle.gi_messages.specs.Limits.{last_priority, last_version}
 use Rattle.gi_messages.specs.declared.message.Nomint.{Nomint}
+use Rattle.gi_messages.specs.declared.nomination_line.NominationLine.{NominationLine}
 use Rattle.gi_processing.specs.Processing.{processed}
 use Rattle.gi_processing.specs.Recording.{has_hours, is_over, notice_refusal}
 use Rattle.gi_processing.specs.declared.notice.Notice.{Notice}
 use Rattle.gi_processing.specs.declared.notice_fault.NoticeFault.TheVariants.{NoticeRange, PermilleRange}
+use Rattle.gi_processing.specs.declared.rule.Rule.{Rule}
 use Rattle.gi_cycles.specs.States.{FrozenCycle, matched_of}
 use Rattle.gi_cycles.specs.declared.cycle_state.CycleState.{CycleState}
 use Rattle.gi_cycles.specs.declared.cycle_state.CycleState.TheVariants.{Frozen, Matched}
 use Rattle.gi_desk.specs.History.{capacity_of, closings, documents_of, frozen_cycle, is_closed, state_of}
-use Rattle.gi_desk.specs.Kept.{changes_cycle, is_state_of, states_of}
-use Rattle.gi_desk.specs.Machine.{bad_fact, would_record}
-use Rattle.gi_desk.specs.Writable.{FitsDesk, FitsFrozen, FitsMatched, FitsState}
+use Rattle.gi_desk.specs.Caches.{changes_cycle, is_state_of, states_of}
+use Rattle.gi_desk.specs.Machine.{bad_fact, has_priority, would_record}
+use Rattle.gi_desk.specs.Writable.{FitsDesk, FitsFrozen, FitsMatched, FitsButPriority, FitsState}
 use Rattle.gi_facts.specs.Writable.{FitsCycle, FitsFact, FitsNotice, FitsProcessed}
 use Rattle.gi_facts.specs.Grammar.{IsWritable}
 use Rattle.gi_facts.proofs.WritingLemmas.{writable_from_fits}
@@ -76,10 +79,22 @@ notice-fits side point before notice e day =
       interruptible = grind (arith, nat_tests, over);
     }
 
+-- lines of which all but the priorities are known to be in range
+lines-fit : (lines : List NominationLine) → All FitsButPriority lines → list_all has_priority lines ≡ true → All FitsNominationLine lines
+lines-fit [] named e = All-nil FitsNominationLine
+lines-fit (line ∷ lines) named e =
+    let parts = and_parts (has_priority line) (list_all has_priority lines) e in
+    let range = and_parts (nat_le 1 line.priority) (nat_le line.priority last_priority) parts.0 in
+    let own = All-head FitsButPriority line lines named in
+    All-cons FitsNominationLine line lines
+    (record { counterparty = own.counterparty; quantities = own.quantities; from = leb-true 1 line.priority range.0; to = leb-true line.priority last_priority range.1 })
+    (lines-fit lines (All-tail FitsButPriority line lines named) parts.1)
+
 pub nomination-fits : (side : Side) (point : List ℕ) (before : List Fact) (document : Nomint) → would_record side point before (Nominated document) ≡ true → IsCode document.point
-    → IsCode document.portfolio → IsGasYear document.day.year → All FitsLine document.lines → FitsNomint document
+    → IsCode document.portfolio → IsGasYear document.day.year → All FitsButPriority document.lines → FitsNomint document
 nomination-fits side point before document e of_point portfolio day lines =
-    let to = and_parts _ _ e in
+    let priorities = and_parts _ _ e in
+    let to = and_parts _ _ priorities.0 in
     let from = and_parts _ _ to.0 in
     record {
       point = of_point;
@@ -87,12 +102,12 @@ nomination-fits side point before document e of_point portfolio day lines =
       day = day;
       from = leb-true 1 document.version from.1;
       to = leb-true document.version last_version to.1;
-      lines = lines;
+      lines = lines-fit document.lines lines priorities.1;
     }
 
-pub closing-fits : (side : Side) (point : List ℕ) (before : List Fact) (id : CycleId) → would_record side point before (Closed id) ≡ true → IsGasYear id.day.year → FitsCycle id
-closing-fits side point before id e day =
-    let below = recorded-below side point before id e in
+pub closing-fits : (side : Side) (point : List ℕ) (before : List Fact) (id : CycleId) (rule : Rule) → would_record side point before (Closed id rule) ≡ true → IsGasYear id.day.year → FitsCycle id
+closing-fits side point before id rule e day =
+    let below = recorded-below side point before id rule e in
     let few : IsInRange 35 37 (cycle_count id.day) = (day_facts id.day).count_in in
     record { day = day; cycle = omega (arith, below, few) }
 
@@ -108,12 +123,12 @@ meeting_fact-fits side point before id peer desk e table =
 pub states_fit-other : (side : Side) (facts : List Fact) (fact : Fact) → changes_cycle fact ≡ false → All FitsState (states_of side facts) → All FitsState (states_of side (facts ++ fact ∷ []))
 states_fit-other side facts fact other all = subst (λ (states : List CycleState). All FitsState states) (sym (states-other side facts fact other)) all
 
-pub states_fit-closed : (side : Side) (point : List ℕ) (facts : List Fact) (id : CycleId) → bad_fact side point (facts ++ Closed id ∷ []) ≡ None → All FitsState (states_of side facts)
-    → FitsCycle id → FitsProcessed (processed (capacity_of facts) (documents_of facts) side id.day id.cycle) → All FitsState (states_of side (facts ++ Closed id ∷ []))
-states_fit-closed side point facts id legal all cycle own =
-    let frozen : FrozenCycle = record { id = id; own = processed (capacity_of facts) (documents_of facts) side id.day id.cycle } in
+pub states_fit-closed : (side : Side) (point : List ℕ) (facts : List Fact) (id : CycleId) (rule : Rule) → bad_fact side point (facts ++ Closed id rule ∷ []) ≡ None → All FitsState (states_of side facts)
+    → FitsCycle id → FitsProcessed (processed (capacity_of facts) (documents_of facts) side id.day id.cycle rule) → All FitsState (states_of side (facts ++ Closed id rule ∷ []))
+states_fit-closed side point facts id rule legal all cycle own =
+    let frozen : FrozenCycle = record { id = id; own = processed (capacity_of facts) (documents_of facts) side id.day id.cycle rule } in
     let fits : FitsFrozen frozen = record { id = cycle; own = own } in
-    subst (λ (states : List CycleState). All FitsState states) (sym (states-closed side point facts id legal))
+    subst (λ (states : List CycleState). All FitsState states) (sym (states-closed side point facts id rule legal))
     (All-push FitsState (states_of side facts) (Frozen frozen) all fits)
 
 matched-fits : (cycle : FrozenCycle) (peer : TableContents) → FitsFrozen cycle → FitsProcessed peer → HasShapeOf cycle.own peer → FitsMatched (matched_of cycle peer)

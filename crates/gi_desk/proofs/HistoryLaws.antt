@@ -59,5 +59,5 @@ unfolding documents_of
 no_document (Contracted contract) nominated = refl
 no_document (Noticed notice) nominated = refl
 no_document (Nominated document) nominated = absurd (nominated document refl)
-no_document (Closed id) nominated = refl
+no_document (Closed id rule) nominated = refl
 no_document (Met id peer) nominated = refl

@@ -24,6 +24,7 @@ use Rattle.gi_desk.proofs.CycleLaws.{is_closed-last}
 use Rattle.gi_desk.proofs.HistoryLaws.{closed_more}
 use Rattle.gi_desk.proofs.Legality.{legal-first}
 use Rattle.gi_desk.proofs.StateLaws.{is_closed-more}
+use Rattle.gi_processing.specs.declared.rule.Rule.{Rule}
 
 abbrev cycle_of : Date → ℕ → CycleId
 cycle_of day number = record { day = day; cycle = number }
@@ -89,41 +90,41 @@ order_by false false cycle (Some last) next e number is =
     by_test true is e = absurd cc
     by_test false is e = ltb-false cycle last is
 
-recorded-order : (side : Side) (point : List ℕ) (before : List Fact) (id : CycleId) → would_record side point before (Closed id) ≡ true
+recorded-order : (side : Side) (point : List ℕ) (before : List Fact) (id : CycleId) (rule : Rule) → would_record side point before (Closed id rule) ≡ true
     → (number : ℕ) → last_closed id.day before ≡ Some number → number ≤ id.cycle
-recorded-order side point before id e =
-    order_by (not (nat_lt id.cycle (cycle_count id.day))) (is_closed id before) id.cycle (last_closed id.day before) (Records (Closed id)) e
+recorded-order side point before id rule e =
+    order_by (not (nat_lt id.cycle (cycle_count id.day))) (is_closed id before) id.cycle (last_closed id.day before) (Records (Closed id rule)) e
 
 -- so a closing is the greatest of its gas day
-closing_greatest : (side : Side) (point : List ℕ) (facts : List Fact) (id : CycleId) → would_record side point facts (Closed id) ≡ true
-    → (o : Option ℕ) → last_closed id.day facts ≡ o → IsGreatest id.day (λ other. is_closed other facts) o → IsGreatest id.day (λ other. is_closed other (facts ++ Closed id ∷ [])) (Some id.cycle)
-closing_greatest side point facts id e o last greatest = (is_closed-last facts id, λ other closed of. by_before other closed of (is_closed other facts) refl o last greatest)
+closing_greatest : (side : Side) (point : List ℕ) (facts : List Fact) (id : CycleId) (rule : Rule) → would_record side point facts (Closed id rule) ≡ true
+    → (o : Option ℕ) → last_closed id.day facts ≡ o → IsGreatest id.day (λ other. is_closed other facts) o → IsGreatest id.day (λ other. is_closed other (facts ++ Closed id rule ∷ [])) (Some id.cycle)
+closing_greatest side point facts id rule e o last greatest = (is_closed-last facts id rule, λ other closed of. by_before other closed of (is_closed other facts) refl o last greatest)
   where
-    by_before : (other : CycleId) → is_closed other (facts ++ Closed id ∷ []) ≡ true → other.day ≡ id.day → (b : Bool) → is_closed other facts ≡ b
+    by_before : (other : CycleId) → is_closed other (facts ++ Closed id rule ∷ []) ≡ true → other.day ≡ id.day → (b : Bool) → is_closed other facts ≡ b
         → (o : Option ℕ) → last_closed id.day facts ≡ o → IsGreatest id.day (λ other. is_closed other facts) o → other.cycle ≤ id.cycle
     by_before other closed of false before o last greatest =
-        let same = ap (λ (c : CycleId). c.cycle) (same_cycle-is id other (closed_then facts (Closed id) other closed before)) in
+        let same = ap (λ (c : CycleId). c.cycle) (same_cycle-is id other (closed_then facts (Closed id rule) other closed before)) in
         omega (arith, same)
     by_before other closed of true before None last greatest = absurd (greatest other before of)
     by_before other closed of true before (Some number) last greatest =
         let below = greatest.1 other before of in
-        let above = recorded-order side point facts id e number last in
+        let above = recorded-order side point facts id rule e number last in
         omega (arith, below, above)
 
 -- the closing is of the gas day or of another one
-last_of : (day : Date) (id : CycleId) (b : Bool) → same_day id.day day ≡ b → last_closed day (Closed id ∷ []) ≡ cond b (Some id.cycle) None
+last_of : (day : Date) (id : CycleId) (rule : Rule) (b : Bool) → same_day id.day day ≡ b → last_closed day (Closed id rule ∷ []) ≡ cond b (Some id.cycle) None
 unfolding last_closed closings
-last_of day id true e = rw e refl
-last_of day id false e = rw e refl
+last_of day id rule true e = rw e refl
+last_of day id rule false e = rw e refl
 
-closing_by : (side : Side) (point : List ℕ) (facts : List Fact) (id : CycleId) (day : Date) (b : Bool) → would_record side point facts (Closed id) ≡ true → same_day id.day day ≡ b
+closing_by : (side : Side) (point : List ℕ) (facts : List Fact) (id : CycleId) (rule : Rule) (day : Date) (b : Bool) → would_record side point facts (Closed id rule) ≡ true → same_day id.day day ≡ b
     → IsGreatest day (λ other. is_closed other facts) (last_closed day facts)
-    → IsGreatest day (λ other. is_closed other (facts ++ Closed id ∷ [])) (option_or (cond b (Some id.cycle) None) (last_closed day facts))
-closing_by side point facts id day true e of greatest =
-    subst (λ (d : Date). IsGreatest d (λ other. is_closed other facts) (last_closed d facts) → IsGreatest d (λ other. is_closed other (facts ++ Closed id ∷ [])) (Some id.cycle))
-    ((same_day-Decides id.day day).0 of) (λ greatest. closing_greatest side point facts id e (last_closed id.day facts) refl greatest) greatest
-closing_by side point facts id day false e of greatest =
-    same_greatest day facts (Closed id) (last_closed day facts) (λ other same is.
+    → IsGreatest day (λ other. is_closed other (facts ++ Closed id rule ∷ [])) (option_or (cond b (Some id.cycle) None) (last_closed day facts))
+closing_by side point facts id rule day true e of greatest =
+    subst (λ (d : Date). IsGreatest d (λ other. is_closed other facts) (last_closed d facts) → IsGreatest d (λ other. is_closed other (facts ++ Closed id rule ∷ [])) (Some id.cycle))
+    ((same_day-Decides id.day day).0 of) (λ greatest. closing_greatest side point facts id rule e (last_closed id.day facts) refl greatest) greatest
+closing_by side point facts id rule day false e of greatest =
+    same_greatest day facts (Closed id rule) (last_closed day facts) (λ other same is.
     let day_is : id.day ≡ day = ap (λ (c : CycleId). c.day) (same_cycle-is id other same) ∙ is in
     absurd (cc ((same_day-Decides id.day day).1 day_is, of))) greatest
 
@@ -133,7 +134,7 @@ no_last day (Contracted contract) none = refl
 no_last day (Noticed notice) none = refl
 no_last day (Nominated document) none = refl
 no_last day (Met id peer) none = refl
-no_last day (Closed id) none = absurd (none id (same_cycle-self id))
+no_last day (Closed id rule) none = absurd (none id (same_cycle-self id))
 
 -- what one more fact that would be recorded makes of it
 other_more : (day : Date) (facts : List Fact) (fact : Fact) → ((id : CycleId) → is_closing id fact ≡ true → ⊥) → IsGreatest day (λ id. is_closed id facts) (last_closed day facts)
@@ -148,10 +149,10 @@ greatest_more side point day facts (Contracted contract) e greatest = other_more
 greatest_more side point day facts (Noticed notice) e greatest = other_more day facts (Noticed notice) (λ id is. absurd cc) greatest
 greatest_more side point day facts (Nominated document) e greatest = other_more day facts (Nominated document) (λ id is. absurd cc) greatest
 greatest_more side point day facts (Met id peer) e greatest = other_more day facts (Met id peer) (λ id is. absurd cc) greatest
-greatest_more side point day facts (Closed id) e greatest =
-    subst (IsGreatest day (λ other. is_closed other (facts ++ Closed id ∷ [])))
-    (sym (closed_more day facts (Closed id) ∙ ap (λ (o : Option ℕ). option_or o (last_closed day facts)) (last_of day id (same_day id.day day) refl)))
-    (closing_by side point facts id day (same_day id.day day) e refl greatest)
+greatest_more side point day facts (Closed id rule) e greatest =
+    subst (IsGreatest day (λ other. is_closed other (facts ++ Closed id rule ∷ [])))
+    (sym (closed_more day facts (Closed id rule) ∙ ap (λ (o : Option ℕ). option_or o (last_closed day facts)) (last_of day id rule (same_day id.day day) refl)))
+    (closing_by side point facts id rule day (same_day id.day day) e refl greatest)
 
 greatest_from : (side : Side) (point : List ℕ) (day : Date) (before later : List Fact) → bad_from side point before later ≡ None
     → IsGreatest day (λ id. is_closed id before) (last_closed day before) → IsGreatest day (λ id. is_closed id (before ++ later)) (last_closed day (before ++ later))

@@ -121,7 +121,7 @@ nomination_by history document (verdicts.Refused fault) e = absurd cc
 pub recorded-nomination : (side : Side) (point : List ℕ) (before : List Fact) (document : Nomint) → would_record side point before (Nominated document) ≡ true
     → IsRecordable (record { point = point; documents = documents_of before }) (setting_of before document) document
 recorded-nomination side point before document e =
-    let first = (and_parts _ _ (and_parts _ _ e).0).0 in
+    let first = (and_parts _ _ (and_parts _ _ (and_parts _ _ e).0).0).0 in
     verdict-recordable (record { point = point; documents = documents_of before }) (setting_of before document) document (nomination_by before document (verdict_on point before document) first)
 
 -- and so newer than the one in force
@@ -139,7 +139,7 @@ taken_sound : (side : Side) (point : List ℕ) (before : List Fact) (fact : Fact
 unfolding documents_of
 taken_sound side point before (Contracted contract) day e sound = none_more (capacity_of before) (documents_of before) day sound
 taken_sound side point before (Noticed notice) day e sound = none_more (capacity_of before) (documents_of before) day sound
-taken_sound side point before (Closed id) day e sound = none_more (capacity_of before) (documents_of before) day sound
+taken_sound side point before (Closed id rule) day e sound = none_more (capacity_of before) (documents_of before) day sound
 taken_sound side point before (Met id peer) day e sound = none_more (capacity_of before) (documents_of before) day sound
 taken_sound side point before (Nominated document) day e sound =
     let recordable = recorded-nomination side point before document e in

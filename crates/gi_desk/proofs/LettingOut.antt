@@ -27,7 +27,7 @@ use Rattle.gi_cycles.specs.declared.cycle_state.CycleState.TheVariants.{Matched}
 use Rattle.gi_desk.specs.History.{frozen_cycle, frozen_table, is_closed, is_closing, is_meeting, met_by, number_of, peer_of, state_of}
 use Rattle.gi_desk.specs.LetOut.{IsFact, if_fact, let_out, let_out_on_closing, packets_of, sent}
 use Rattle.gi_desk.specs.Machine.{DeskState, bad_fact, is_for_peer, saved_out}
-use Rattle.gi_desk.specs.Messages.{acknow_of, on_closed, on_met, portfolios_in, to_user, told_of, told_packets, with_code}
+use Rattle.gi_desk.specs.Messages.{acknow_of, on_closed, on_met, portfolios_in, to_peer, to_user, told_of, told_packets, with_code}
 use Rattle.gi_facts.specs.Same.{same_cycle}
 use Rattle.gi_facts.specs.declared.fact.Fact.{Fact}
 use Rattle.gi_facts.specs.declared.fact.Fact.TheVariants.{Contracted, Noticed, Nominated, Closed, Met}
@@ -37,6 +37,7 @@ use Rattle.gi_desk.proofs.CycleLaws.{peer_of-last, recorded-meeting}
 use Rattle.gi_desk.proofs.HistoryLaws.{one_more}
 use Rattle.gi_desk.proofs.Legality.{legal-at}
 use Rattle.gi_desk.proofs.StateLaws.{frozen_table-more, is_closed-more, peer_of-more, state-closed}
+use Rattle.gi_processing.specs.declared.rule.Rule.{Rule}
 
 -- ---- the place of a code among others
 
@@ -174,11 +175,11 @@ let_out-is side point facts n fact is =
 
 -- ---- a closing
 
-closed_front : (facts : List Fact) (n : ℕ) (id : CycleId) → IsFact facts n (Closed id) → is_closed id (take n facts) ≡ true
+closed_front : (facts : List Fact) (n : ℕ) (id : CycleId) (rule : Rule) → IsFact facts n (Closed id rule) → is_closed id (take n facts) ≡ true
 unfolding is_closed
-closed_front facts n id is =
-    ap (list_any (is_closing id)) (front facts n (Closed id) is)
-    ∙ list_any-append (is_closing id) (take (n - 1) facts) (Closed id ∷ [])
+closed_front facts n id rule is =
+    ap (list_any (is_closing id)) (front facts n (Closed id rule) is)
+    ∙ list_any-append (is_closing id) (take (n - 1) facts) (Closed id rule ∷ [])
     ∙ closes (list_any (is_closing id) (take (n - 1) facts)) (same_cycle id id) (same_cycle-self id)
   where
     closes : (b c : Bool) → c ≡ true → (b || (c || false)) ≡ true
@@ -198,34 +199,34 @@ frozen_whole side facts n id closed =
     sym (frozen_table-more side (take n facts) (drop n facts) id closed) ∙ ap (λ (all : List Fact). frozen_table side all id) (whole facts n) in
     λ t. record { id = id; own = same t }
 
-pub fact_closes : (facts : List Fact) (n : ℕ) (id : CycleId) → IsFact facts n (Closed id) → is_closed id facts ≡ true
-fact_closes facts n id is = closed_whole facts n id (closed_front facts n id is)
+pub fact_closes : (facts : List Fact) (n : ℕ) (id : CycleId) (rule : Rule) → IsFact facts n (Closed id rule) → is_closed id facts ≡ true
+fact_closes facts n id rule is = closed_whole facts n id (closed_front facts n id rule is)
 
 met_closing : (side : Side) (point : List ℕ) (cycle : FrozenCycle) (peer : Option TableContents) → sent (on_closed side point cycle) ≡ let_out_on_closing side point (met_by cycle peer)
 met_closing side point cycle None = refl
 met_closing side point cycle (Some peer) = refl
 
-pub closing_lets_out : (side : Side) (point : List ℕ) (facts : List Fact) (n : ℕ) (id : CycleId) → IsFact facts n (Closed id)
+pub closing_lets_out : (side : Side) (point : List ℕ) (facts : List Fact) (n : ℕ) (id : CycleId) (rule : Rule) → IsFact facts n (Closed id rule)
     → let_out_on_closing side point (state_of side facts id) ≡ let_out side point facts n
-closing_lets_out side point facts n id is =
-    let closed = closed_front facts n id is in
+closing_lets_out side point facts n id rule is =
+    let closed = closed_front facts n id rule is in
     sym (
-    let_out-is side point facts n (Closed id) is
+    let_out-is side point facts n (Closed id rule) is
     ∙ ap (λ (cycle : FrozenCycle). sent (on_closed side point cycle)) (frozen_whole side facts n id closed)
     ∙ met_closing side point (frozen_cycle side facts id) (peer_of id facts)
     ∙ ap (let_out_on_closing side point) (sym (state-closed side facts id (closed_whole facts n id closed)))
     )
 
 -- all of it is for the peer
-sent_for_peer : (message : Option Message) → filter is_for_peer (sent message) ≡ sent message
-sent_for_peer None = refl
-sent_for_peer (Some message) = refl
+sent_for_peer : (messages : List Message) → filter is_for_peer (sent messages) ≡ sent messages
+sent_for_peer [] = refl
+sent_for_peer (message ∷ messages) = ap (λ (packets : List Packet). to_peer message ∷ packets) (sent_for_peer messages)
 
-pub closing_for_peer : (side : Side) (point : List ℕ) (facts : List Fact) (n : ℕ) (id : CycleId) → IsFact facts n (Closed id)
+pub closing_for_peer : (side : Side) (point : List ℕ) (facts : List Fact) (n : ℕ) (id : CycleId) (rule : Rule) → IsFact facts n (Closed id rule)
     → let_out_on_closing side point (state_of side facts id) ≡ filter is_for_peer (let_out side point facts n)
-closing_for_peer side point facts n id is =
-    let out = let_out-is side point facts n (Closed id) is in
-    sym (ap (filter is_for_peer) out ∙ sent_for_peer (on_closed side point (frozen_cycle side (take n facts) id)) ∙ sym out ∙ sym (closing_lets_out side point facts n id is))
+closing_for_peer side point facts n id rule is =
+    let out = let_out-is side point facts n (Closed id rule) is in
+    sym (ap (filter is_for_peer) out ∙ sent_for_peer (on_closed side point (frozen_cycle side (take n facts) id)) ∙ sym out ∙ sym (closing_lets_out side point facts n id rule is))
 
 -- ---- a meeting
 
@@ -309,30 +310,30 @@ pub taking_lets_out : (side : Side) (point : List ℕ) (facts : List Fact) (n : 
 taking_lets_out side point facts n document is = sym (let_out-is side point facts n (Nominated document) is)
 
 -- what neither closes nor meets a cycle lets out nothing to the peer
-none_for_peer : (side : Side) (point : List ℕ) (facts : List Fact) (fact : Fact) → ((id : CycleId) → fact ≡ Closed id → ⊥)
+none_for_peer : (side : Side) (point : List ℕ) (facts : List Fact) (fact : Fact) → ((id : CycleId) (rule : Rule) → fact ≡ Closed id rule → ⊥)
     → ((id : CycleId) (peer : TableContents) → fact ≡ Met id peer → ⊥) → [] ≡ filter is_for_peer (packets_of side point facts fact)
 none_for_peer side point facts (Contracted contract) closed met = refl
 none_for_peer side point facts (Noticed notice) closed met = refl
 none_for_peer side point facts (Nominated document) closed met = refl
-none_for_peer side point facts (Closed id) closed met = absurd (closed id refl)
+none_for_peer side point facts (Closed id rule) closed met = absurd (closed id rule refl)
 none_for_peer side point facts (Met id peer) closed met = absurd (met id peer refl)
 
-pub other_for_peer : (side : Side) (point : List ℕ) (facts : List Fact) (n : ℕ) (fact : Fact) → IsFact facts n fact → ((id : CycleId) → fact ≡ Closed id → ⊥)
+pub other_for_peer : (side : Side) (point : List ℕ) (facts : List Fact) (n : ℕ) (fact : Fact) → IsFact facts n fact → ((id : CycleId) (rule : Rule) → fact ≡ Closed id rule → ⊥)
     → ((id : CycleId) (peer : TableContents) → fact ≡ Met id peer → ⊥) → [] ≡ filter is_for_peer (let_out side point facts n)
 other_for_peer side point facts n fact is closed met =
     none_for_peer side point (take n facts) fact closed met ∙ sym (ap (filter is_for_peer) (let_out-is side point facts n fact is))
 
 -- and where it takes no nomination either, nothing at all
-none_out : (side : Side) (point : List ℕ) (facts : List Fact) (fact : Fact) → ((document : Nomint) → fact ≡ Nominated document → ⊥) → ((id : CycleId) → fact ≡ Closed id → ⊥)
+none_out : (side : Side) (point : List ℕ) (facts : List Fact) (fact : Fact) → ((document : Nomint) → fact ≡ Nominated document → ⊥) → ((id : CycleId) (rule : Rule) → fact ≡ Closed id rule → ⊥)
     → ((id : CycleId) (peer : TableContents) → fact ≡ Met id peer → ⊥) → [] ≡ packets_of side point facts fact
 none_out side point facts (Contracted contract) taken closed met = refl
 none_out side point facts (Noticed notice) taken closed met = refl
 none_out side point facts (Nominated document) taken closed met = absurd (taken document refl)
-none_out side point facts (Closed id) taken closed met = absurd (closed id refl)
+none_out side point facts (Closed id rule) taken closed met = absurd (closed id rule refl)
 none_out side point facts (Met id peer) taken closed met = absurd (met id peer refl)
 
 pub other_lets_out : (side : Side) (point : List ℕ) (facts : List Fact) (n : ℕ) (fact : Fact) → IsFact facts n fact → ((document : Nomint) → fact ≡ Nominated document → ⊥)
-    → ((id : CycleId) → fact ≡ Closed id → ⊥) → ((id : CycleId) (peer : TableContents) → fact ≡ Met id peer → ⊥) → [] ≡ let_out side point facts n
+    → ((id : CycleId) (rule : Rule) → fact ≡ Closed id rule → ⊥) → ((id : CycleId) (peer : TableContents) → fact ≡ Met id peer → ⊥) → [] ≡ let_out side point facts n
 other_lets_out side point facts n fact is taken closed met =
     none_out side point (take n facts) fact taken closed met ∙ sym (let_out-is side point facts n fact is)
 

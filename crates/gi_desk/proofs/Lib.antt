@@ -5,7 +5,7 @@ mod Decoded
 pub mod Differing
 pub mod Fitting
 pub mod HistoryLaws
-mod KeptLaws
+mod CacheLaws
 mod LastClosed
 mod Leaving
 pub mod Legality

@@ -1,9 +1,11 @@
 -- What a call comes to can follow the facts of a desk.
-use Rattle.std.proofs.Common.{arith, ◌≡◌, ◌<◌, ◌≤◌, ◌+◌, ℕ, List, length, Bool, true, false, cond, not, nat_eq, nat_le, nat_lt, Option, Some, None, Result, Ok, Err, refl, ap, subst}
+use Rattle.std.proofs.Common.{arith, ◌≡◌, ◌<◌, ◌≤◌, ◌+◌, ℕ, List, [], ◌∷◌, All, length, Bool, true, false, cond, not, nat_eq, nat_le, nat_lt, Option, Some, None, Result, Ok, Err, refl, ap, subst}
 use Rattle.std.specs.Prelude.{slice_get}
+use Rattle.std.specs.List.{list_all}
 use Rattle.std.specs.Str.{bytes_eq}
 use Rattle.std.proofs.lemmas.Bool.{and_from}
 use Rattle.std.proofs.lemmas.Bool.Decides.{nat_tests}
+use Rattle.std.proofs.lemmas.List.Elements.{All-head, All-tail}
 use Rattle.std.proofs.lemmas.Option.{slice_get_within}
 use Rattle.gi_day.specs.Cycles.{cycle_count}
 use Rattle.gi_pairs.specs.Limits.{most_processed_rows}
@@ -13,11 +15,12 @@ use Rattle.gi_pairs.specs.declared.side.Side.{Side}
 use Rattle.gi_pairs.specs.declared.side.Side.TheVariants.{I, M}
 use Rattle.gi_lesser.specs.Lesser.{lesser_of}
 use Rattle.gi_messages.specs.Decoding.{decoded}
-use Rattle.gi_messages.specs.Grammar.{Fits, Spells}
+use Rattle.gi_messages.specs.Grammar.{Fits, FitsNominationLine, Spells}
 use Rattle.gi_messages.specs.declared.message.Message.{Message}
 use Rattle.gi_messages.specs.declared.message.Message.TheVariants as messages
 use Rattle.gi_messages.specs.declared.message.Nomint.{Nomint}
 use Rattle.gi_messages.specs.declared.message_fault.MessageFault.{MessageFault}
+use Rattle.gi_messages.specs.declared.nomination_line.NominationLine.{NominationLine}
 use Rattle.gi_messages.proofs.MessageLemmas.{decoded_takes}
 use Rattle.gi_messages.proofs.WritingLemmas.{fits_from_writable}
 use Rattle.gi_nominations.specs.declared.verdict.Verdict.{Verdict}
@@ -25,13 +28,14 @@ use Rattle.gi_nominations.specs.declared.verdict.Verdict.TheVariants as verdicts
 use Rattle.gi_processing.specs.Recording.{is_refused, notice_refusal}
 use Rattle.gi_processing.specs.declared.notice_fault.NoticeFault.{NoticeFault}
 use Rattle.gi_processing.specs.declared.notice_fault.NoticeFault.TheVariants as notices
+use Rattle.gi_processing.specs.declared.rule.Rule.{Rule}
 use Rattle.gi_cycles.specs.declared.cycle_state.CycleState.{CycleState}
 use Rattle.gi_cycles.specs.declared.cycle_state.CycleState.TheVariants.{Collecting, Frozen, Matched}
 use Rattle.gi_desk.specs.Deciding.{by_order, by_response, cycle_of, difference, met_again, unless_differs}
 use Rattle.gi_desk.specs.History.{capacity_of, is_closed, last_closed, number_of, state_of}
 use Rattle.gi_desk.specs.Judging.{by_decision, by_verdict, closed, contracted, delivered, if_same, noticed, of_point, submitted, unless_fault, unless_later, verdict_on}
-use Rattle.gi_desk.specs.Kept.{CanFollow}
-use Rattle.gi_desk.specs.Machine.{DeskState, comes_to, is_record, most_facts, outcome, unless_full, would_record}
+use Rattle.gi_desk.specs.Caches.{CanFollow}
+use Rattle.gi_desk.specs.Machine.{DeskState, comes_to, has_priority, is_record, most_facts, outcome, unless_full, would_record}
 use Rattle.gi_facts.specs.Same.{same_fact}
 use Rattle.gi_desk.specs.declared.call.Call.{Call}
 use Rattle.gi_desk.specs.declared.call.Call.TheVariants as calls
@@ -89,9 +93,9 @@ of_last : (own : Fact) (cycle : ℕ) (last : Option ℕ) → IsOf own (unless_la
 of_last own cycle None = refl
 of_last own cycle (Some last) = of_test own (nat_lt cycle last) (Refuses (refusals.OutOfOrder last)) (Records own) tt refl
 
-pub of_closing : (history : List Fact) (id : CycleId) → IsOf (facts.Closed id) (closed history id)
-of_closing history id =
-    let own = facts.Closed id in
+pub of_closing : (history : List Fact) (id : CycleId) (rule : Rule) → IsOf (facts.Closed id rule) (closed history id rule)
+of_closing history id rule =
+    let own = facts.Closed id rule in
     let later = unless_later id.cycle (last_closed id.day history) (Records own) in
     let unclosed = cond (is_closed id history) (Refuses refusals.AlreadyClosed) later in
     of_test own (not (nat_lt id.cycle (cycle_count id.day))) (Refuses refusals.NoSuchCycle) unclosed tt
@@ -99,12 +103,21 @@ of_closing history id =
 
 -- ---- nominations
 
+-- lines that can be written have priorities
+fit-have : (lines : List NominationLine) → All FitsNominationLine lines → list_all has_priority lines ≡ true
+fit-have [] fits = refl
+fit-have (line ∷ lines) fits =
+    let own = All-head FitsNominationLine line lines fits in
+    let from = own.from in
+    let to = own.to in
+    and_from (has_priority line) (list_all has_priority lines) (grind (arith, nat_tests, from, to)) (fit-have lines (All-tail FitsNominationLine line lines fits))
+
 sure_verdict : (side : Side) (s : DeskState) (document : Nomint) (v : Verdict) → verdict_on s.point s.facts document ≡ v → Fits (messages.Nomint document)
     → IsSure side s (by_verdict s.facts document v)
 sure_verdict side s document verdicts.Recordable e fits =
     let from = fits.from in
     let to = fits.to in
-    and_from _ _ (and_from _ _ (ap (λ (v : Verdict). is_record (by_verdict s.facts document v)) e) (grind (arith, nat_tests))) (grind (arith, nat_tests))
+    and_from _ _ (and_from _ _ (and_from _ _ (ap (λ (v : Verdict). is_record (by_verdict s.facts document v)) e) (grind (arith, nat_tests))) (grind (arith, nat_tests))) (fit-have document.lines fits.lines)
 sure_verdict side s document verdicts.Repeat e fits = number_of-from _ s.facts
 sure_verdict side s document (verdicts.Refused fault) e fits = tt
 
@@ -258,7 +271,7 @@ sure_comes side s (calls.Contract contract) =
     (of_test own (is_refused contract (capacity_of s.facts).contracts) (Refuses refusals.TooManyPortfolios) (Records own) tt refl) (λ e. e)
 sure_comes side s (calls.Notice notice) = sure side s (facts.Noticed notice) (noticed notice) (of_fault (facts.Noticed notice) (notice_refusal notice)) (λ e. e)
 sure_comes side s (calls.Submit body) = sure_submitted side s body (decoded body) refl
-sure_comes side s (calls.Close id) = sure side s (facts.Closed id) (closed s.facts id) (of_closing s.facts id) (λ e. e)
+sure_comes side s (calls.Close id rule) = sure side s (facts.Closed id rule) (closed s.facts id rule) (of_closing s.facts id rule) (λ e. e)
 sure_comes side s (calls.Deliver body) = sure_delivered side s body (decoded body) refl
 sure_comes side s (calls.Resend id) = sure_resent side s id (nat_le (number_of _ s.facts) s.saved)
 sure_comes side s (calls.MarkSaved n fact) = sure_mark side s n fact (nat_eq n (s.saved + 1)) refl

@@ -40,6 +40,7 @@ use Rattle.gi_desk.specs.declared.packet.Recipient.{Recipient}
 use Rattle.gi_desk.specs.declared.packet.Recipient.TheVariants.{Peer, User}
 use Rattle.gi_desk.proofs.Fitting.{state-fits}
 use Rattle.gi_desk.proofs.LettingOut.{closing_lets_out, fact_closes, fact_meets, is_matched, let_out-is, meeting_lets_out}
+use Rattle.gi_processing.specs.declared.rule.Rule.{Rule}
 
 -- ---- texts
 
@@ -168,11 +169,11 @@ on_closing-readable side point (Collecting id) code fits = All-nil IsReadable
 on_closing-readable side point (Frozen cycle) code fits = closed-readable side point cycle code fits
 on_closing-readable side point (Matched cycle) code fits = closed-readable side point (frozen_of cycle) code (frozen_again cycle fits)
 
-closing-readable : (side : Side) (point : List ℕ) (facts : List Fact) (n : ℕ) (id : CycleId) → FitsDesk side point facts → IsFact facts n (Closed id)
+closing-readable : (side : Side) (point : List ℕ) (facts : List Fact) (n : ℕ) (id : CycleId) (rule : Rule) → FitsDesk side point facts → IsFact facts n (Closed id rule)
     → All IsReadable (let_out side point facts n)
-closing-readable side point facts n id desk is =
-    subst (λ (packets : List Packet). All IsReadable packets) (closing_lets_out side point facts n id is)
-    (on_closing-readable side point (state_of side facts id) desk.point (state-fits side facts id desk.states (fact_closes facts n id is)))
+closing-readable side point facts n id rule desk is =
+    subst (λ (packets : List Packet). All IsReadable packets) (closing_lets_out side point facts n id rule is)
+    (on_closing-readable side point (state_of side facts id) desk.point (state-fits side facts id desk.states (fact_closes facts n id rule is)))
 
 meeting-readable : (side : Side) (point : List ℕ) (facts : List Fact) (n : ℕ) (id : CycleId) (peer : TableContents) → bad_fact side point facts ≡ None
     → FitsDesk side point facts → IsFact facts n (Met id peer) → All IsReadable (let_out side point facts n)
@@ -201,7 +202,7 @@ fact-readable side point facts n (Nominated document) legal desk is =
     let packet = to_user document.portfolio (Acknow (acknow_of document)) in
     subst (λ (packets : List Packet). All IsReadable packets) (sym (let_out-is side point facts n (Nominated document) is))
     (All-cons IsReadable packet [] (readable (Acknow (acknow_of document)) (acknow-fits document fits) tt (User document.portfolio)) (All-nil IsReadable))
-fact-readable side point facts n (Closed id) legal desk is = closing-readable side point facts n id desk is
+fact-readable side point facts n (Closed id rule) legal desk is = closing-readable side point facts n id rule desk is
 fact-readable side point facts n (Met id peer) legal desk is = meeting-readable side point facts n id peer legal desk is
 
 -- ---- what a number lets out

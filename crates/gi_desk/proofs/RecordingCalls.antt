@@ -18,7 +18,7 @@ use Rattle.gi_lesser.specs.Lesser.{HasShapeOf, lesser_of}
 use Rattle.gi_lesser.proofs.LesserLaws.{lesser_of-IsLesser}
 use Rattle.gi_messages.specs.Grammar.{Fits, HasFewLines}
 use Rattle.gi_messages.specs.Writing.{text_of}
-use Rattle.gi_messages.specs.declared.line.Line.{Line}
+use Rattle.gi_messages.specs.declared.nomination_line.NominationLine.{NominationLine}
 use Rattle.gi_messages.specs.declared.message.Delord.{Delord}
 use Rattle.gi_messages.specs.declared.message.Delres.{Delres}
 use Rattle.gi_messages.specs.declared.message.Message.TheVariants as messages
@@ -31,10 +31,11 @@ use Rattle.gi_cycles.specs.declared.cycle_state.CycleState.TheVariants.{Frozen}
 use Rattle.gi_processing.specs.Recording.{is_refused, notice_refusal}
 use Rattle.gi_processing.specs.declared.contract.Contract.{Contract}
 use Rattle.gi_processing.specs.declared.notice.Notice.{Notice}
+use Rattle.gi_processing.specs.declared.rule.Rule.{Rule}
 use Rattle.gi_desk.specs.Deciding.{by_order, by_response, compared}
 use Rattle.gi_desk.specs.History.{capacity_of, frozen_cycle, frozen_table, state_of}
 use Rattle.gi_desk.specs.Judging.{by_decision, by_verdict, closed, contracted, delivered, noticed, submitted, verdict_on}
-use Rattle.gi_desk.specs.Kept.{is_state_of, states_of}
+use Rattle.gi_desk.specs.Caches.{is_state_of, states_of}
 use Rattle.gi_desk.specs.Machine.{DeskState, comes_to, is_record, would_record}
 use Rattle.gi_desk.specs.Writable.{FitsDesk, FitsFrozen, FitsState}
 use Rattle.gi_facts.specs.Writable.{FitsCycle, FitsFact, FitsProcessed}
@@ -78,8 +79,8 @@ contract_called side s contract e =
 notice_called : (side : Side) (s : DeskState) (notice : Notice) → would_record side s.point s.facts (Noticed notice) ≡ true → IsRecorded side s (Noticed notice)
 notice_called side s notice e = (calls.Notice notice, record_of (Noticed notice) (noticed notice) (of_fault (Noticed notice) (notice_refusal notice)) e)
 
-closing_called : (side : Side) (s : DeskState) (id : CycleId) → would_record side s.point s.facts (Closed id) ≡ true → IsRecorded side s (Closed id)
-closing_called side s id e = (calls.Close id, record_of (Closed id) (closed s.facts id) (of_closing s.facts id) e)
+closing_called : (side : Side) (s : DeskState) (id : CycleId) (rule : Rule) → would_record side s.point s.facts (Closed id rule) ≡ true → IsRecorded side s (Closed id rule)
+closing_called side s id rule e = (calls.Close id rule, record_of (Closed id rule) (closed s.facts id rule) (of_closing s.facts id rule) e)
 
 -- ---- nominations
 
@@ -90,7 +91,7 @@ nominated_by history document verdicts.Repeat e = absurd cc
 nominated_by history document (verdicts.Refused fault) e = absurd cc
 
 -- lines for the hours of a gas day
-lines_short : (hours : ℕ) (lines : List Line) → hours ≤ last_hour → has_hours hours lines ≡ true → All (λ line. length line.hours ≤ last_hour) lines
+lines_short : (hours : ℕ) (lines : List NominationLine) → hours ≤ last_hour → has_hours hours lines ≡ true → All (λ line. length line.hours ≤ last_hour) lines
 lines_short hours [] within whole = All-nil (λ line. length line.hours ≤ last_hour)
 lines_short hours (line ∷ lines) within whole =
     let both = and_parts (nat_eq (length line.hours) hours) (has_hours hours lines) whole in
@@ -107,7 +108,7 @@ nomination_called : (side : Side) (s : DeskState) (document : Nomint) → Fits (
     → IsRecorded side s (Nominated document)
 nomination_called side s document fits e =
     let message = messages.Nomint document in
-    let recorded = (and_parts _ _ (and_parts _ _ e).0).0 in (
+    let recorded = (and_parts _ _ (and_parts _ _ (and_parts _ _ e).0).0).0 in (
       calls.Submit (text_of message),
       ap (submitted s.point s.facts) (read_back message fits (few_lines side s document e)) ∙ nominated_by s.facts document (verdict_on s.point s.facts document) recorded,
     )
@@ -194,7 +195,7 @@ called : (side : Side) (s : DeskState) (fact : Fact) → FitsDesk side s.point s
 called side s (Contracted contract) desk fits e = contract_called side s contract e
 called side s (Noticed notice) desk fits e = notice_called side s notice e
 called side s (Nominated document) desk fits e = nomination_called side s document fits e
-called side s (Closed id) desk fits e = closing_called side s id e
+called side s (Closed id rule) desk fits e = closing_called side s id rule e
 called M s (Met id peer) desk fits e = order_called s id peer desk fits.0 fits.1 e
 called I s (Met id peer) desk fits e = response_called s id peer desk fits.0 fits.1 e
 

@@ -1,5 +1,6 @@
 -- How far the closed cycles are, after one more fact.
 use Rattle.std.proofs.Common.{◌≡◌, ◌+◌, ℕ, List, [], ◌∷◌, ◌++◌, map, Bool, true, false, cond, not, ◌||◌, Option, Some, None, find, filter_map, take_while, slice_get, slice_set, refl, sym, ap, ◌∙◌, subst, one-add}
+use Rattle.std.specs.Option.{option_map_or}
 use Rattle.std.specs.List.{list_any, cons_option, position_or_len}
 use Rattle.std.proofs.lemmas.Bool.{both_ways, false_from_ne_true, or_from, or_left, or_parts, or_right}
 use Rattle.std.proofs.lemmas.List.{append-nil, map_push}
@@ -10,11 +11,13 @@ use Rattle.gi_pairs.specs.Table.{TableContents}
 use Rattle.gi_pairs.specs.declared.cycle_id.CycleId.{CycleId}
 use Rattle.gi_pairs.specs.declared.side.Side.{Side}
 use Rattle.gi_processing.specs.Processing.{processed}
+use Rattle.gi_processing.specs.declared.rule.Rule.{Rule}
+use Rattle.gi_processing.specs.declared.rule.Rule.TheVariants.{One}
 use Rattle.gi_cycles.specs.States.{FrozenCycle, matched_of}
 use Rattle.gi_cycles.specs.declared.cycle_state.CycleState.{CycleState}
 use Rattle.gi_cycles.specs.declared.cycle_state.CycleState.TheVariants.{Frozen, Matched}
-use Rattle.gi_desk.specs.History.{capacity_of, documents_of, closing_in, closings, facts_before, frozen_cycle, frozen_table, is_closed, is_closing, met_by, peer_in, peer_of, state_of}
-use Rattle.gi_desk.specs.Kept.{changes_cycle, closed_state, id_of, is_state_of, states_of}
+use Rattle.gi_desk.specs.History.{capacity_of, documents_of, closing_in, closings, facts_before, frozen_cycle, frozen_table, is_closed, is_closing, met_by, peer_in, peer_of, rule_in, rule_of, state_of}
+use Rattle.gi_desk.specs.Caches.{changes_cycle, closed_state, id_of, is_state_of, states_of}
 use Rattle.gi_desk.specs.Machine.{bad_fact}
 use Rattle.gi_facts.specs.Same.{same_cycle}
 use Rattle.gi_facts.specs.declared.fact.Fact.{Fact}
@@ -50,7 +53,7 @@ found_among f of id (Contracted contract ∷ facts) = found_among f of id facts
 found_among f of id (Noticed notice ∷ facts) = found_among f of id facts
 found_among f of id (Nominated document ∷ facts) = found_among f of id facts
 found_among f of id (Met other peer ∷ facts) = found_among f of id facts
-found_among f of id (Closed other ∷ facts) =
+found_among f of id (Closed other rule ∷ facts) =
     ap (λ (other' : CycleId). cond (same_cycle other' id) (Some (f other)) (find (is_state_of id) (map f (filter_map closing_in facts)))) (of other)
     ∙ found_by (same_cycle other id) f id other (find (is_state_of id) (map f (filter_map closing_in facts))) (list_any (is_closing id) facts) refl (found_among f of id facts)
 
@@ -93,21 +96,21 @@ pub not_closing : (fact : Fact) (id : CycleId) → changes_cycle fact ≡ false 
 not_closing (Contracted contract) id e = refl
 not_closing (Noticed notice) id e = refl
 not_closing (Nominated document) id e = refl
-not_closing (Closed other) id e = absurd cc
+not_closing (Closed other rule) id e = absurd cc
 not_closing (Met other peer) id e = refl
 
 pub not_met : (fact : Fact) (id : CycleId) → changes_cycle fact ≡ false → peer_in id fact ≡ None
 not_met (Contracted contract) id e = refl
 not_met (Noticed notice) id e = refl
 not_met (Nominated document) id e = refl
-not_met (Closed other) id e = refl
+not_met (Closed other rule) id e = refl
 not_met (Met other peer) id e = absurd cc
 
 no_closings : (fact : Fact) → changes_cycle fact ≡ false → cons_option (closing_in fact) [] ≡ []
 no_closings (Contracted contract) e = refl
 no_closings (Noticed notice) e = refl
 no_closings (Nominated document) e = refl
-no_closings (Closed other) e = absurd cc
+no_closings (Closed other rule) e = absurd cc
 no_closings (Met other peer) e = absurd cc
 
 pub states-other : (side : Side) (facts : List Fact) (fact : Fact) → changes_cycle fact ≡ false → states_of side (facts ++ fact ∷ []) ≡ states_of side facts
@@ -126,7 +129,7 @@ agree_among f g (Contracted contract ∷ facts) same = agree_among f g facts sam
 agree_among f g (Noticed notice ∷ facts) same = agree_among f g facts same
 agree_among f g (Nominated document ∷ facts) same = agree_among f g facts same
 agree_among f g (Met other peer ∷ facts) same = agree_among f g facts same
-agree_among f g (Closed other ∷ facts) same =
+agree_among f g (Closed other rule ∷ facts) same =
     let here = same other (or_left (same_cycle other other) (list_any (is_closing other) facts) (same_cycle-self other)) in
     let rest = agree_among f g facts (λ id closed. same id (or_right (same_cycle other id) (list_any (is_closing id) facts) closed)) in
     λ i. here i ∷ rest i
@@ -139,50 +142,61 @@ all_before is (fact ∷ facts) last none here =
     ∙ ap (λ (b : Bool). cond (not b) (fact ∷ take_while (λ f. not (is f)) (facts ++ last ∷ [])) []) parts.0
     ∙ ap (λ (fs : List Fact). fact ∷ fs) (all_before is facts last parts.1 here)
 
-table_closed : (side : Side) (facts : List Fact) (id : CycleId) → is_closed id facts ≡ false
-    → frozen_table side (facts ++ Closed id ∷ []) id ≡ processed (capacity_of facts) (documents_of facts) side id.day id.cycle
+first_found : (is : Fact → Bool) (facts : List Fact) (last : Fact) → list_any is facts ≡ false → is last ≡ true → find is (facts ++ last ∷ []) ≡ Some last
+first_found is [] last none here = rw here refl
+first_found is (fact ∷ facts) last none here =
+    let parts = or_parts (is fact) (list_any is facts) none in
+    rw parts.0 (first_found is facts last parts.1 here)
+
+rule_closed : (facts : List Fact) (id : CycleId) (rule : Rule) → is_closed id facts ≡ false → rule_of id (facts ++ Closed id rule ∷ []) ≡ rule
+unfolding rule_of is_closed
+rule_closed facts id rule unclosed = ap (λ (o : Option Fact). option_map_or rule_in o One) (first_found (is_closing id) facts (Closed id rule) unclosed (same_cycle-self id))
+
+table_closed : (side : Side) (facts : List Fact) (id : CycleId) (rule : Rule) → is_closed id facts ≡ false
+    → frozen_table side (facts ++ Closed id rule ∷ []) id ≡ processed (capacity_of facts) (documents_of facts) side id.day id.cycle rule
 unfolding frozen_table facts_before is_closed
-table_closed side facts id unclosed =
-    ap (λ (before : List Fact). processed (capacity_of before) (documents_of before) side id.day id.cycle)
-    (all_before (is_closing id) facts (Closed id) unclosed (same_cycle-self id))
+table_closed side facts id rule unclosed =
+    let before = all_before (is_closing id) facts (Closed id rule) unclosed (same_cycle-self id) in
+    let own = rule_closed facts id rule unclosed in
+    λ i. processed (capacity_of (before i)) (documents_of (before i)) side id.day id.cycle (own i)
 
 -- what is frozen when a cycle is closed
-abbrev frozen_now : Side → List Fact → CycleId → FrozenCycle
-frozen_now side facts id = record { id = id; own = processed (capacity_of facts) (documents_of facts) side id.day id.cycle }
+abbrev frozen_now : Side → List Fact → CycleId → Rule → FrozenCycle
+frozen_now side facts id rule = record { id = id; own = processed (capacity_of facts) (documents_of facts) side id.day id.cycle rule }
 
-pub state-closed : (side : Side) (facts : List Fact) (id : CycleId) → is_closed id facts ≡ false → peer_of id facts ≡ None
-    → state_of side (facts ++ Closed id ∷ []) id ≡ Frozen (frozen_now side facts id)
+pub state-closed : (side : Side) (facts : List Fact) (id : CycleId) (rule : Rule) → is_closed id facts ≡ false → peer_of id facts ≡ None
+    → state_of side (facts ++ Closed id rule ∷ []) id ≡ Frozen (frozen_now side facts id rule)
 unfolding state_of
-state-closed side facts id unclosed none =
-    rw (is_closed-last facts id, peer_same facts (Closed id) id refl, none)
-    (ap (λ (own : TableContents). Frozen (record { id = id; own = own })) (table_closed side facts id unclosed))
+state-closed side facts id rule unclosed none =
+    rw (is_closed-last facts id rule, peer_same facts (Closed id rule) id refl, none)
+    (ap (λ (own : TableContents). Frozen (record { id = id; own = own })) (table_closed side facts id rule unclosed))
 
 -- a closing leaves the states of the other closed cycles as they were
-closing_other : (side : Side) (facts : List Fact) (id other : CycleId) → is_closed id facts ≡ false → is_closed other facts ≡ true
-    → state_of side (facts ++ Closed id ∷ []) other ≡ state_of side facts other
-closing_other side facts id other unclosed closed =
-    state-same side facts (Closed id) other
+closing_other : (side : Side) (facts : List Fact) (id : CycleId) (rule : Rule) (other : CycleId) → is_closed id facts ≡ false → is_closed other facts ≡ true
+    → state_of side (facts ++ Closed id rule ∷ []) other ≡ state_of side facts other
+closing_other side facts id rule other unclosed closed =
+    state-same side facts (Closed id rule) other
     (false_from_ne_true (same_cycle id other)
     (λ same. both_ways (is_closed id facts) unclosed (subst (λ (id : CycleId). is_closed id facts ≡ true) (sym (same_cycle-is id other same)) closed)))
     refl
 
-closing_others : (side : Side) (facts : List Fact) (id : CycleId) → is_closed id facts ≡ false
-    → map (state_of side (facts ++ Closed id ∷ [])) (closings facts) ≡ map (state_of side facts) (closings facts)
+closing_others : (side : Side) (facts : List Fact) (id : CycleId) (rule : Rule) → is_closed id facts ≡ false
+    → map (state_of side (facts ++ Closed id rule ∷ [])) (closings facts) ≡ map (state_of side facts) (closings facts)
 unfolding closings is_closed
-closing_others side facts id unclosed =
-    agree_among (state_of side (facts ++ Closed id ∷ [])) (state_of side facts) facts (λ other closed. closing_other side facts id other unclosed closed)
+closing_others side facts id rule unclosed =
+    agree_among (state_of side (facts ++ Closed id rule ∷ [])) (state_of side facts) facts (λ other closed. closing_other side facts id rule other unclosed closed)
 
-pub states-closed : (side : Side) (point : List ℕ) (facts : List Fact) (id : CycleId) → bad_fact side point (facts ++ Closed id ∷ []) ≡ None
-    → states_of side (facts ++ Closed id ∷ [])
-    ≡ states_of side facts ++ Frozen (record { id = id; own = processed (capacity_of facts) (documents_of facts) side id.day id.cycle }) ∷ []
+pub states-closed : (side : Side) (point : List ℕ) (facts : List Fact) (id : CycleId) (rule : Rule) → bad_fact side point (facts ++ Closed id rule ∷ []) ≡ None
+    → states_of side (facts ++ Closed id rule ∷ [])
+    ≡ states_of side facts ++ Frozen (record { id = id; own = processed (capacity_of facts) (documents_of facts) side id.day id.cycle rule }) ∷ []
 unfolding states_of
-states-closed side point facts id e =
-    let unclosed = recorded-closing side point facts id (legal-recorded side point facts (Closed id) [] e) in
-    let none = none_of facts id (unmet side point facts id (legal-before side point facts (Closed id) e) unclosed) in
-    let after = state_of side (facts ++ Closed id ∷ []) in
-    let others = closing_others side facts id unclosed in
-    let last = state-closed side facts id unclosed none in
-    ap (map after) (closings-more facts (Closed id)) ∙ map_push after (closings facts) id ∙ (λ i. others i ++ last i ∷ [])
+states-closed side point facts id rule e =
+    let unclosed = recorded-closing side point facts id rule (legal-recorded side point facts (Closed id rule) [] e) in
+    let none = none_of facts id (unmet side point facts id (legal-before side point facts (Closed id rule) e) unclosed) in
+    let after = state_of side (facts ++ Closed id rule ∷ []) in
+    let others = closing_others side facts id rule unclosed in
+    let last = state-closed side facts id rule unclosed none in
+    ap (map after) (closings-more facts (Closed id rule)) ∙ map_push after (closings facts) id ∙ (λ i. others i ++ last i ∷ [])
 
 -- ---- a meeting
 
@@ -210,21 +224,21 @@ meeting_other side facts id other peer differs =
 
 -- one closing of the cycle at most
 ClosesOne : CycleId → List Fact → Type 0
-ClosesOne id facts = (front back : List Fact) → facts ≡ front ++ Closed id ∷ back → list_any (is_closing id) back ≡ false
+ClosesOne id facts = (front back : List Fact) (rule : Rule) → facts ≡ front ++ Closed id rule ∷ back → list_any (is_closing id) back ≡ false
 
 later_set : (x : CycleState) (xs : List CycleState) (place : ℕ) (y : CycleState) → slice_set (x ∷ xs) (1 + place) y ≡ x ∷ slice_set xs place y
 later_set x xs place y = ap (λ (n : ℕ). slice_set (x ∷ xs) n y) (one-add place)
 
-meets_by : (b : Bool) (f g : CycleId → CycleState) (id other : CycleId) (facts : List Fact) (place : ℕ) → ((other : CycleId) → same_cycle other id ≡ false → g other ≡ f other)
-    → ClosesOne id (Closed other ∷ facts) → same_cycle other id ≡ b
+meets_by : (b : Bool) (f g : CycleId → CycleState) (id other : CycleId) (rule : Rule) (facts : List Fact) (place : ℕ) → ((other : CycleId) → same_cycle other id ≡ false → g other ≡ f other)
+    → ClosesOne id (Closed other rule ∷ facts) → same_cycle other id ≡ b
     → map g (filter_map closing_in facts) ≡ slice_set (map f (filter_map closing_in facts)) place (g id)
     → g other ∷ map g (filter_map closing_in facts) ≡ slice_set (f other ∷ map f (filter_map closing_in facts)) (cond (not b) (1 + place) 0) (g id)
 unfolding ClosesOne
-meets_by false f g id other facts place keeps once same e =
+meets_by false f g id other rule facts place keeps once same e =
     (λ i. keeps other same i ∷ e i) ∙ sym (later_set (f other) (map f (filter_map closing_in facts)) place (g id))
-meets_by true f g id other facts place keeps once same e =
+meets_by true f g id other rule facts place keeps once same e =
     let is = same_cycle-is other id same in
-    let closed_no_more = once [] facts (ap (λ (id : CycleId). Closed id ∷ facts) is) in
+    let closed_no_more = once [] facts rule (ap (λ (id : CycleId). Closed id rule ∷ facts) is) in
     let rest = agree_among g f facts
     (λ another closed.
     keeps another
@@ -240,18 +254,18 @@ meets_among : (f g : CycleId → CycleState) (id : CycleId) → ((id : CycleId) 
 unfolding ClosesOne
 meets_among f g id of keeps [] once = refl
 meets_among f g id of keeps (Contracted contract ∷ facts) once =
-    meets_among f g id of keeps facts (λ front back e. once (Contracted contract ∷ front) back (ap (λ (fs : List Fact). Contracted contract ∷ fs) e))
+    meets_among f g id of keeps facts (λ front back closed e. once (Contracted contract ∷ front) back closed (ap (λ (fs : List Fact). Contracted contract ∷ fs) e))
 meets_among f g id of keeps (Noticed notice ∷ facts) once =
-    meets_among f g id of keeps facts (λ front back e. once (Noticed notice ∷ front) back (ap (λ (fs : List Fact). Noticed notice ∷ fs) e))
+    meets_among f g id of keeps facts (λ front back closed e. once (Noticed notice ∷ front) back closed (ap (λ (fs : List Fact). Noticed notice ∷ fs) e))
 meets_among f g id of keeps (Nominated document ∷ facts) once =
-    meets_among f g id of keeps facts (λ front back e. once (Nominated document ∷ front) back (ap (λ (fs : List Fact). Nominated document ∷ fs) e))
+    meets_among f g id of keeps facts (λ front back closed e. once (Nominated document ∷ front) back closed (ap (λ (fs : List Fact). Nominated document ∷ fs) e))
 meets_among f g id of keeps (Met other peer ∷ facts) once =
-    meets_among f g id of keeps facts (λ front back e. once (Met other peer ∷ front) back (ap (λ (fs : List Fact). Met other peer ∷ fs) e))
-meets_among f g id of keeps (Closed other ∷ facts) once =
-    let rest = meets_among f g id of keeps facts (λ front back e. once (Closed other ∷ front) back (ap (λ (fs : List Fact). Closed other ∷ fs) e)) in
+    meets_among f g id of keeps facts (λ front back closed e. once (Met other peer ∷ front) back closed (ap (λ (fs : List Fact). Met other peer ∷ fs) e))
+meets_among f g id of keeps (Closed other rule ∷ facts) once =
+    let rest = meets_among f g id of keeps facts (λ front back closed e. once (Closed other rule ∷ front) back closed (ap (λ (fs : List Fact). Closed other rule ∷ fs) e)) in
     let states = map f (filter_map closing_in facts) in
     let place = position_or_len (is_state_of id) states in
-    meets_by (same_cycle other id) f g id other facts place keeps once refl rest
+    meets_by (same_cycle other id) f g id other rule facts place keeps once refl rest
     ∙ ap (λ (named : CycleId). slice_set (f other ∷ states) (cond (not (same_cycle named id)) (1 + place) 0) (g id)) (sym (of other))
 
 -- the place of the cycle among the closed ones
@@ -266,7 +280,7 @@ states-met side point facts id peer e =
     let meeting = recorded-meeting side point facts id peer (legal-recorded side point facts (Met id peer) [] e) in
     let legal = legal-before side point facts (Met id peer) e in
     let after = state_of side (facts ++ Met id peer ∷ []) in
-    let once : ClosesOne id facts = λ front back is. (closes-once side point front back id (subst (λ (all : List Fact). bad_fact side point all ≡ None) is legal)).1 in
+    let once : ClosesOne id facts = λ front back rule is. (closes-once side point front back id rule (subst (λ (all : List Fact). bad_fact side point all ≡ None) is legal)).1 in
     let ids = closings-more facts (Met id peer) ∙ append-nil (closings facts) in
     ap (map after) ids
     ∙ meets_among (state_of side facts) after id (id_of-state side facts) (λ other differs. meeting_other side facts id other peer differs) facts once

@@ -24,8 +24,8 @@ use Rattle.gi_pairs.specs.CycleId.{answered}
 use Rattle.gi_pairs.specs.Table.{TableContents}
 use Rattle.gi_pairs.specs.declared.cycle_id.CycleId.{CycleId}
 use Rattle.gi_pairs.specs.declared.side.Side.{Side}
-use Rattle.gi_desk.specs.History.{facts_before, is_closed, is_closing, is_meeting, last_closed, number_of, peer_of, state_of}
-use Rattle.gi_desk.specs.Kept.{closed_state}
+use Rattle.gi_desk.specs.History.{facts_before, is_closed, is_closing, is_meeting, last_closed, number_of, peer_of, state_of, rule_in}
+use Rattle.gi_desk.specs.Caches.{closed_state}
 use Rattle.gi_desk.specs.Machine.{bad_fact}
 use Rattle.gi_desk.specs.Stages.{AreStages, closed_stage, stage_at, stage_in}
 use Rattle.gi_desk.specs.declared.stage.Stage.{Stage}
@@ -36,6 +36,7 @@ use Rattle.gi_desk.proofs.CycleLaws.{none_of, recorded-below, unmet}
 use Rattle.gi_desk.proofs.LastClosed.{IsGreatest, last-greatest, one-greatest}
 use Rattle.gi_desk.proofs.Legality.{legal-recorded}
 use Rattle.gi_desk.proofs.StagesKept.{meets-any}
+use Rattle.gi_processing.specs.declared.rule.Rule.{Rule}
 
 -- ---- how far a cycle is
 
@@ -104,12 +105,13 @@ meeting-read side point facts id o legal is = ap (meeting_or (length facts + 1))
 
 -- a closed cycle was closed by a fact
 record IsClosedBy (id : CycleId) (facts : List Fact) : Type 0 where
+  rule : Rule
   front : List Fact
   back : List Fact
-  is : facts ≡ front ++ Closed id ∷ back
+  is : facts ≡ front ++ Closed id rule ∷ back
 
-closing_is : (id : CycleId) (fact : Fact) → is_closing id fact ≡ true → fact ≡ Closed id
-closing_is id (Closed other) e = ap (λ (c : CycleId). Closed c) (same_cycle-is other id e)
+closing_is : (id : CycleId) (fact : Fact) → is_closing id fact ≡ true → fact ≡ Closed id (rule_in fact)
+closing_is id (Closed other rule) e = ap (λ (c : CycleId). Closed c rule) (same_cycle-is other id e)
 closing_is id fact e = absurd cc
 
 closed_by : (id : CycleId) (facts : List Fact) → list_any (is_closing id) facts ≡ true → IsClosedBy id facts
@@ -117,16 +119,16 @@ closed_by id [] e = absurd cc
 closed_by id (fact ∷ facts) e = by_first (is_closing id fact) refl e (closed_by id facts)
   where
     by_first : (b : Bool) → is_closing id fact ≡ b → (b || list_any (is_closing id) facts) ≡ true → (list_any (is_closing id) facts ≡ true → IsClosedBy id facts) → IsClosedBy id (fact ∷ facts)
-    by_first true here any rest = record { front = []; back = facts; is = ap (λ (f : Fact). f ∷ facts) (closing_is id fact here) }
-    by_first false here any rest = let later = rest any in record { front = fact ∷ later.front; back = later.back; is = ap (λ (fs : List Fact). fact ∷ fs) later.is }
+    by_first true here any rest = record { rule = rule_in fact; front = []; back = facts; is = ap (λ (f : Fact). f ∷ facts) (closing_is id fact here) }
+    by_first false here any rest = let later = rest any in record { rule = later.rule; front = fact ∷ later.front; back = later.back; is = ap (λ (fs : List Fact). fact ∷ fs) later.is }
 
 -- its number is one that its gas day has
 closed_below : (side : Side) (point : List ℕ) (facts : List Fact) (id : CycleId) → bad_fact side point facts ≡ None → is_closed id facts ≡ true → id.cycle ≤ 255
 unfolding is_closed
 closed_below side point facts id legal closed =
     let by = closed_by id facts closed in
-    let recorded = legal-recorded side point by.front (Closed id) by.back (subst (λ (fs : List Fact). bad_fact side point fs ≡ None) by.is legal) in
-    let below = recorded-below side point by.front id recorded in
+    let recorded = legal-recorded side point by.front (Closed id by.rule) by.back (subst (λ (fs : List Fact). bad_fact side point fs ≡ None) by.is legal) in
+    let below = recorded-below side point by.front id by.rule recorded in
     let few : IsWithin 35 37 (cycle_count id.day) = (day_facts id.day).count_in in
     omega (arith, below, few)
 

@@ -14,11 +14,12 @@ use Rattle.gi_pairs.specs.Table.{TableContents}
 use Rattle.gi_pairs.specs.declared.cycle_id.CycleId.{CycleId}
 use Rattle.gi_pairs.specs.declared.side.Side.{Side}
 use Rattle.gi_processing.specs.Processing.{processed}
+use Rattle.gi_processing.specs.declared.rule.Rule.{Rule}
 use Rattle.gi_lesser.specs.Lesser.{HasShapeOf}
 use Rattle.gi_cycles.specs.States.{FrozenCycle, matched_of}
 use Rattle.gi_cycles.specs.declared.cycle_state.CycleState.TheVariants.{Frozen, Matched}
 use Rattle.gi_desk.specs.History.{capacity_of, documents_of, facts_before, frozen_cycle, frozen_table, is_closed, is_closing, is_meeting, number_of, peer_in, peer_of}
-use Rattle.gi_desk.specs.Kept.{changes_cycle}
+use Rattle.gi_desk.specs.Caches.{changes_cycle}
 use Rattle.gi_desk.specs.Machine.{bad_fact}
 use Rattle.gi_desk.specs.Stages.{AreStages, closed_stage, stage_at, stage_in}
 use Rattle.gi_desk.specs.declared.stage.Stage.{Stage}
@@ -100,17 +101,17 @@ stages-other side point facts fact entries other legal stages = record {
 none_meets : (o : Option TableContents) (n : ℕ) → o ≡ None → option_map (λ (peer : TableContents). n) o ≡ None
 none_meets o n e = ap (option_map (λ (peer : TableContents). n)) e
 
-stage-closed : (side : Side) (point : List ℕ) (facts : List Fact) (id : CycleId) (cycle : FrozenCycle) (number : ℕ) → bad_fact side point (facts ++ Closed id ∷ []) ≡ None
-    → cycle ≡ record { id = id; own = processed (capacity_of facts) (documents_of facts) side id.day id.cycle } → number ≡ length facts + 1
-    → closed_stage side (facts ++ Closed id ∷ []) id ≡ Some (record { state = Frozen cycle; closing = number; meeting = None })
+stage-closed : (side : Side) (point : List ℕ) (facts : List Fact) (id : CycleId) (rule : Rule) (cycle : FrozenCycle) (number : ℕ) → bad_fact side point (facts ++ Closed id rule ∷ []) ≡ None
+    → cycle ≡ record { id = id; own = processed (capacity_of facts) (documents_of facts) side id.day id.cycle rule } → number ≡ length facts + 1
+    → closed_stage side (facts ++ Closed id rule ∷ []) id ≡ Some (record { state = Frozen cycle; closing = number; meeting = None })
 unfolding is_closed
-stage-closed side point facts id cycle number e frozen number_is =
-    let unclosed = recorded-closing side point facts id (legal-recorded side point facts (Closed id) [] e) in
-    let none = none_of facts id (unmet side point facts id (legal-before side point facts (Closed id) e) unclosed) in
-    let state = state-closed side facts id unclosed none ∙ ap Frozen (sym frozen) in
-    let closing = number_of-last (is_closing id) facts (Closed id) unclosed (same_cycle-self id) ∙ sym number_is in
-    let meeting = none_meets (peer_of id (facts ++ Closed id ∷ [])) (number_of (is_meeting id) (facts ++ Closed id ∷ [])) (peer_same facts (Closed id) id refl ∙ none) in
-    ap (λ (b : Bool). cond b (Some (stage_at side (facts ++ Closed id ∷ []) id)) None) (is_closed-last facts id)
+stage-closed side point facts id rule cycle number e frozen number_is =
+    let unclosed = recorded-closing side point facts id rule (legal-recorded side point facts (Closed id rule) [] e) in
+    let none = none_of facts id (unmet side point facts id (legal-before side point facts (Closed id rule) e) unclosed) in
+    let state = state-closed side facts id rule unclosed none ∙ ap Frozen (sym frozen) in
+    let closing = number_of-last (is_closing id) facts (Closed id rule) unclosed (same_cycle-self id) ∙ sym number_is in
+    let meeting = none_meets (peer_of id (facts ++ Closed id rule ∷ [])) (number_of (is_meeting id) (facts ++ Closed id rule ∷ [])) (peer_same facts (Closed id rule) id refl ∙ none) in
+    ap (λ (b : Bool). cond b (Some (stage_at side (facts ++ Closed id rule ∷ []) id)) None) (is_closed-last facts id rule)
     ∙ (λ i. Some (record { state = state i; closing = closing i; meeting = meeting i }))
 
 -- what a map has once a name is put into it or the value of a name is changed
@@ -125,13 +126,13 @@ put_by side facts fact old new id other stage true is puts here at same =
 put_by side facts fact old new id other stage false is puts here at same =
     puts other ∙ ap (λ (b : Bool). cond b (Some stage) (stage_in old other)) is ∙ at ∙ sym (same (sym (name-same id other) ∙ is))
 
-pub stages-closed : (side : Side) (point : List ℕ) (facts : List Fact) (id : CycleId) (cycle : FrozenCycle) (number : ℕ) (old new : List (CycleId × Stage)) → bad_fact side point (facts ++ Closed id ∷ []) ≡ None
-    → AreStages side point facts old → cycle ≡ record { id = id; own = processed (capacity_of facts) (documents_of facts) side id.day id.cycle } → number ≡ length facts + 1
-    → Puts old new id (record { state = Frozen cycle; closing = number; meeting = None }) → AreStages side point (facts ++ Closed id ∷ []) new
-stages-closed side point facts id cycle number old new e stages frozen number_is puts = record {
+pub stages-closed : (side : Side) (point : List ℕ) (facts : List Fact) (id : CycleId) (rule : Rule) (cycle : FrozenCycle) (number : ℕ) (old new : List (CycleId × Stage)) → bad_fact side point (facts ++ Closed id rule ∷ []) ≡ None
+    → AreStages side point facts old → cycle ≡ record { id = id; own = processed (capacity_of facts) (documents_of facts) side id.day id.cycle rule } → number ≡ length facts + 1
+    → Puts old new id (record { state = Frozen cycle; closing = number; meeting = None }) → AreStages side point (facts ++ Closed id rule ∷ []) new
+stages-closed side point facts id rule cycle number old new e stages frozen number_is puts = record {
   legal = e;
-  at = λ other. put_by side facts (Closed id) old new id other (record { state = Frozen cycle; closing = number; meeting = None }) (is_at (answered id) other) refl puts
-      (stage-closed side point facts id cycle number e frozen number_is) (stages.at other) (λ differs. stage-same side facts (Closed id) other differs refl);
+  at = λ other. put_by side facts (Closed id rule) old new id other (record { state = Frozen cycle; closing = number; meeting = None }) (is_at (answered id) other) refl puts
+      (stage-closed side point facts id rule cycle number e frozen number_is) (stages.at other) (λ differs. stage-same side facts (Closed id rule) other differs refl);
 }
 
 -- ---- a meeting

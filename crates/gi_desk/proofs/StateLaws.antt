@@ -1,5 +1,6 @@
 -- What later facts leave as it was.
-use Rattle.std.proofs.Common.{arith, ◌≡◌, ℕ, ◌≤◌, List, [], ◌∷◌, ◌++◌, length, Bool, true, false, not, cond, ◌||◌, Option, Some, None, refl, sym, ap, ◌∙◌, subst}
+use Rattle.std.proofs.Common.{arith, ◌≡◌, ℕ, ◌≤◌, List, [], ◌∷◌, ◌++◌, length, Bool, true, false, not, cond, ◌||◌, Option, Some, None, find, refl, sym, ap, ◌∙◌, subst}
+use Rattle.std.specs.Option.{option_map_or}
 use Rattle.std.specs.Prelude.{take_while, filter_map, slice_get}
 use Rattle.std.specs.List.{list_any, cons_option}
 use Rattle.std.proofs.lemmas.List.{take-append-le}
@@ -8,7 +9,8 @@ use Rattle.gi_pairs.specs.Table.{TableContents}
 use Rattle.gi_pairs.specs.declared.cycle_id.CycleId.{CycleId}
 use Rattle.gi_pairs.specs.declared.side.Side.{Side}
 use Rattle.gi_processing.specs.Processing.{processed}
-use Rattle.gi_desk.specs.History.{capacity_of, documents_of, facts_before, frozen_cycle, frozen_table, is_closed, is_closing, met_by, number_of, peer_in, peer_of, state_of}
+use Rattle.gi_processing.specs.declared.rule.Rule.TheVariants.{One}
+use Rattle.gi_desk.specs.History.{capacity_of, documents_of, facts_before, frozen_cycle, frozen_table, is_closed, is_closing, met_by, number_of, peer_in, peer_of, rule_in, rule_of, state_of}
 use Rattle.gi_desk.specs.LetOut.{let_out}
 use Rattle.gi_facts.specs.declared.fact.Fact.{Fact}
 
@@ -37,11 +39,27 @@ pub facts_before-more : (is : Fact → Bool) (facts more : List Fact) → list_a
 unfolding facts_before
 facts_before-more is facts more any = before-more is facts more any
 
+-- the rule by which a cycle was closed
+find_by : (is : Fact → Bool) (fact : Fact) (b : Bool) (facts more : List Fact) → is fact ≡ b → (list_any is facts ≡ true → find is (facts ++ more) ≡ find is facts) → (b || list_any is facts) ≡ true
+    → cond b (Some fact) (find is (facts ++ more)) ≡ cond b (Some fact) (find is facts)
+find_by is fact true facts more e rest any = refl
+find_by is fact false facts more e rest any = rest any
+
+find-more : (is : Fact → Bool) (facts more : List Fact) → list_any is facts ≡ true → find is (facts ++ more) ≡ find is facts
+find-more is [] more any = absurd cc
+find-more is (fact ∷ facts) more any = find_by is fact (is fact) facts more refl (find-more is facts more) any
+
+pub rule_of-more : (id : CycleId) (facts more : List Fact) → is_closed id facts ≡ true → rule_of id (facts ++ more) ≡ rule_of id facts
+unfolding rule_of is_closed
+rule_of-more id facts more closed = ap (λ (o : Option Fact). option_map_or rule_in o One) (find-more (is_closing id) facts more closed)
+
 -- the frozen quantities of a closed cycle
 pub frozen_table-more : (side : Side) (facts more : List Fact) (id : CycleId) → is_closed id facts ≡ true → frozen_table side (facts ++ more) id ≡ frozen_table side facts id
 unfolding frozen_table is_closed
 frozen_table-more side facts more id closed =
-    ap (λ before. processed (capacity_of before) (documents_of before) side id.day id.cycle) (facts_before-more (is_closing id) facts more closed)
+    let before = facts_before-more (is_closing id) facts more closed in
+    let rule = rule_of-more id facts more closed in
+    λ i. processed (capacity_of (before i)) (documents_of (before i)) side id.day id.cycle (rule i)
 
 -- a closed cycle stays closed
 any_by : {X : Type 0} (test : X → Bool) (b : Bool) (xs ys : List X) → (list_any test xs ≡ true → list_any test (xs ++ ys) ≡ true) → (b || list_any test xs) ≡ true → (b || list_any test (xs ++ ys)) ≡ true

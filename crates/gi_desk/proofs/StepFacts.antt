@@ -10,7 +10,7 @@ use Rattle.gi_pairs.proofs.Building.{in_from_contains}
 use Rattle.gi_lesser.specs.Lesser.{lesser_of}
 use Rattle.gi_messages.specs.declared.message.Message.TheVariants as messages
 use Rattle.gi_desk.specs.History.{frozen_table, is_closed, is_closing, is_meeting, number_of, peer_of}
-use Rattle.gi_desk.specs.Kept.{CanFollow, changes_cycle}
+use Rattle.gi_desk.specs.Caches.{CanFollow, changes_cycle}
 use Rattle.gi_desk.specs.Laws.{HasOneMoreAtMost}
 use Rattle.gi_desk.specs.LetOut.{let_out, packets_of}
 use Rattle.gi_desk.specs.Machine.{DeskState, after, answer_of, bad_fact, is_for_peer, next_of, out_of, outcome, reply, saved_out}
@@ -126,7 +126,7 @@ orders-only-of-cycles side point history (facts.Contracted contract) packet ther
 orders-only-of-cycles side point history (facts.Noticed notice) packet there peer = absurd (in_none packet there)
 orders-only-of-cycles side point history (facts.Nominated document) packet there peer =
     absurd (for_user (to_user document.portfolio (messages.Acknow (acknow_of document))) packet refl there peer)
-orders-only-of-cycles side point history (facts.Closed id) packet there peer = refl
+orders-only-of-cycles side point history (facts.Closed id rule) packet there peer = refl
 orders-only-of-cycles side point history (facts.Met id table) packet there peer = refl
 
 -- ---- legal facts

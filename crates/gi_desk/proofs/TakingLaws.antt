@@ -64,7 +64,7 @@ unfolding documents_of
 no_taking (Contracted contract) document none = refl
 no_taking (Noticed notice) document none = refl
 no_taking (Nominated other) document none = absurd cc
-no_taking (Closed id) document none = refl
+no_taking (Closed id rule) document none = refl
 no_taking (Met id peer) document none = refl
 
 rising-other : (facts : List Fact) (fact : Fact) → documents_of (fact ∷ []) ≡ [] → AreRising facts → AreRising (facts ++ fact ∷ [])
@@ -143,7 +143,7 @@ rising-recorded : (side : Side) (point : List ℕ) (facts : List Fact) (fact : F
 unfolding documents_of
 rising-recorded side point facts (Contracted contract) e rises = rising-other facts (Contracted contract) refl rises
 rising-recorded side point facts (Noticed notice) e rises = rising-other facts (Noticed notice) refl rises
-rising-recorded side point facts (Closed id) e rises = rising-other facts (Closed id) refl rises
+rising-recorded side point facts (Closed id rule) e rises = rising-other facts (Closed id rule) refl rises
 rising-recorded side point facts (Met id peer) e rises = rising-other facts (Met id peer) refl rises
 rising-recorded side point facts (Nominated document) e rises = rising-taken facts document (recorded-newer side point facts document e) rises
 
@@ -260,7 +260,7 @@ same_taking : (held document : Nomint) → held.portfolio ≡ document.portfolio
 same_taking held document portfolio day version (Contracted contract) = refl
 same_taking held document portfolio day version (Noticed notice) = refl
 same_taking held document portfolio day version (Nominated other) = λ t. is_of (portfolio t) (day t) other && nat_eq other.version (sym version t)
-same_taking held document portfolio day version (Closed id) = refl
+same_taking held document portfolio day version (Closed id rule) = refl
 same_taking held document portfolio day version (Met id peer) = refl
 
 find_passes : {X : Type 0} (p : X → Bool) (xs : List X) (x : X) → find p xs ≡ Some x → p x ≡ true

@@ -12,7 +12,7 @@ use Rattle.gi_cycles.specs.States.{FrozenCycle, matched_of}
 use Rattle.gi_cycles.specs.declared.cycle_state.CycleState.{CycleState}
 use Rattle.gi_cycles.specs.declared.cycle_state.CycleState.TheVariants.{Collecting, Frozen}
 use Rattle.gi_desk.specs.History.{frozen_cycle, is_closed, is_meeting, met_by, number_of, peer_of, state_of}
-use Rattle.gi_desk.specs.Kept.{closed_state}
+use Rattle.gi_desk.specs.Caches.{closed_state}
 use Rattle.gi_desk.specs.LetOut.{let_out}
 use Rattle.gi_desk.specs.Machine.{DeskState, bad_fact}
 use Rattle.gi_desk.specs.Queries.{matched_in, met_saved, outgoing}

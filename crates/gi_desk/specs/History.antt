@@ -1,6 +1,7 @@
 -- What a list of facts says. A definition that speaks of a place in a list takes the facts before that place.
 use Rattle.std.specs.Prelude.{ℕ, ◌+◌, List, length, take_while, filter_map, find, reverse, slice_get, Bool, false, not, nat_eq, ◌&&◌, if◌then◌else◌, Option, Some, None, option_map}
 use Rattle.std.specs.List.{list_any}
+use Rattle.std.specs.Option.{option_map_or}
 use Rattle.jiff_core.specs.declared.civil.date.Date.{Date}
 use Rattle.gi_day.specs.SameDay.{same_day}
 use Rattle.gi_pairs.specs.Table.{TableContents}
@@ -12,6 +13,8 @@ use Rattle.gi_processing.specs.Capacity.{Capacity}
 use Rattle.gi_processing.specs.Processing.{processed}
 use Rattle.gi_processing.specs.declared.contract.Contract.{Contract}
 use Rattle.gi_processing.specs.declared.notice.Notice.{Notice}
+use Rattle.gi_processing.specs.declared.rule.Rule.{Rule}
+use Rattle.gi_processing.specs.declared.rule.Rule.TheVariants.{One}
 use Rattle.gi_cycles.specs.States.{FrozenCycle, matched_of}
 use Rattle.gi_cycles.specs.declared.cycle_state.CycleState.{CycleState}
 use Rattle.gi_cycles.specs.declared.cycle_state.CycleState.TheVariants.{Collecting, Frozen, Matched}
@@ -39,10 +42,10 @@ capacity_of facts = record { contracts = filter_map contract_in facts; notices =
 unfoldable pub documents_of : List Fact → List Nomint
 documents_of facts = filter_map document_in facts
 
--- the fact is the closing of the cycle, the meeting of the cycle, and the taking of a nomination of that portfolio, gas
+-- the fact is the closing of the cycle, by whatever rule, the meeting of the cycle, and the taking of a nomination of that portfolio, gas
 -- day and version
 abbrev pub is_closing : CycleId → Fact → Bool
-is_closing id (Closed other) = same_cycle other id
+is_closing id (Closed other rule) = same_cycle other id
 is_closing id fact = false
 
 abbrev pub is_meeting : CycleId → Fact → Bool
@@ -63,7 +66,7 @@ number_of is facts = length (facts_before is facts) + 1
 
 -- the cycles closed, in the order of their closings
 abbrev pub closing_in : Fact → Option CycleId
-closing_in (Closed id) = Some id
+closing_in (Closed id rule) = Some id
 closing_in fact = None
 
 unfoldable pub closings : List Fact → List CycleId
@@ -76,9 +79,18 @@ is_closed id facts = list_any (is_closing id) facts
 unfoldable pub last_closed : Date → List Fact → Option ℕ
 last_closed day facts = option_map (λ id. id.cycle) (find (λ id. same_day id.day day) (reverse (closings facts)))
 
--- The frozen quantities of a side and a cycle: the processed quantities of the facts before its closing.
+-- the rule of a closing, and that by which a cycle is closed: that of its first closing, and rule 1 where there is none
+abbrev pub rule_in : Fact → Rule
+rule_in (Closed id rule) = rule
+rule_in fact = One
+
+unfoldable pub rule_of : CycleId → List Fact → Rule
+rule_of id facts = option_map_or rule_in (find (is_closing id) facts) One
+
+-- The frozen quantities of a side and a cycle: the processed quantities of the facts before its closing, by the rule of it.
 unfoldable pub frozen_table : Side → List Fact → CycleId → TableContents
-frozen_table side facts id = let before = facts_before (is_closing id) facts in processed (capacity_of before) (documents_of before) side id.day id.cycle
+frozen_table side facts id =
+    let before = facts_before (is_closing id) facts in processed (capacity_of before) (documents_of before) side id.day id.cycle (rule_of id facts)
 
 -- the peer's table that the cycle met
 abbrev pub peer_in : CycleId → Fact → Option TableContents

@@ -18,6 +18,7 @@ use Rattle.gi_processing.specs.declared.contract.Contract.{Contract}
 use Rattle.gi_processing.specs.declared.notice.Notice.{Notice}
 use Rattle.gi_processing.specs.declared.notice_fault.NoticeFault.{NoticeFault}
 use Rattle.gi_processing.specs.declared.notice_fault.NoticeFault.TheVariants as notices
+use Rattle.gi_processing.specs.declared.rule.Rule.{Rule}
 use Rattle.gi_desk.specs.Deciding.{address_of, decision}
 use Rattle.gi_desk.specs.History.{capacity_of, documents_of, is_closed, is_closing, is_meeting, is_taking, last_closed, number_of, state_of}
 use Rattle.gi_facts.specs.Same.{same_fact}
@@ -73,11 +74,11 @@ abbrev pub unless_later : ℕ → Option ℕ → Outcome → Outcome
 unless_later cycle None outcome = outcome
 unless_later cycle (Some last) outcome = if nat_lt cycle last then Refuses (OutOfOrder last) else outcome
 
-abbrev pub closed : List Fact → CycleId → Outcome
-closed history id =
+abbrev pub closed : List Fact → CycleId → Rule → Outcome
+closed history id rule =
     if not (nat_lt id.cycle (cycle_count id.day)) then Refuses NoSuchCycle
     else (if is_closed id history then Refuses AlreadyClosed
-    else unless_later id.cycle (last_closed id.day history) (Records (facts.Closed id)))
+    else unless_later id.cycle (last_closed id.day history) (Records (facts.Closed id rule)))
 
 -- the peer's message, of a kind that is for the side and for the desk's own point
 abbrev pub by_decision : List Fact → CycleId → Decision → Outcome

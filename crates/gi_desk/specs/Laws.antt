@@ -4,9 +4,10 @@ use Rattle.gi_pairs.specs.Table.{TableContents}
 use Rattle.gi_pairs.specs.declared.cycle_id.CycleId.{CycleId}
 use Rattle.gi_pairs.specs.declared.side.Side.{Side}
 use Rattle.gi_messages.specs.declared.message.Nomint.{Nomint}
+use Rattle.gi_processing.specs.declared.rule.Rule.{Rule}
 use Rattle.gi_nominations.specs.Book.{in_force, is_of}
 use Rattle.gi_desk.specs.History.{documents_of, frozen_table, is_closed, peer_of, state_of}
-use Rattle.gi_desk.specs.Kept.{changes_cycle}
+use Rattle.gi_desk.specs.Caches.{changes_cycle}
 use Rattle.gi_desk.specs.LetOut.{let_out, packets_of}
 use Rattle.gi_desk.specs.Machine.{DeskState, after as state_after, bad_fact, comes_to, is_for_peer, reply, started_again, would_record}
 use Rattle.gi_desk.specs.Queries.{confirmed}
@@ -38,7 +39,7 @@ MatchesForGood =
 -- Of facts that a desk would record in turn, one at most closes a cycle.
 abbrev pub ClosesOnce : Type 0
 ClosesOnce =
-    (side : Side) (point : List ℕ) (before after : List Fact) (id : CycleId) → bad_fact side point (before ++ Closed id ∷ after) ≡ None
+    (side : Side) (point : List ℕ) (before after : List Fact) (id : CycleId) (rule : Rule) → bad_fact side point (before ++ Closed id rule ∷ after) ≡ None
     → (is_closed id before ≡ false) × (is_closed id after ≡ false)
 
 -- One at most meets it, and that one stands after the closing.

@@ -1,6 +1,6 @@
 -- What a saved fact lets out: an acknowledgement of a nomination, the initiating side's order of a closing, and of a
 -- meeting the matching side's response and what each portfolio is told.
-use Rattle.std.specs.Prelude.{◌≡◌, ◌≤◌, ℕ, ◌-◌, List, [], ◌∷◌, ◌++◌, get_or, length, take, slice_get, Option, Some, None}
+use Rattle.std.specs.Prelude.{◌≡◌, ◌≤◌, ℕ, ◌-◌, List, [], ◌∷◌, ◌++◌, get_or, length, map, take, slice_get, Option, Some, None}
 use Rattle.gi_pairs.specs.declared.side.Side.{Side}
 use Rattle.gi_messages.specs.declared.message.Message.{Message}
 use Rattle.gi_messages.specs.declared.message.Message.TheVariants as messages
@@ -13,16 +13,16 @@ use Rattle.gi_facts.specs.declared.fact.Fact.{Fact}
 use Rattle.gi_facts.specs.declared.fact.Fact.TheVariants.{Contracted, Noticed, Nominated, Closed, Met}
 use Rattle.gi_desk.specs.declared.packet.Packet.{Packet}
 
-abbrev pub sent : Option Message → List Packet
-sent None = []
-sent (Some message) = to_peer message ∷ []
+-- the packets of messages to the peer, in order
+abbrev pub sent : List Message → List Packet
+sent = map to_peer
 
 -- what a fact lets out, at the end of these facts, of which it is the last
 abbrev pub packets_of : Side → List ℕ → List Fact → Fact → List Packet
 packets_of side point facts (Contracted contract) = []
 packets_of side point facts (Noticed notice) = []
 packets_of side point facts (Nominated document) = to_user document.portfolio (messages.Acknow (acknow_of document)) ∷ []
-packets_of side point facts (Closed id) = sent (on_closed side point (frozen_cycle side facts id))
+packets_of side point facts (Closed id rule) = sent (on_closed side point (frozen_cycle side facts id))
 packets_of side point facts (Met id peer) =
     let cycle = matched_of (frozen_cycle side facts id) peer in sent (on_met side point cycle) ++ told_packets side point cycle
 

@@ -4,11 +4,11 @@ pub mod Deciding
 pub mod LetOut
 pub mod Judging
 pub mod Machine
-pub mod Kept
+pub mod Caches
 pub mod Queries
 pub mod Writable
 pub mod Stages
 pub mod Takings
-pub mod DeskKept
+pub mod DeskRepr
 pub mod FaultText
 pub mod Laws

@@ -1,11 +1,13 @@
 -- The desk as a machine: its state is a list of facts, how many of them are saved, and whether it is halted. Every
 -- answer, every packet and the next state are functions of the state and the call.
 use Rattle.std.specs.Prelude.{◌≡◌, ℕ, ◌+◌, List, [], ◌∷◌, ◌++◌, length, take, filter, Bool, true, false, not, ◌&&◌, ◌||◌, nat_le, nat_lt, IsTrue, ◌⊎◌, if◌then◌else◌, Option, Some, None, Result, Ok, Err}
+use Rattle.std.specs.List.{list_all}
 use Rattle.std.specs.Str.{is_utf8}
 use Rattle.gi_pairs.specs.Limits.{most_processed_rows}
 use Rattle.gi_pairs.specs.declared.side.Side.{Side}
 use Rattle.gi_messages.specs.Decoding.{decoded}
-use Rattle.gi_messages.specs.Limits.{last_version, most_bytes}
+use Rattle.gi_messages.specs.Limits.{last_priority, last_version, most_bytes}
+use Rattle.gi_messages.specs.declared.nomination_line.NominationLine.{NominationLine}
 use Rattle.gi_desk.specs.Deciding.{by_order}
 use Rattle.gi_desk.specs.History.{is_closing, is_meeting, number_of, state_of}
 use Rattle.gi_desk.specs.Judging.{by_decision, closed, contracted, delivered, marked, nominated, noticed, resent, submitted}
@@ -46,7 +48,7 @@ abbrev pub comes_to : Side → DeskState → Call → Outcome
 comes_to side s (Contract contract) = contracted s.facts contract
 comes_to side s (Notice notice) = noticed notice
 comes_to side s (Submit body) = submitted s.point s.facts (decoded body)
-comes_to side s (Close id) = closed s.facts id
+comes_to side s (Close id rule) = closed s.facts id rule
 comes_to side s (Deliver body) = delivered side s.point s.facts (decoded body)
 comes_to side s (Resend id) = resent s.facts s.saved id
 comes_to side s (MarkSaved n fact) = marked s.facts s.saved n fact
@@ -124,7 +126,7 @@ abbrev pub learns_with_memory : Call → Bool
 learns_with_memory (Contract contract) = false
 learns_with_memory (Notice notice) = false
 learns_with_memory (Submit body) = can_be_read body
-learns_with_memory (Close id) = false
+learns_with_memory (Close id rule) = false
 learns_with_memory (Deliver body) = can_be_read body
 learns_with_memory (Resend id) = false
 learns_with_memory (MarkSaved n fact) = false
@@ -162,13 +164,17 @@ IsStep side old call r new =
 abbrev pub IsForeseen : Side → DeskState → Call → Reply → Type 0
 IsForeseen side s call r = (r ≡ reply side s call) ⊎ ((r ≡ out_of_memory) × IsTrue (may_want_to_prepare side s call))
 
+-- whether a line has a priority that a text can name
+abbrev pub has_priority : NominationLine → Bool
+has_priority line = nat_le 1 line.priority && nat_le line.priority last_priority
+
 -- whether a desk with these facts would record the fact for some call
 abbrev pub would_record : Side → List ℕ → List Fact → Fact → Bool
 would_record side point history (facts.Contracted contract) = is_record (contracted history contract)
 would_record side point history (facts.Noticed notice) = is_record (noticed notice)
 would_record side point history (facts.Nominated document) =
-    is_record (nominated point history document) && nat_le 1 document.version && nat_le document.version last_version
-would_record side point history (facts.Closed id) = is_record (closed history id)
+    is_record (nominated point history document) && nat_le 1 document.version && nat_le document.version last_version && list_all has_priority document.lines
+would_record side point history (facts.Closed id rule) = is_record (closed history id rule)
 would_record side point history (facts.Met id peer) =
     is_record (by_decision history id (by_order peer (state_of side history id))) && nat_le (length peer.rows) most_processed_rows
 

@@ -1,5 +1,5 @@
 -- The messages that a desk writes, and the packets that carry them.
-use Rattle.std.specs.Prelude.{ℕ, List, [], ◌∷◌, map, filter, Bool, Option, Some, None, if◌then◌else◌}
+use Rattle.std.specs.Prelude.{ℕ, List, [], ◌∷◌, map, filter, Bool, if◌then◌else◌}
 use Rattle.std.specs.Ordering.{is_lt}
 use Rattle.std.specs.Str.{bytes_eq}
 use Rattle.gi_pairs.specs.Key.{code_cmp}
@@ -73,11 +73,11 @@ told_of side point cycle portfolio = record {
 unfoldable pub told_packets : Side → List ℕ → MatchedCycle → List Packet
 told_packets side point cycle = map (λ portfolio. to_user portfolio (messages.Nomres (told_of side point cycle portfolio))) (portfolios_in side cycle.confirmed.rows)
 
--- what a role writes to its peer when a cycle is closed, and when it is met
-abbrev pub on_closed : Side → List ℕ → FrozenCycle → Option Message
-on_closed I point cycle = Some (messages.Delord (order_of point cycle))
-on_closed M point cycle = None
+-- what a role writes to its peer when a cycle is closed, and when it is met, in order
+abbrev pub on_closed : Side → List ℕ → FrozenCycle → List Message
+on_closed I point cycle = messages.Delord (order_of point cycle) ∷ []
+on_closed M point cycle = []
 
-abbrev pub on_met : Side → List ℕ → MatchedCycle → Option Message
-on_met I point cycle = None
-on_met M point cycle = Some (messages.Delres (response_of point cycle))
+abbrev pub on_met : Side → List ℕ → MatchedCycle → List Message
+on_met I point cycle = []
+on_met M point cycle = messages.Delres (response_of point cycle) ∷ []

@@ -10,7 +10,7 @@ use Rattle.gi_messages.specs.declared.message.Nomres.{Nomres}
 use Rattle.gi_cycles.specs.States.{MatchedCycle, matched_of}
 use Rattle.gi_cycles.specs.declared.cycle_state.CycleState.{CycleState}
 use Rattle.gi_cycles.specs.declared.cycle_state.CycleState.TheVariants as states
-use Rattle.gi_desk.specs.History.{frozen_cycle, frozen_table, peer_of}
+use Rattle.gi_desk.specs.History.{frozen_cycle, frozen_table, is_closed, is_closing, is_meeting, number_of, peer_of}
 use Rattle.gi_desk.specs.LetOut.{let_out}
 use Rattle.gi_desk.specs.Machine.{DeskState}
 use Rattle.gi_desk.specs.Messages.{is_row_of, told_of}
@@ -35,6 +35,27 @@ acknowledged s n = nat_le 1 n && nat_le n s.saved
 -- The confirmed table of a cycle: where a saved fact met the peer's table, the lesser of the frozen one and it.
 unfoldable pub confirmed : Side → DeskState → CycleId → Option TableContents
 confirmed side s id = option_map (lesser_of (frozen_table side s.facts id)) (peer_of id (take s.saved s.facts))
+
+-- the number of the fact that closed a cycle
+abbrev pub closing : List Fact → CycleId → Option ℕ
+closing facts id = if is_closed id facts then Some (number_of (is_closing id) facts) else None
+
+-- the frozen table of a closed cycle
+abbrev pub own_in : CycleState → Option TableContents
+own_in (states.Collecting id) = None
+own_in (states.Frozen cycle) = Some cycle.own
+own_in (states.Matched cycle) = Some cycle.own
+
+unfoldable pub frozen : Side → List Fact → CycleId → Option TableContents
+frozen side facts id = if is_closed id facts then Some (frozen_table side facts id) else None
+
+-- the number of the fact by which a cycle met the peer's table, and that table
+abbrev pub peer_in : CycleState → Option TableContents
+peer_in (states.Matched cycle) = Some cycle.peer
+peer_in state = None
+
+unfoldable pub meeting : List Fact → CycleId → Option (ℕ × TableContents)
+meeting facts id = option_map (λ peer. (number_of (is_meeting id) facts, peer)) (peer_of id facts)
 
 -- how far a cycle is
 abbrev pub stage_of : CycleState → StageName

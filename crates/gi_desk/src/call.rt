@@ -3,7 +3,7 @@ ghost use Rattle.std.specs.Prelude.{◌≡◌, IfOk};
 use crate::packet::Body;
 use gi_facts::Fact;
 use gi_pairs::CycleId;
-use gi_processing::{Contract, Notice};
+use gi_processing::{Contract, Notice, Rule};
 use std::alloc::AllocError;
 
 /// What a desk is asked.
@@ -15,8 +15,8 @@ pub enum Call {
     Notice(Notice),
     /// Take a shipper's nomination, in these bytes.
     Submit(Body),
-    /// Close a cycle.
-    Close(CycleId),
+    /// Close a cycle by a rule.
+    Close { id: CycleId, rule: Rule },
     /// Take the peer's message, in these bytes.
     Deliver(Body),
     /// Let out again what a cycle let out.
@@ -36,7 +36,10 @@ impl Call {
             Call::Contract(contract) => Call::Contract(*contract),
             Call::Notice(notice) => Call::Notice(*notice),
             Call::Submit(body) => Call::Submit(body.copy()?),
-            Call::Close(id) => Call::Close(*id),
+            Call::Close { id, rule } => Call::Close {
+                id: *id,
+                rule: *rule,
+            },
             Call::Deliver(body) => Call::Deliver(body.copy()?),
             Call::Resend(id) => Call::Resend(*id),
             Call::MarkSaved { n, fact } => Call::MarkSaved {

@@ -14,7 +14,7 @@ pub(crate) fn record_contract(
 ) -> Result<(), AllocError>
     requires { is_refused contract contracts.now.contracts ≡ false }
     ensures added { OnOk result (RecordsContract contracts.old contracts.new contract) }
-    ensures kept { OnErr result (contracts.new ≡ contracts.old) }
+    ensures unchanged { OnErr result (contracts.new ≡ contracts.old) }
 {
     match contracts.set(contract) {
         Ok(()) => Ok(()),
@@ -30,7 +30,7 @@ pub(crate) fn record_notice(
 ) -> Result<(), AllocError>
     requires { notice_refusal notice ≡ None }
     ensures added { OnOk result (RecordsNotice contracts.old contracts.new notice) }
-    ensures kept { OnErr result (contracts.new ≡ contracts.old) }
+    ensures unchanged { OnErr result (contracts.new ≡ contracts.old) }
 {
     let Ok(frame) = calendar.frame(notice.day) else {
         unreachable!()

@@ -43,14 +43,14 @@ pub struct Desk<R: Role> {
 }
 
 impl<R: Role> Model for Desk<R> {
-    ghost use Rattle.gi_desk.specs.DeskKept.{IsKept};
+    ghost use Rattle.gi_desk.specs.DeskRepr.{DeskInvariant};
     ghost use Rattle.gi_desk.specs.Machine.{DeskState};
 
     ghost Value = { DeskState };
 
     ghost view = { λ d. record { point = d.point; facts = d.facts.items; saved = d.saved; halted = d.halted } };
 
-    ghost invariant = { λ d. IsKept R.SIDE d.point d.facts.items d.stages.entries d.book d.contracts d.takings.entries d.saved };
+    ghost invariant = { λ d. DeskInvariant R.SIDE d.point d.facts.items d.stages.entries d.book d.contracts d.takings.entries d.saved };
 }
 
 impl<R: Role> Desk<R> {
@@ -76,7 +76,7 @@ impl<R: Role> Desk<R> {
     /// Each fact is one that the desk would record after those before it. The point, the facts and
     /// how far each closed cycle is can be written: their codes, gas days, numbers and tables are in
     /// their ranges.
-    pub fn known(&self)
+    pub fn reveal_invariant(&self)
         ensures legal { bad_fact R.SIDE self.now.point self.now.facts ≡ None }
         ensures fits { FitsDesk R.SIDE self.now.point self.now.facts }
     {

@@ -1,6 +1,6 @@
 //! What a fact lets out, by what it records.
 
-ghost use Rattle.std.specs.Prelude.{◌≡◌, ◌∷◌, [], IfErr, IfOk, IsTrue, is_some};
+ghost use Rattle.std.specs.Prelude.{◌≡◌, ◌≢◌, ◌∷◌, [], IfErr, IfOk, IsTrue};
 ghost use Rattle.gi_messages.specs.Writing.{text_of};
 ghost use Rattle.gi_messages.specs.declared.message.Message.TheVariants as messages;
 ghost use Rattle.gi_desk.specs.LetOut.{frozen_of, let_out_on_closing, sent as sent_of};
@@ -24,14 +24,17 @@ fn packet_of(alloc: Global, to: Recipient, message: Message) -> Result<Vec<Packe
     Ok(vec![in alloc; packet?]?)
 }
 
-fn sent(alloc: Global, message: Option<Message>) -> Result<Vec<Packet>, AllocError>
-    ensures value { IfOk result (λ packets. packets.items ≡ sent_of message) }
-    ensures short { IfErr result (λ _. IsTrue (some_leave (sent_of message))) }
+/// The packets of messages to the peer, which are dropped.
+fn sent(alloc: Global, messages: Vec<Message>) -> Result<Vec<Packet>, AllocError>
+    ensures value { IfOk result (λ packets. packets.items ≡ sent_of messages.items) }
+    ensures short { IfErr result (λ _. IsTrue (some_leave (sent_of messages.items))) }
 {
-    match message {
-        Some(message) => packet_of(alloc, Recipient::Peer, message),
-        None => Ok(Vec::new(alloc)),
+    let mut packets = Vec::with_capacity(alloc, messages.len())?;
+    for message in &messages {
+        packets.push(Packet::of(alloc, Recipient::Peer, message)?)?;
     }
+    drop(messages);
+    Ok(packets)
 }
 
 pub(crate) fn on_taking(alloc: Global, document: &Nomint) -> Result<Vec<Packet>, AllocError>
@@ -60,17 +63,17 @@ fn on_closed_again<R: Role>(
     alloc: Global,
     point: Code,
     cycle: &Matched,
-) -> Result<Option<Message>, AllocError>
-    ensures value { IfOk result (λ message. message ≡ on_closed R.SIDE point (frozen_of cycle.now)) }
-    ensures short { IfErr result (λ _. IsTrue (is_some (on_closed R.SIDE point (frozen_of cycle.now)))) }
+) -> Result<Vec<Message>, AllocError>
+    ensures value { IfOk result (λ messages. messages.items ≡ on_closed R.SIDE point (frozen_of cycle.now)) }
+    ensures short { IfErr result (λ _. on_closed R.SIDE point (frozen_of cycle.now) ≢ []) }
 {
     if R::SIDE == Side::M {
-        return Ok(None);
+        return Ok(Vec::new(alloc));
     }
     let frozen = frozen_again(cycle)?;
-    let message = R::on_closed(alloc, point, &frozen);
+    let messages = R::on_closed(alloc, point, &frozen);
     drop(frozen);
-    message
+    messages
 }
 
 pub(crate) fn on_closing<R: Role>(
@@ -81,12 +84,12 @@ pub(crate) fn on_closing<R: Role>(
     ensures value { IfOk result (λ packets. packets.items ≡ let_out_on_closing R.SIDE point state.now) }
     ensures short { IfErr result (λ _. IsTrue (some_leave (let_out_on_closing R.SIDE point state.now))) }
 {
-    let message = match state {
-        CycleState::Collecting(_) => None,
+    let messages = match state {
+        CycleState::Collecting(_) => Vec::new(alloc),
         CycleState::Frozen(cycle) => R::on_closed(alloc, point, cycle)?,
         CycleState::Matched(cycle) => on_closed_again::<R>(alloc, point, cycle)?,
     };
-    sent(alloc, message)
+    sent(alloc, messages)
 }
 
 pub(crate) fn on_meeting<R: Role>(

@@ -1,6 +1,7 @@
 //! What calls come to, as far as that does not take the whole desk.
 
 ghost use Rattle.std.specs.Prelude.{◌≡◌, ◌≤◌, ◌&&◌, ◌↔◌, IfSome, IsTrue, List, Some, length, nat_le};
+ghost use Rattle.std.specs.List.{list_all};
 ghost use Rattle.gi_desk.specs.History.{capacity_of};
 ghost use Rattle.gi_desk.specs.Judging.{by_decision, contracted as contracted_of, if_same as if_same_fact, marked as marked_of, noticed as noticed_of};
 ghost use Rattle.gi_processing.specs.Readings.{ReadsAs};
@@ -10,7 +11,7 @@ ghost use Rattle.gi_desk.specs.Deciding.{IsForRole, address_of, by_order};
 ghost use Rattle.gi_facts.specs.declared.fact.Fact.{Fact};
 ghost use Rattle.gi_desk.specs.declared.decision.Decision.TheVariants.{Refused};
 ghost use Rattle.gi_desk.specs.declared.refusal.Refusal.TheVariants.{OutOfMemory};
-ghost use Rattle.gi_desk.specs.Machine.{is_record as is_record_of, most_facts, unless_full as unless_full_of};
+ghost use Rattle.gi_desk.specs.Machine.{has_priority, is_record as is_record_of, most_facts, unless_full as unless_full_of};
 
 use crate::decision::Decision;
 use crate::outcome::Outcome;
@@ -18,7 +19,7 @@ use crate::refusal::Refusal;
 use gi_cycles::CycleState;
 use gi_day::Calendar;
 use gi_facts::Fact;
-use gi_messages::Message;
+use gi_messages::{LAST_PRIORITY, Message, NominationLine};
 use gi_pairs::{Code, CycleId, MOST_PROCESSED_ROWS, Side, Table};
 use gi_processing::{Contract, Contracts, Notice, NoticeFault};
 
@@ -115,6 +116,13 @@ pub(crate) fn is_record(outcome: &Outcome) -> bool
     ensures { result ≡ is_record_of outcome.now }
 {
     matches!(outcome, Outcome::Records(_))
+}
+
+/// Whether a text can name the priorities of all lines: from 1 to 9.
+pub(crate) fn have_priorities(lines: &[NominationLine]) -> bool
+    ensures { result ≡ list_all has_priority lines.now }
+{
+    lines.iter().all(|line| 1 <= line.priority && line.priority <= LAST_PRIORITY)
 }
 
 /// Whether an outcome is a record; it is dropped.

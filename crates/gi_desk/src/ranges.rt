@@ -2,48 +2,48 @@
 
 ghost use Rattle.std.specs.Prelude.{◌≡◌, All, List, true, ℕ};
 ghost use Rattle.gi_pairs.specs.declared.side.Side.{Side};
-ghost use Rattle.gi_messages.specs.Grammar.{FitsLine};
 ghost use Rattle.gi_facts.specs.Writable.{FitsContract, FitsFact};
 ghost use Rattle.gi_facts.specs.declared.fact.Fact.{Fact};
 ghost use Rattle.gi_desk.specs.Machine.{would_record};
-ghost use Rattle.gi_desk.specs.Writable.{FitsDesk};
+ghost use Rattle.gi_desk.specs.Writable.{FitsDesk, FitsButPriority};
 
 use gi_facts::Fact;
-use gi_messages::Line;
+use gi_messages::NominationLine;
 use gi_processing::Contract;
 
-fn contract_known(contract: &Contract)
+fn reveal_contract(contract: &Contract)
     ensures { FitsContract contract.now }
 {
-    contract.portfolio.known();
-    contract.day.known();
-    contract.firm.known();
-    contract.interruptible.known();
+    contract.portfolio.reveal_invariant();
+    contract.day.reveal_invariant();
+    contract.firm.reveal_invariant();
+    contract.interruptible.reveal_invariant();
 }
 
-fn lines_known(lines: &[Line])
-    ensures { All FitsLine lines.now }
+/// Of all but their priorities.
+fn reveal_lines(lines: &[NominationLine])
+    ensures { All FitsButPriority lines.now }
 {
     for line in lines {
-        line.counterparty.known();
-        line.hours.known();
+        line.counterparty.reveal_invariant();
+        line.hours.reveal_invariant();
     }
 }
 
-pub(crate) fn fact_known(fact: &Fact)
+pub(crate) fn reveal_fact(fact: &Fact)
     requires { (side : Side) × (point : List ℕ) × (before : List Fact) × FitsDesk side point before × (would_record side point before fact.now ≡ true) }
     ensures { FitsFact fact.now }
 {
     match fact {
-        Fact::Contracted(contract) => contract_known(contract),
-        Fact::Noticed(notice) => notice.day.known(),
+        Fact::Contracted(contract) => reveal_contract(contract),
+        Fact::Noticed(notice) => notice.day.reveal_invariant(),
         Fact::Nominated(document) => {
-            document.point.known();
-            document.portfolio.known();
-            document.day.known();
-            lines_known(document.lines.as_slice());
+            document.point.reveal_invariant();
+            document.portfolio.reveal_invariant();
+            document.day.reveal_invariant();
+            reveal_lines(document.lines.as_slice());
         }
-        Fact::Closed(id) => id.day.known(),
-        Fact::Met { peer, .. } => peer.known(),
+        Fact::Closed { id, .. } => id.day.reveal_invariant(),
+        Fact::Met { peer, .. } => peer.reveal_invariant(),
     }
 }

@@ -1,6 +1,6 @@
-ghost use Rattle.std.specs.Prelude.{◌≡◌, IfErr, IfOk, IsTrue, is_some};
+ghost use Rattle.std.specs.Prelude.{◌≡◌, ◌≢◌, [], IfErr, IfOk};
 ghost use Rattle.gi_desk.specs.Deciding.{HasFewRows, IsDecided, IsForRole};
-ghost use Rattle.gi_desk.specs.Messages.{on_closed as order_on_closing, on_met as response_on_meeting};
+ghost use Rattle.gi_desk.specs.Messages.{on_closed as orders_on_closing, on_met as responses_on_meeting};
 
 use crate::decision::Decision;
 use gi_cycles::{CycleState, Frozen, Matched};
@@ -29,13 +29,13 @@ pub trait Role {
         requires few { HasFewRows message }
         ensures { IsDecided SIDE state.now message result };
 
-    /// What the peer is sent when the cycle is closed, at the interconnection point.
-    fn on_closed(alloc: Global, point: Code, cycle: &Frozen) -> Result<Option<Message>, AllocError>
-        ensures value { IfOk result (λ message. message ≡ order_on_closing SIDE point cycle.now) }
-        ensures short { IfErr result (λ _. IsTrue (is_some (order_on_closing SIDE point cycle.now))) };
+    /// What the peer is sent when the cycle is closed, at the interconnection point, in order.
+    fn on_closed(alloc: Global, point: Code, cycle: &Frozen) -> Result<Vec<Message>, AllocError>
+        ensures value { IfOk result (λ messages. messages.items ≡ orders_on_closing SIDE point cycle.now) }
+        ensures short { IfErr result (λ _. orders_on_closing SIDE point cycle.now ≢ []) };
 
-    /// What the peer is sent when the cycle has met the peer's table.
-    fn on_met(alloc: Global, point: Code, cycle: &Matched) -> Result<Option<Message>, AllocError>
-        ensures value { IfOk result (λ message. message ≡ response_on_meeting SIDE point cycle.now) }
-        ensures short { IfErr result (λ _. IsTrue (is_some (response_on_meeting SIDE point cycle.now))) };
+    /// What the peer is sent when the cycle has met the peer's table, in order.
+    fn on_met(alloc: Global, point: Code, cycle: &Matched) -> Result<Vec<Message>, AllocError>
+        ensures value { IfOk result (λ messages. messages.items ≡ responses_on_meeting SIDE point cycle.now) }
+        ensures short { IfErr result (λ _. responses_on_meeting SIDE point cycle.now ≢ []) };
 }

@@ -4,11 +4,12 @@ ghost use Rattle.std.specs.Prelude.{◌≡◌, ◌≤◌, ◌+◌, ◌++◌, ℕ
 ghost use Rattle.gi_pairs.specs.Limits.{most_processed_rows};
 ghost use Rattle.gi_pairs.specs.declared.side.Side.{Side};
 ghost use Rattle.gi_processing.specs.Processing.{processed};
+ghost use Rattle.gi_processing.specs.declared.rule.Rule.{Rule};
 ghost use Rattle.gi_cycles.specs.States.{FrozenCycle, matched_of};
 ghost use Rattle.gi_cycles.specs.declared.cycle_state.CycleState.TheVariants.{Frozen, Matched};
 ghost use Rattle.gi_lesser.specs.Lesser.{HasShapeOf};
 ghost use Rattle.gi_desk.specs.History.{capacity_of, documents_of};
-ghost use Rattle.gi_desk.specs.Kept.{id_of};
+ghost use Rattle.gi_desk.specs.Caches.{id_of};
 ghost use Rattle.gi_desk.specs.Queries.{stage_of};
 ghost use Rattle.gi_desk.specs.Machine.{bad_fact};
 ghost use Rattle.gi_desk.specs.Stages.{AreStages};
@@ -50,10 +51,10 @@ pub(crate) fn close(
     number: u32,
 ) -> Result<(), AllocError>
     requires { length own.rows ≤ most_processed_rows }
-    ensures closed { (side : Side) (point : List ℕ) (facts : List Fact) → AreStages side point facts stages.old.entries → bad_fact side point (facts ++ Closed id.now ∷ []) ≡ None
-        → own ≡ processed (capacity_of facts) (documents_of facts) side id.now.day id.now.cycle → number ≡ length facts + 1
-        → OnOk result (AreStages side point (facts ++ Closed id.now ∷ []) stages.new.entries) }
-    ensures kept { OnErr result (stages.new.entries ≡ stages.old.entries) }
+    ensures closed { (side : Side) (point : List ℕ) (facts : List Fact) (rule : Rule) → AreStages side point facts stages.old.entries → bad_fact side point (facts ++ Closed id.now rule ∷ []) ≡ None
+        → own ≡ processed (capacity_of facts) (documents_of facts) side id.now.day id.now.cycle rule → number ≡ length facts + 1
+        → OnOk result (AreStages side point (facts ++ Closed id.now rule ∷ []) stages.new.entries) }
+    ensures unchanged { OnErr result (stages.new.entries ≡ stages.old.entries) }
 {
     let stage = Stage {
         state: CycleState::Frozen(Collecting::new(*id).close(own)),
@@ -69,7 +70,7 @@ fn meet_in(alloc: Global, state: &mut CycleState, peer: Table) -> Result<(), All
     requires frozen { (cycle : FrozenCycle) × (state.now ≡ Frozen cycle) × HasShapeOf cycle.own peer }
     requires few { length peer.rows ≤ most_processed_rows }
     ensures met { (cycle : FrozenCycle) → state.old ≡ Frozen cycle → OnOk result (state.new ≡ Matched (matched_of cycle peer)) }
-    ensures kept { OnErr result (state.new ≡ state.old) }
+    ensures unchanged { OnErr result (state.new ≡ state.old) }
 {
     // What meets is moved, so for that time another state stands in its place.
     let id = cycle_of(state);
@@ -94,7 +95,7 @@ fn meet_at(alloc: Global, stage: &mut Stage, peer: Table, number: u32) -> Result
     requires few { length peer.rows ≤ most_processed_rows }
     ensures met { (cycle : FrozenCycle) → stage.old.state ≡ Frozen cycle
         → OnOk result (stage.new ≡ record { state = Matched (matched_of cycle peer); closing = stage.old.closing; meeting = Some number }) }
-    ensures kept { OnErr result (stage.new ≡ stage.old) }
+    ensures unchanged { OnErr result (stage.new ≡ stage.old) }
 {
     meet_in(alloc, &mut stage.state, peer)?;
     stage.meeting = Some(number);
@@ -112,7 +113,7 @@ pub(crate) fn meet(
         × AreStages side point facts stages.now.entries × (bad_fact side point (facts ++ Met id.now peer ∷ []) ≡ None) }
     ensures met { (side : Side) (point : List ℕ) (facts : List Fact) → AreStages side point facts stages.old.entries → bad_fact side point (facts ++ Met id.now peer ∷ []) ≡ None
         → number ≡ length facts + 1 → OnOk result (AreStages side point (facts ++ Met id.now peer ∷ []) stages.new.entries) }
-    ensures kept { OnErr result (stages.new.entries ≡ stages.old.entries) }
+    ensures unchanged { OnErr result (stages.new.entries ≡ stages.old.entries) }
 {
     let Some(stage) = stages.get_mut(id) else {
         unreachable!()

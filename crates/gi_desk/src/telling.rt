@@ -22,7 +22,12 @@ fn line_of(side: Side, row: &Row) -> Result<Line, AllocError>
     })
 }
 
-fn lines_of(alloc: Global, side: Side, portfolio: Code, rows: &[Row]) -> Result<Lines, AllocError>
+fn lines_of(
+    alloc: Global,
+    side: Side,
+    portfolio: Code,
+    rows: &[Row],
+) -> Result<Lines<Line>, AllocError>
     ensures { IfOk result (λ lines. lines ≡ lines_of_rows side portfolio rows.now) }
 {
     let mut lines = Vec::new(alloc);

@@ -6,15 +6,22 @@ use crate::names::Names;
 use crate::plain::{Plain, number};
 use crate::random::Random;
 use gi_desk::{Body, Call, Fact};
-use gi_messages::{Delord, Delres, Line, Lines, Message, Nomint};
+use gi_messages::{Delord, Delres, Lines, Message, NominationLine, Nomint};
 use gi_pairs::{CycleId, Direction, Hours, Pair, Row, Side, Table};
-use gi_processing::{Contract, Notice};
+use gi_processing::{Contract, Notice, Rule};
 use std::alloc::Global;
 
 fn direction(random: &mut Random) -> Direction {
     match random.below(3) {
         0 => Direction::MI,
         _ => Direction::IM,
+    }
+}
+
+fn rule(random: &mut Random) -> Rule {
+    match random.below(3) {
+        0 => Rule::One,
+        _ => Rule::Two,
     }
 }
 
@@ -58,13 +65,14 @@ fn quantities(alloc: Global, names: &Names, random: &mut Random, count: u8) -> H
     Hours::from(quantities)
 }
 
-fn lines(alloc: Global, names: &Names, random: &mut Random, count: u8) -> Lines {
+fn lines(alloc: Global, names: &Names, random: &mut Random, count: u8) -> Lines<NominationLine> {
     let mut lines = Vec::new(alloc);
     for _ in 0..random.below(4) {
-        let line = Line {
+        let line = NominationLine {
             counterparty: names.counterparty(random.below(2)),
             direction: direction(random),
             hours: quantities(alloc, names, random, count),
+            priority: random.below(9).wrapping_add(1),
         };
         put(&mut lines, line);
     }
@@ -92,7 +100,7 @@ fn nomination(alloc: Global, names: &Names, seed: u8) -> Message {
 /// The cycle of the first closing at or after a place.
 fn closed_after(facts: &[Fact], place: u8) -> Option<CycleId> {
     for fact in facts.get(usize::from(place)..).unwrap_or(&[]) {
-        if let Fact::Closed(id) = fact {
+        if let Fact::Closed { id, .. } = fact {
             return Some(*id);
         }
     }
@@ -225,7 +233,10 @@ fn marked(plain: &Plain, names: &Names, random: &mut Random) -> Option<Fact> {
     let is_next = random.below(16) != 0;
     match plain.facts.get(plain.saved) {
         Some(fact) if is_next => fact.copy().ok(),
-        _ => Some(Fact::Closed(names.cycle_id(random))),
+        _ => Some(Fact::Closed {
+            id: names.cycle_id(random),
+            rule: rule(random),
+        }),
     }
 }
 
@@ -260,7 +271,10 @@ pub fn drawn(plain: &Plain, names: &Names, random: &mut Random) -> Option<Call> 
         0..=41 => Some(Call::Contract(contract(names, random))),
         42..=53 => Some(Call::Notice(notice(names, random))),
         54..=119 => submission(plain.alloc, names, random),
-        120..=137 => Some(Call::Close(names.cycle_id(random))),
+        120..=137 => Some(Call::Close {
+            id: names.cycle_id(random),
+            rule: rule(random),
+        }),
         138..=167 => delivery(plain, names, random),
         168..=179 => Some(Call::Resend(closed_id(plain, names, random))),
         180 => Some(Call::Halt),

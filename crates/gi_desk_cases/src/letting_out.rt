@@ -51,7 +51,7 @@ fn add_line(lines: &mut Vec<Line>, side: Side, row: &Row) {
 }
 
 /// The rows of a portfolio as lines.
-fn lines_of(alloc: Global, side: Side, portfolio: Code, rows: &[Row]) -> Lines {
+fn lines_of(alloc: Global, side: Side, portfolio: Code, rows: &[Row]) -> Lines<Line> {
     let mut lines = Vec::new(alloc);
     for row in rows {
         if row.pair.at(side) == portfolio {
@@ -164,7 +164,7 @@ impl Plain {
     fn add(&self, packets: &mut Vec<Packet>, n: usize, is_again: bool) {
         match self.facts.get(n.wrapping_sub(1)) {
             Some(Fact::Nominated(document)) => self.acknowledge(packets, document),
-            Some(Fact::Closed(id)) => self.order(packets, id),
+            Some(Fact::Closed { id, .. }) => self.order(packets, id),
             Some(Fact::Met { id, peer }) => {
                 self.answer_met(packets, id, peer);
                 if !is_again {

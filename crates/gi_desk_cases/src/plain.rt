@@ -9,10 +9,10 @@ use crate::reading::{
 };
 use gi_day::{Calendar, GasDay};
 use gi_desk::{Answer, Body, Call, Fact, Outcome, Packet, Refusal, StageName};
-use gi_messages::{Delord, Delres, Line, Message, Nomint, decode};
+use gi_messages::{Delord, Delres, Message, NominationLine, Nomint, decode};
 use gi_nominations::NominationFault;
 use gi_pairs::{Code, CycleId, Row, Side, Table};
-use gi_processing::Notice;
+use gi_processing::{Notice, Rule};
 use std::alloc::Global;
 
 // What goes out of scope here and in the modules beside is handed to `drop`, by one call, since it would
@@ -34,8 +34,16 @@ pub fn number(n: usize) -> u32 {
     u32::try_from(n).unwrap_or(u32::MAX)
 }
 
+/// The rule of a closing.
+fn rule_of(fact: &Fact) -> Rule {
+    match fact {
+        Fact::Closed { rule, .. } => *rule,
+        _ => Rule::One,
+    }
+}
+
 /// How many lines are of the line's counterparty and direction.
-fn count_like(lines: &[Line], line: &Line) -> usize {
+fn count_like(lines: &[NominationLine], line: &NominationLine) -> usize {
     let mut count = 0usize;
     for other in lines {
         if other.counterparty == line.counterparty && other.direction == line.direction {
@@ -46,7 +54,7 @@ fn count_like(lines: &[Line], line: &Line) -> usize {
 }
 
 /// The fault of a nomination's lines.
-fn lines_fault(lines: &[Line], hours: u8) -> Option<NominationFault> {
+fn lines_fault(lines: &[NominationLine], hours: u8) -> Option<NominationFault> {
     for line in lines {
         if line.hours.as_slice().len() != usize::from(hours) {
             return Some(NominationFault::HourCount);
@@ -126,11 +134,13 @@ impl Plain {
         self.halted = false;
     }
 
-    /// The frozen table of the cycle, once it is closed: that of the facts before its closing.
+    /// The frozen table of the cycle, once it is closed: that of the facts before its closing, by its
+    /// rule.
     pub fn frozen(&self, id: &CycleId) -> Option<Table> {
         let n = number_of_closing(&self.facts, id)?;
         let before = self.facts.get(..n.wrapping_sub(1))?;
-        processed(self.alloc, &self.calendar, before, self.side, id)
+        let rule = rule_of(self.facts.get(n.wrapping_sub(1))?);
+        processed(self.alloc, &self.calendar, before, self.side, id, rule)
     }
 
     /// The lesser of the cycle's frozen table and the peer's, where both are of the same hours.
@@ -198,7 +208,7 @@ impl Plain {
         }
     }
 
-    fn closed(&self, id: &CycleId) -> Outcome {
+    fn closed(&self, id: &CycleId, rule: Rule) -> Outcome {
         if id.cycle >= cycle_count(&self.calendar, id.day) {
             return Outcome::Refuses(Refusal::NoSuchCycle);
         }
@@ -207,7 +217,7 @@ impl Plain {
         }
         match last_closed(&self.facts, id.day) {
             Some(last) if last > id.cycle => Outcome::Refuses(Refusal::OutOfOrder { last }),
-            _ => Outcome::Records(Fact::Closed(*id)),
+            _ => Outcome::Records(Fact::Closed { id: *id, rule }),
         }
     }
 
@@ -323,7 +333,7 @@ impl Plain {
             Call::Contract(contract) => Outcome::Records(Fact::Contracted(*contract)),
             Call::Notice(notice) => self.noticed(notice),
             Call::Submit(body) => self.submitted(body),
-            Call::Close(id) => self.closed(id),
+            Call::Close { id, rule } => self.closed(id, *rule),
             Call::Deliver(body) => self.delivered(body),
             Call::Resend(id) => self.resent(id),
             Call::MarkSaved { n, fact } => self.marked(*n, fact),

@@ -92,7 +92,7 @@ pub fn number_of_closing(facts: &[Fact], id: &CycleId) -> Option<usize> {
     let mut n = 0usize;
     for fact in facts {
         n = n.wrapping_add(1);
-        if let Fact::Closed(other) = fact {
+        if let Fact::Closed { id: other, .. } = fact {
             if other == id {
                 return Some(n);
             }
@@ -118,7 +118,7 @@ pub fn meeting<'a>(facts: &'a [Fact], id: &CycleId) -> Option<(usize, &'a Table)
 /// The cycle of the day that was closed last.
 pub fn last_closed(facts: &[Fact], day: GasDay) -> Option<u8> {
     for fact in facts.iter().rev() {
-        if let Fact::Closed(id) = fact {
+        if let Fact::Closed { id, .. } = fact {
             if id.day == day {
                 return Some(id.cycle);
             }

@@ -43,7 +43,7 @@ shape-here : (side : Side) (point : List ℕ) (before : List Fact) (fact : Fact)
 shape-here side point before (Contracted contract) later id peer is e met = absurd cc
 shape-here side point before (Noticed notice) later id peer is e met = absurd cc
 shape-here side point before (Nominated document) later id peer is e met = absurd cc
-shape-here side point before (Closed other) later id peer is e met = absurd cc
+shape-here side point before (Closed other rule) later id peer is e met = absurd cc
 shape-here side point before (Met other table) later id peer is e met =
     let meeting = subst (λ (cycle : CycleId). IsMeeting side before cycle table) (same_cycle-is other id is) (recorded-meeting side point before other table e) in
     subst (λ (t : TableContents). HasShapeOf t peer) (sym (frozen_table-more side before (Met other table ∷ later) id meeting.closed))

@@ -19,13 +19,15 @@ use Rattle.gi_processing.specs.Capacity.{contract_of, covers, is_for, notice_of}
 use Rattle.gi_processing.specs.Processing.{AreSound}
 use Rattle.gi_processing.specs.declared.contract.Contract.{Contract}
 use Rattle.gi_processing.specs.declared.notice.Notice.{Notice}
+use Rattle.gi_processing.specs.declared.rule.Rule.{Rule}
+use Rattle.gi_processing.specs.declared.rule.Rule.TheVariants.{One, Two}
 use Rattle.gi_facts.specs.declared.fact.Fact.{Fact}
-use Rattle.gi_desk.specs.History.{capacity_of, contract_in, document_in, documents_of, facts_before, is_closed, is_closing, is_meeting, notice_in, number_of, peer_in, peer_of}
+use Rattle.gi_desk.specs.History.{capacity_of, contract_in, document_in, documents_of, facts_before, is_closed, is_closing, is_meeting, notice_in, number_of, peer_in, peer_of, rule_in, rule_of}
 use Rattle.gi_desk.specs.Machine.{bad_fact}
 use Rattle.gi_desk.specs.Queries.{fact_at}
 use Rattle.gi_desk.proofs.Confirmed.{a_peer, peer_later, peer_none}
 use Rattle.gi_desk.proofs.Legality.{legal-front, legal-sound}
-use Rattle.gi_explanations.specs.Basis.{counted_capacity, counted_documents, standing_contract, standing_nomination, standing_notice}
+use Rattle.gi_explanations.specs.Basis.{asked_rule, counted_capacity, counted_documents, standing_contract, standing_nomination, standing_notice}
 use Rattle.gi_explanations.specs.Laws.{NamesTheFacts}
 use Rattle.gi_explanations.specs.Numbers.{counting, first_number, is_contract, is_nomination, is_notice, last_number, numbers, own}
 use Rattle.gi_explanations.specs.declared.numbers.Numbers.{Numbers}
@@ -215,6 +217,45 @@ closing-by id facts true any =
     ap (λ (o : Option Fact). option_map_or (is_closing id) o false) (numbered facts (skipped (is_closing id) facts)) ∙ there (is_closing id) facts any
 closing-by id facts false any = tt
 
+-- the fact that is found first stands at its place
+find-front : (is : Test) (facts : List Fact) → find is facts ≡ slice_get facts (skipped is facts)
+find-front is [] = sym (slice_get_past {X = Fact} [] (skipped is []) (omega arith))
+find-front is (fact ∷ facts) = by (is fact) (find-front is facts) ∙ ap (slice_get (fact ∷ facts)) (sym (skipped-cons is fact facts))
+  where
+    by : (b : Bool) → find is facts ≡ slice_get facts (skipped is facts) → cond b (Some fact) (find is facts) ≡ slice_get (fact ∷ facts) (cond b 0 (suc (skipped is facts)))
+    by true rest = refl
+    by false rest = rest
+
+-- and the rule of the first closing is told there
+rule-at : (id : CycleId) (facts : List Fact) → option_map_or rule_in (fact_at facts (skipped (is_closing id) facts + 1)) One ≡ rule_of id facts
+unfolding rule_of
+rule-at id facts = ap (λ (o : Option Fact). option_map_or rule_in o One) (numbered facts (skipped (is_closing id) facts) ∙ sym (find-front (is_closing id) facts))
+
+rule-by : (id : CycleId) (facts : List Fact) (any : Bool)
+    → IfSome (cond any (Some (skipped (is_closing id) facts + 1)) None) (λ number. option_map_or rule_in (fact_at facts number) One ≡ cond any (rule_of id facts) Two)
+rule-by id facts true = rule-at id facts
+rule-by id facts false = tt
+
+-- the rule is found so
+abbrev rule_shown : List Fact → Option ℕ → Rule
+rule_shown facts None = Two
+rule_shown facts (Some n) = option_map_or rule_in (fact_at facts n) One
+
+shown-by : (id : CycleId) (facts : List Fact) (any : Bool) → rule_shown facts (cond any (Some (skipped (is_closing id) facts + 1)) None) ≡ cond any (rule_of id facts) Two
+shown-by id facts true = rule-at id facts
+shown-by id facts false = refl
+
+pub rule-found : (side : Side) (facts : List Fact) (q : Question) (n : Numbers) (m : ℕ) (rule : Rule) → n ≡ numbers side facts q → n.closing ≡ Some m
+    → rule ≡ option_map_or rule_in (fact_at facts m) One → rule ≡ asked_rule facts q
+unfolding numbers first_number number_of is_closed
+rule-found side facts q n m rule n_is closing_is rule_is =
+    rule_is ∙ ap (rule_shown facts) (sym closing_is ∙ ap (λ (k : Numbers). k.closing) n_is) ∙ shown-by q.id facts (list_any (is_closing q.id) facts)
+
+pub rule-open : (side : Side) (facts : List Fact) (q : Question) (n : Numbers) → n ≡ numbers side facts q → n.closing ≡ None → Two ≡ asked_rule facts q
+unfolding numbers first_number number_of is_closed
+rule-open side facts q n n_is closing_is =
+    ap (rule_shown facts) (sym closing_is ∙ ap (λ (k : Numbers). k.closing) n_is) ∙ shown-by q.id facts (list_any (is_closing q.id) facts)
+
 meeting-by : (id : CycleId) (facts : List Fact) (any : Bool) → list_any (is_meeting id) facts ≡ any
     → IfSome (cond any (Some (skipped (is_meeting id) facts + 1)) None) (λ number. option_and_then (peer_in id) (fact_at facts number) ≡ peer_of id facts)
 meeting-by id facts true any = peer-by id facts true any
@@ -243,6 +284,7 @@ names-facts side facts q =
       notice = notice-found side facts q n (option_and_then notice_in (fact_at facts n.notice)) refl refl;
       closed = some_by (list_any (is_closing q.id) facts) (skipped (is_closing q.id) facts + 1);
       closing = closing-by q.id facts (list_any (is_closing q.id) facts) refl;
+      rule = rule-by q.id facts (list_any (is_closing q.id) facts);
       met = some_by (list_any (is_meeting q.id) facts) (skipped (is_meeting q.id) facts + 1) ∙ meets-any q.id facts;
       meeting = meeting-by q.id facts (list_any (is_meeting q.id) facts) refl;
     }

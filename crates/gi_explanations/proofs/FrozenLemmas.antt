@@ -26,7 +26,7 @@ use Rattle.gi_pairs.specs.declared.side.Side.TheVariants.{I, M}
 use Rattle.gi_pairs.proofs.Building.{In, in_in_order, in_order_in}
 use Rattle.gi_pairs.proofs.Members.{find_member, found_is, from_append, from_map, in_append_left, in_append_right, in_map}
 use Rattle.gi_pairs.proofs.Reading.{reading-found, reading-missed, reading-outside}
-use Rattle.gi_messages.specs.declared.line.Line.{Line}
+use Rattle.gi_messages.specs.declared.nomination_line.NominationLine.{NominationLine}
 use Rattle.gi_messages.specs.declared.message.Nomint.{Nomint}
 use Rattle.gi_nominations.specs.Book.{in_force}
 use Rattle.gi_processing.specs.Capacity.{Capacity, is_of, knows}
@@ -37,18 +37,20 @@ use Rattle.gi_processing.specs.declared.contract.Contract.{Contract}
 use Rattle.gi_facts.proofs.SameLemmas.{same_cycle-is}
 use Rattle.gi_facts.specs.declared.fact.Fact.{Fact}
 use Rattle.gi_facts.specs.declared.fact.Fact.TheVariants.{Contracted, Noticed, Nominated, Closed, Met}
+use Rattle.gi_processing.specs.declared.rule.Rule.{Rule}
+use Rattle.gi_processing.specs.declared.rule.Rule.TheVariants.{Two}
 use Rattle.gi_cycles.specs.States.{FrozenCycle}
-use Rattle.gi_desk.specs.History.{frozen_cycle, frozen_table, is_closed, is_closing, met_by, peer_of}
+use Rattle.gi_desk.specs.History.{frozen_cycle, frozen_table, is_closed, is_closing, met_by, peer_of, rule_of}
 use Rattle.gi_desk.specs.Machine.{bad_fact, bad_from, most_facts, would_record}
 use Rattle.gi_desk.specs.Writable.{FitsDesk, FitsState}
 use Rattle.gi_desk.proofs.CycleLaws.{recorded-below}
 use Rattle.gi_desk.proofs.Fitting.{state-fits}
 use Rattle.gi_desk.proofs.Legality.{legal-first, legal-front, legal-sound}
 use Rattle.gi_desk.proofs.StateLaws.{state-closed}
-use Rattle.gi_explanations.specs.Basis.{counted_capacity, counted_documents, nominated_line, standing_nomination}
+use Rattle.gi_explanations.specs.Basis.{asked_rule, counted_capacity, counted_documents, nominated_line, standing_nomination}
 use Rattle.gi_explanations.specs.Numbers.{counterparty, counting, own}
 use Rattle.gi_explanations.specs.Outcome.{read_at}
-use Rattle.gi_explanations.specs.Reduction.{is_covered, processed_line_quantity, processed_quantity}
+use Rattle.gi_explanations.specs.Reduction.{is_covered, processed_line_by, processed_quantity}
 use Rattle.gi_explanations.specs.Sums.{is_line}
 use Rattle.gi_explanations.specs.declared.question.Question.{Question}
 use Rattle.gi_explanations.proofs.NumberLemmas.{front-taken, skipped}
@@ -61,8 +63,8 @@ closing-below : (side : Side) (point : List ℕ) (before : List Fact) (fact : Fa
 closing-below side point before (Contracted contract) id is e = absurd cc
 closing-below side point before (Noticed notice) id is e = absurd cc
 closing-below side point before (Nominated document) id is e = absurd cc
-closing-below side point before (Closed closed) id is e =
-    subst (λ (cycle : CycleId). cycle.cycle < cycle_count cycle.day) (same_cycle-is closed id is) (recorded-below side point before closed e)
+closing-below side point before (Closed closed rule) id is e =
+    subst (λ (cycle : CycleId). cycle.cycle < cycle_count cycle.day) (same_cycle-is closed id is) (recorded-below side point before closed rule e)
 closing-below side point before (Met met peer) id is e = absurd cc
 
 below-by : (side : Side) (point : List ℕ) (before : List Fact) (fact : Fact) (later : List Fact) (id : CycleId) (b : Bool) → is_closing id fact ≡ b
@@ -155,12 +157,12 @@ from_flat_map f y (x ∷ xs) h =
 
 -- ---- the row of a line
 
-row-there : (capacity : Capacity) (side : Side) (day : Date) (cycle : ℕ) (documents : List Nomint) (portfolio : List ℕ) (l : Line) → knows portfolio day capacity.contracts ≡ true
+row-there : (capacity : Capacity) (side : Side) (day : Date) (cycle : ℕ) (rule : Rule) (documents : List Nomint) (portfolio : List ℕ) (l : NominationLine) → knows portfolio day capacity.contracts ≡ true
     → In l (lines_of (in_force portfolio day documents))
-    → In (processed_row capacity (span_of side day cycle) portfolio (lines_of (in_force portfolio day documents)) l) (span_table capacity (span_of side day cycle) documents).rows
+    → In (processed_row capacity (span_of side day cycle rule) portfolio (lines_of (in_force portfolio day documents)) l) (span_table capacity (span_of side day cycle rule) documents).rows
 unfolding portfolio_rows lines_in_force
-row-there capacity side day cycle documents portfolio l known there =
-    let span = span_of side day cycle in
+row-there capacity side day cycle rule documents portfolio l known there =
+    let span = span_of side day cycle rule in
     let lines = lines_of (in_force portfolio day documents) in
     let row = processed_row capacity span portfolio lines l in
     in_order_in row (processed_rows capacity span documents)
@@ -168,17 +170,17 @@ row-there capacity side day cycle documents portfolio l known there =
     (in_map (processed_row capacity span portfolio lines) l lines there))
 
 -- and what a row is of
-pub record IsRowOf (capacity : Capacity) (side : Side) (day : Date) (cycle : ℕ) (documents : List Nomint) (row : Row) : Type 0 where
+pub record IsRowOf (capacity : Capacity) (side : Side) (day : Date) (cycle : ℕ) (rule : Rule) (documents : List Nomint) (row : Row) : Type 0 where
   pub portfolio : List ℕ
-  pub source : Line
+  pub source : NominationLine
   pub there : In source (lines_of (in_force portfolio day documents))
-  pub is : processed_row capacity (span_of side day cycle) portfolio (lines_of (in_force portfolio day documents)) source ≡ row
+  pub is : processed_row capacity (span_of side day cycle rule) portfolio (lines_of (in_force portfolio day documents)) source ≡ row
 
-row-of : (capacity : Capacity) (side : Side) (day : Date) (cycle : ℕ) (documents : List Nomint) (row : Row) → In row (span_table capacity (span_of side day cycle) documents).rows
-    → IsRowOf capacity side day cycle documents row
+row-of : (capacity : Capacity) (side : Side) (day : Date) (cycle : ℕ) (rule : Rule) (documents : List Nomint) (row : Row) → In row (span_table capacity (span_of side day cycle rule) documents).rows
+    → IsRowOf capacity side day cycle rule documents row
 unfolding portfolio_rows lines_in_force
-row-of capacity side day cycle documents row there =
-    let span = span_of side day cycle in
+row-of capacity side day cycle rule documents row there =
+    let span = span_of side day cycle rule in
     let found = from_flat_map (portfolio_rows capacity span documents) row (portfolios_of capacity.contracts) (in_in_order row (processed_rows capacity span documents) there) in
     let lines = lines_of (in_force found.0 day documents) in
     let made = from_map (processed_row capacity span found.0 lines) row lines found.2 in
@@ -193,19 +195,19 @@ paired : (side : Side) (pair : Pair) → pair_of side (code_at side pair) (code_
 paired I pair = refl
 paired M pair = refl
 
-key-of-row : (capacity : Capacity) (side : Side) (day : Date) (cycle : ℕ) (portfolio : List ℕ) (lines : List Line) (l : Line)
-    → key_of (processed_row capacity (span_of side day cycle) portfolio lines l) ≡ keyed (pair_of side portfolio l.counterparty) l.direction
+key-of-row : (capacity : Capacity) (side : Side) (day : Date) (cycle : ℕ) (rule : Rule) (portfolio : List ℕ) (lines : List NominationLine) (l : NominationLine)
+    → key_of (processed_row capacity (span_of side day cycle rule) portfolio lines l) ≡ keyed (pair_of side portfolio l.counterparty) l.direction
 unfolding processed_row
-key-of-row capacity side day cycle portfolio lines l = refl
+key-of-row capacity side day cycle rule portfolio lines l = refl
 
-row-quantity : (capacity : Capacity) (side : Side) (day : Date) (cycle : ℕ) (portfolio : List ℕ) (lines : List Line) (l : Line) (hour : ℕ) → first_hour day cycle ≤ hour → hour ≤ hour_count day
-    → slice_index (processed_row capacity (span_of side day cycle) portfolio lines l).hours (hour - first_hour day cycle) ≡ processed_in capacity portfolio day lines l hour
+row-quantity : (capacity : Capacity) (side : Side) (day : Date) (cycle : ℕ) (rule : Rule) (portfolio : List ℕ) (lines : List NominationLine) (l : NominationLine) (hour : ℕ) → first_hour day cycle ≤ hour → hour ≤ hour_count day
+    → slice_index (processed_row capacity (span_of side day cycle rule) portfolio lines l).hours (hour - first_hour day cycle) ≡ processed_in rule capacity portfolio day lines l hour
 unfolding processed_row
-row-quantity capacity side day cycle portfolio lines l hour low high =
+row-quantity capacity side day cycle rule portfolio lines l hour low high =
     let first = first_hour day cycle in
-    get_or-map-range_with_len (processed_in capacity portfolio day lines l) first (covered first (hour_count day)) (hour - first) hour 0 (omega arith) (omega arith)
+    get_or-map-range_with_len (processed_in rule capacity portfolio day lines l) first (covered first (hour_count day)) (hour - first) hour 0 (omega arith) (omega arith)
 
-found-there : (p : Line → Bool) (lines : List Line) (l : Line) → find p lines ≡ Some l → In l lines
+found-there : (p : NominationLine → Bool) (lines : List NominationLine) (l : NominationLine) → find p lines ≡ Some l → In l lines
 found-there p [] l e = absurd cc
 found-there p (x ∷ xs) l e = by (p x) e (found-there p xs l)
   where
@@ -214,24 +216,24 @@ found-there p (x ∷ xs) l e = by (p x) e (found-there p xs l)
     by false e rest = inr (rest e)
 
 -- the row for the key of a line
-row-found : (capacity : Capacity) (side : Side) (cycle : ℕ) (documents : List Nomint) (q : Question) (l : Line) (table : TableContents)
-    → table ≡ span_table capacity (span_of side q.id.day cycle) documents → IsTable table → knows (own side q) q.id.day capacity.contracts ≡ true
+row-found : (capacity : Capacity) (side : Side) (cycle : ℕ) (rule : Rule) (documents : List Nomint) (q : Question) (l : NominationLine) (table : TableContents)
+    → table ≡ span_table capacity (span_of side q.id.day cycle rule) documents → IsTable table → knows (own side q) q.id.day capacity.contracts ≡ true
     → nominated_line side q (in_force (own side q) q.id.day documents) ≡ Some l
     → find (is_at (keyed q.pair q.direction)) table.rows
-    ≡ Some (processed_row capacity (span_of side q.id.day cycle) (own side q) (lines_of (in_force (own side q) q.id.day documents)) l)
-row-found capacity side cycle documents q l table table_is sound known found =
+    ≡ Some (processed_row capacity (span_of side q.id.day cycle rule) (own side q) (lines_of (in_force (own side q) q.id.day documents)) l)
+row-found capacity side cycle rule documents q l table table_is sound known found =
     let lines = lines_of (in_force (own side q) q.id.day documents) in
-    let row = processed_row capacity (span_of side q.id.day cycle) (own side q) lines l in
+    let row = processed_row capacity (span_of side q.id.day cycle rule) (own side q) lines l in
     let is = found-for (counterparty side q) q.direction lines l found in
     let code_is = is.code_is in
     let direction_is = is.direction_is in
     let there : In row table.rows =
     subst (λ (t : TableContents). In row t.rows) (sym table_is)
-    (row-there capacity side q.id.day cycle documents (own side q) l known (found-there (is_line (counterparty side q) q.direction) lines l found)) in
+    (row-there capacity side q.id.day cycle rule documents (own side q) l known (found-there (is_line (counterparty side q) q.direction) lines l found)) in
     let pair_is : pair_of side (own side q) l.counterparty ≡ q.pair = ap (pair_of side (own side q)) code_is ∙ paired side q.pair in
     let keys : keyed (pair_of side (own side q) l.counterparty) l.direction ≡ keyed q.pair q.direction =
     λ t. keyed (pair_is t) (direction_is t) in
-    let key_is = key-of-row capacity side q.id.day cycle (own side q) lines l ∙ keys in
+    let key_is = key-of-row capacity side q.id.day cycle rule (own side q) lines l ∙ keys in
     subst (λ (k : Key). find (is_at k) table.rows ≡ Some row) key_is (find_member table.rows row sound.sorted there)
 
 coded : (side : Side) (portfolio code : List ℕ) → code_at side (pair_of side portfolio code) ≡ portfolio
@@ -246,12 +248,12 @@ direction-self : (direction : Direction) → nat_eq (place_of direction) (place_
 direction-self IM = refl
 direction-self MI = refl
 
-line-passes : (code : List ℕ) (direction : Direction) (l : Line) → l.counterparty ≡ code → l.direction ≡ direction → is_line code direction l ≡ true
+line-passes : (code : List ℕ) (direction : Direction) (l : NominationLine) → l.counterparty ≡ code → l.direction ≡ direction → is_line code direction l ≡ true
 line-passes code direction l code_is direction_is =
     and_from (bytes_eq l.counterparty code) (is_in direction l) ((bytes_eq-Decides l.counterparty code).1 code_is)
     (ap (λ (d : Direction). nat_eq (place_of d) (place_of direction)) direction_is ∙ direction-self direction)
 
-none-passes : (p : Line → Bool) (lines : List Line) (l : Line) → find p lines ≡ None → In l lines → p l ≡ true → ⊥
+none-passes : (p : NominationLine → Bool) (lines : List NominationLine) (l : NominationLine) → find p lines ≡ None → In l lines → p l ≡ true → ⊥
 none-passes p [] l none there passes = there
 none-passes p (x ∷ xs) l none (inl same) passes = let here : p x ≡ true = ap p same ∙ passes in let found : find p (x ∷ xs) ≡ Some x = rw here refl in cc
 none-passes p (x ∷ xs) l none (inr there) passes = by (p x) none (λ e. none-passes p xs l e there passes)
@@ -261,15 +263,15 @@ none-passes p (x ∷ xs) l none (inr there) passes = by (p x) none (λ e. none-p
     by false e rest = rest e
 
 -- a row for the key is of a line for the counterparty and direction
-row-lined : (capacity : Capacity) (side : Side) (cycle : ℕ) (documents : List Nomint) (q : Question) (row : Row)
-    → In row (span_table capacity (span_of side q.id.day cycle) documents).rows → key_of row ≡ keyed q.pair q.direction
+row-lined : (capacity : Capacity) (side : Side) (cycle : ℕ) (rule : Rule) (documents : List Nomint) (q : Question) (row : Row)
+    → In row (span_table capacity (span_of side q.id.day cycle rule) documents).rows → key_of row ≡ keyed q.pair q.direction
     → nominated_line side q (in_force (own side q) q.id.day documents) ≡ None → ⊥
-row-lined capacity side cycle documents q row there key_is none =
-    let of = row-of capacity side q.id.day cycle documents row there in
+row-lined capacity side cycle rule documents q row there key_is none =
+    let of = row-of capacity side q.id.day cycle rule documents row there in
     let l = of.source in
     let lines = lines_of (in_force of.portfolio q.id.day documents) in
     let keys : keyed (pair_of side of.portfolio l.counterparty) l.direction ≡ keyed q.pair q.direction =
-    sym (key-of-row capacity side q.id.day cycle of.portfolio lines l) ∙ ap key_of of.is ∙ key_is in
+    sym (key-of-row capacity side q.id.day cycle rule of.portfolio lines l) ∙ ap key_of of.is ∙ key_is in
     let portfolio_is : of.portfolio ≡ own side q = sym (coded side of.portfolio l.counterparty) ∙ ap (λ (k : Key). code_at side k.pair) keys in
     let code_is : l.counterparty ≡ counterparty side q = sym (coded-other side of.portfolio l.counterparty) ∙ ap (λ (k : Key). code_at (other side) k.pair) keys in
     let direction_is : l.direction ≡ q.direction = ap (λ (k : Key). k.direction) keys in
@@ -277,24 +279,24 @@ row-lined capacity side cycle documents q row there key_is none =
     none-passes (is_line (counterparty side q) q.direction) (lines_of (in_force (own side q) q.id.day documents)) l none in_own
     (line-passes (counterparty side q) q.direction l code_is direction_is)
 
-row-missed : (capacity : Capacity) (side : Side) (cycle : ℕ) (documents : List Nomint) (q : Question) (table : TableContents)
-    → table ≡ span_table capacity (span_of side q.id.day cycle) documents → nominated_line side q (in_force (own side q) q.id.day documents) ≡ None
+row-missed : (capacity : Capacity) (side : Side) (cycle : ℕ) (rule : Rule) (documents : List Nomint) (q : Question) (table : TableContents)
+    → table ≡ span_table capacity (span_of side q.id.day cycle rule) documents → nominated_line side q (in_force (own side q) q.id.day documents) ≡ None
     → find (is_at (keyed q.pair q.direction)) table.rows ≡ None
-row-missed capacity side cycle documents q table table_is none = by (find (is_at (keyed q.pair q.direction)) table.rows) refl
+row-missed capacity side cycle rule documents q table table_is none = by (find (is_at (keyed q.pair q.direction)) table.rows) refl
   where
     by : (o : Option Row) → find (is_at (keyed q.pair q.direction)) table.rows ≡ o → o ≡ None
     by None e = refl
     by (Some row) e =
         let found = found_is table.rows (keyed q.pair q.direction) row e in
-        absurd (row-lined capacity side cycle documents q row (subst (λ (t : TableContents). In row t.rows) table_is found.0) found.1 none)
+        absurd (row-lined capacity side cycle rule documents q row (subst (λ (t : TableContents). In row t.rows) table_is found.0) found.1 none)
 
 -- ---- the processed quantity is what the frozen table reads
 
-table-is : (side : Side) (facts : List Fact) (q : Question) → frozen_table side facts q.id ≡ span_table (counted_capacity facts q) (span_of side q.id.day q.id.cycle) (counted_documents facts q)
+table-is : (side : Side) (facts : List Fact) (q : Question) → frozen_table side facts q.id ≡ span_table (counted_capacity facts q) (span_of side q.id.day q.id.cycle (rule_of q.id facts)) (counted_documents facts q)
 unfolding frozen_table processed
 table-is side facts q = refl
 
-known-by : (side : Side) (facts : List Fact) (q : Question) (o : Option Nomint) (l : Line) → AreSound (counted_capacity facts q) (counted_documents facts q) q.id.day → standing_nomination side facts q ≡ o
+known-by : (side : Side) (facts : List Fact) (q : Question) (o : Option Nomint) (l : NominationLine) → AreSound (counted_capacity facts q) (counted_documents facts q) q.id.day → standing_nomination side facts q ≡ o
     → nominated_line side q o ≡ Some l → knows (own side q) q.id.day (counted_capacity facts q).contracts ≡ true
 known-by side facts q None l sound e found = absurd cc
 known-by side facts q (Some document) l sound e found = (sound (own side q) document e).known
@@ -305,12 +307,12 @@ front-sound side point facts q legal =
     (subst (λ (fs : List Fact). bad_fact side point fs ≡ None) (front-taken (is_closing q.id) facts) (legal-front side point facts (skipped (is_closing q.id) facts) legal))
 
 -- in the covered hours
-inside : (side : Side) (facts : List Fact) (q : Question) (o : Option Line) → AreSound (counted_capacity facts q) (counted_documents facts q) q.id.day → IsTable (frozen_table side facts q.id)
+inside : (side : Side) (facts : List Fact) (q : Question) (o : Option NominationLine) → AreSound (counted_capacity facts q) (counted_documents facts q) q.id.day → IsTable (frozen_table side facts q.id)
     → (nat_le (first_hour q.id.day q.id.cycle) q.hour && nat_le q.hour (hour_count q.id.day)) ≡ true → nominated_line side q (standing_nomination side facts q) ≡ o
-    → processed_line_quantity side facts q o ≡ read_at q (frozen_table side facts q.id)
+    → processed_line_by (rule_of q.id facts) side facts q o ≡ read_at q (frozen_table side facts q.id)
 inside side facts q None sound is_table covered found =
     sym (reading-missed (frozen_table side facts q.id) q.pair q.direction q.hour
-    (row-missed (counted_capacity facts q) side q.id.cycle (counted_documents facts q) q (frozen_table side facts q.id) (table-is side facts q) found))
+    (row-missed (counted_capacity facts q) side q.id.cycle (rule_of q.id facts) (counted_documents facts q) q (frozen_table side facts q.id) (table-is side facts q) found))
 inside side facts q (Some l) sound is_table covered found =
     let table = frozen_table side facts q.id in
     let is = table-is side facts q in
@@ -320,19 +322,26 @@ inside side facts q (Some l) sound is_table covered found =
     let low : first_hour q.id.day q.id.cycle ≤ q.hour = grind (arith, nat_tests, covered) in
     let high : q.hour ≤ hour_count q.id.day = grind (arith, nat_tests, covered) in
     let lines = lines_of (standing_nomination side facts q) in
-    let row = processed_row (counted_capacity facts q) (span_of side q.id.day q.id.cycle) (own side q) lines l in
+    let row = processed_row (counted_capacity facts q) (span_of side q.id.day q.id.cycle (rule_of q.id facts)) (own side q) lines l in
     sym (reading-found table q.pair q.direction q.hour row
-    (row-found (counted_capacity facts q) side q.id.cycle (counted_documents facts q) q l table is is_table (known-by side facts q (standing_nomination side facts q) l sound refl found) found) covered_here
+    (row-found (counted_capacity facts q) side q.id.cycle (rule_of q.id facts) (counted_documents facts q) q l table is is_table (known-by side facts q (standing_nomination side facts q) l sound refl found) found) covered_here
     ∙ ap (λ first. slice_index row.hours (q.hour - first)) first_is
-    ∙ row-quantity (counted_capacity facts q) side q.id.day q.id.cycle (own side q) lines l q.hour low high)
+    ∙ row-quantity (counted_capacity facts q) side q.id.day q.id.cycle (rule_of q.id facts) (own side q) lines l q.hour low high)
 
 pub frozen-reads : (side : Side) (point : List ℕ) (facts : List Fact) (q : Question) → bad_fact side point facts ≡ None → FitsDesk side point facts
     → is_closed q.id facts ≡ true → processed_quantity side facts q ≡ read_at q (frozen_table side facts q.id)
 unfolding processed_quantity
-frozen-reads side point facts q legal fits closed = ap (λ (b : Bool). cond b quantity 0) covered_is ∙ by inner refl
+frozen-reads side point facts q legal fits closed = ap (λ (rule : Rule). cond (is_covered q) (processed_line_by rule side facts q line) 0) rule_is ∙ ap (λ (b : Bool). cond b quantity 0) covered_is ∙ by inner refl
   where
+    line : Option NominationLine
+    line = nominated_line side q (standing_nomination side facts q)
+
+    -- the rule is that of the closing
+    rule_is : asked_rule facts q ≡ rule_of q.id facts
+    rule_is = ap (λ (b : Bool). cond b (rule_of q.id facts) Two) closed
+
     quantity : ℕ
-    quantity = processed_line_quantity side facts q (nominated_line side q (standing_nomination side facts q))
+    quantity = processed_line_by (rule_of q.id facts) side facts q line
 
     inner : Bool
     inner = nat_le (first_hour q.id.day q.id.cycle) q.hour && nat_le q.hour (hour_count q.id.day)

@@ -4,16 +4,17 @@ use Rattle.std.specs.Prelude.{◌≡◌, ℕ, ◌+◌, ◌-◌, ◌*◌, ◌/◌
 use Rattle.std.specs.Option.{option_and_then, option_map_or}
 use Rattle.gi_pairs.specs.Table.{TableContents}
 use Rattle.gi_pairs.specs.declared.side.Side.{Side}
-use Rattle.gi_messages.specs.declared.line.Line.{Line}
+use Rattle.gi_messages.specs.declared.nomination_line.NominationLine.{NominationLine}
 use Rattle.gi_processing.specs.HoursLeft.{left_under}
 use Rattle.gi_processing.specs.Reduction.{quantity_at}
 use Rattle.gi_processing.specs.declared.contract.Contract.{Contract}
+use Rattle.gi_processing.specs.declared.rule.Rule.TheVariants.{One}
 use Rattle.gi_facts.specs.declared.fact.Fact.{Fact}
-use Rattle.gi_desk.specs.History.{contract_in, document_in, frozen_table, is_closed, is_closing, notice_in, peer_in, peer_of}
+use Rattle.gi_desk.specs.History.{contract_in, document_in, frozen_table, is_closed, is_closing, notice_in, peer_in, peer_of, rule_in}
 use Rattle.gi_desk.specs.Machine.{DeskState, bad_fact}
 use Rattle.gi_desk.specs.Queries.{confirmed, fact_at}
 use Rattle.gi_desk.specs.Writable.{FitsDesk}
-use Rattle.gi_explanations.specs.Basis.{nominated_line, standing_contract, standing_nomination, standing_notice}
+use Rattle.gi_explanations.specs.Basis.{asked_rule, nominated_line, standing_contract, standing_nomination, standing_notice}
 use Rattle.gi_explanations.specs.Numbers.{numbers}
 use Rattle.gi_explanations.specs.Outcome.{peer_quantity, read_at}
 use Rattle.gi_explanations.specs.Reduction.{amounts, available_quantity, is_covered, processed_quantity, reduced}
@@ -41,21 +42,26 @@ ExplainsTheAvailable =
     → available_quantity side facts q
     ≡ contract.firm * (left_under (standing_notice facts q)).firm / 1000 + contract.interruptible * (left_under (standing_notice facts q)).interruptible / 1000
 
--- The processed quantity of a covered hour is what the formula makes of the nominated quantity, of what is available and of
--- the sums, as they are shown.
+-- What is left is what is available less what the lines of lower numbers nominate, as they are shown.
+abbrev pub ExplainsTheLeft : Type 0
+ExplainsTheLeft = (side : Side) (facts : List Fact) (q : Question) → (amounts side facts q).left ≡ available_quantity side facts q - (amounts side facts q).nominated_before
+
+-- The processed quantity of a covered hour is what the formula makes of the nominated quantity, of what is left and of the
+-- sums, as they are shown.
 abbrev pub ExplainsTheProcessed : Type 0
 ExplainsTheProcessed =
-    (side : Side) (facts : List Fact) (q : Question) (line : Line) → is_covered q ≡ true → nominated_line side q (standing_nomination side facts q) ≡ Some line
+    (side : Side) (facts : List Fact) (q : Question) (line : NominationLine) → is_covered q ≡ true → nominated_line side q (standing_nomination side facts q) ≡ Some line
     → processed_quantity side facts q ≡ reduced (amounts side facts q) (quantity_at (q.hour - 1) line)
 
 -- The numbers that are shown are those of the facts that say it: the nomination, the contract and the notice that stand, the
--- closing where the cycle is closed, and the meeting where it has met the peer's table.
+-- closing, with its rule, where the cycle is closed, and the meeting where it has met the peer's table.
 pub record NamesTheFacts (side : Side) (facts : List Fact) (q : Question) (n : Numbers) : Type 0 where
   pub nomination : option_and_then document_in (fact_at facts n.nomination) ≡ standing_nomination side facts q
   pub contract : option_and_then contract_in (fact_at facts n.contract) ≡ standing_contract side facts q
   pub notice : option_and_then notice_in (fact_at facts n.notice) ≡ standing_notice facts q
   pub closed : is_some n.closing ≡ is_closed q.id facts
   pub closing : IfSome n.closing (λ number. option_map_or (is_closing q.id) (fact_at facts number) false ≡ true)
+  pub rule : IfSome n.closing (λ number. option_map_or rule_in (fact_at facts number) One ≡ asked_rule facts q)
   pub met : is_some n.meeting ≡ is_some (peer_of q.id facts)
   pub meeting : IfSome n.meeting (λ number. option_and_then (peer_in q.id) (fact_at facts number) ≡ peer_of q.id facts)
 

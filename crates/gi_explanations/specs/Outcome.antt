@@ -1,17 +1,22 @@
 -- What became of the processed quantity: frozen, met by the peer's, confirmed, told.
-use Rattle.std.specs.Prelude.{ℕ, List, ◌++◌, min, Bool, false, true, is_some, Option, Some, None, option_map, unwrap_or, codes}
+use Rattle.std.specs.Prelude.{ℕ, List, ◌++◌, find, min, nat_eq, Bool, ◌&&◌, false, true, is_some, Option, Some, None, option_map, unwrap_or, codes}
 use Rattle.std.specs.Fmt.{decimal}
+use Rattle.std.specs.Str.{bytes_eq}
+use Rattle.gi_pairs.specs.Direction.{place_of}
 use Rattle.gi_pairs.specs.Table.{TableContents, reading}
+use Rattle.gi_pairs.specs.declared.direction.Direction.{Direction}
 use Rattle.gi_pairs.specs.declared.side.Side.{Side}
 use Rattle.gi_messages.specs.declared.line.Line.{Line}
 use Rattle.gi_messages.specs.declared.message.Nomres.{Nomres}
+use Rattle.gi_processing.specs.declared.rule.Rule.{Rule}
+use Rattle.gi_processing.specs.declared.rule.Rule.TheVariants.{One, Two}
 use Rattle.gi_facts.specs.declared.fact.Fact.{Fact}
 use Rattle.gi_desk.specs.History.{peer_of}
 use Rattle.gi_desk.specs.Machine.{DeskState}
 use Rattle.gi_desk.specs.Queries.{confirmed, told}
+use Rattle.gi_explanations.specs.Basis.{asked_rule}
 use Rattle.gi_explanations.specs.Numbers.{counterparty, own}
 use Rattle.gi_explanations.specs.Reduction.{processed_quantity}
-use Rattle.gi_explanations.specs.Sums.{line_for}
 use Rattle.gi_explanations.specs.declared.numbers.Numbers.{Numbers}
 use Rattle.gi_explanations.specs.declared.question.Question.{Question}
 
@@ -27,14 +32,18 @@ abbrev pub confirmed_quantity : Side → DeskState → Question → Option ℕ
 confirmed_quantity side s q = option_map (read_at q) (confirmed side s q.id)
 
 -- the line for the counterparty and direction of what the side's portfolio is told
+abbrev pub is_told_line : List ℕ → Direction → Line → Bool
+is_told_line code direction line = bytes_eq line.counterparty code && nat_eq (place_of line.direction) (place_of direction)
+
 abbrev pub line_in : Side → Question → Option Nomres → Option Line
 line_in side q None = None
-line_in side q (Some nomres) = line_for (counterparty side q) q.direction nomres.lines
+line_in side q (Some nomres) = find (is_told_line (counterparty side q) q.direction) nomres.lines
 
--- `frozen fact 4`
-abbrev pub frozen_line : Option ℕ → List ℕ
-frozen_line None = codes "frozen not closed\n"
-frozen_line (Some number) = codes "frozen fact " ++ (decimal number ++ codes "\n")
+-- `frozen fact 4`, and by rule 2 `frozen fact 4 rule 2`
+abbrev pub frozen_line : Rule → Option ℕ → List ℕ
+frozen_line rule None = codes "frozen not closed\n"
+frozen_line One (Some number) = codes "frozen fact " ++ (decimal number ++ codes "\n")
+frozen_line Two (Some number) = codes "frozen fact " ++ (decimal number ++ codes " rule 2\n")
 
 -- `peer fact 5 quantity 7`
 abbrev pub peer_line : ℕ → Option ℕ → List ℕ
@@ -62,5 +71,5 @@ told_line portfolio (Some line) = codes "told " ++ (portfolio ++ codes "\n")
 unfoldable pub outcome_lines : Side → DeskState → Question → Numbers → List ℕ
 outcome_lines side s q n =
     let peer = peer_quantity s.facts q in
-    frozen_line n.closing ++ (peer_line (unwrap_or n.meeting 0) peer ++ (lower_line (processed_quantity side s.facts q) peer
+    frozen_line (asked_rule s.facts q) n.closing ++ (peer_line (unwrap_or n.meeting 0) peer ++ (lower_line (processed_quantity side s.facts q) peer
     ++ (confirmed_line (is_some peer) (confirmed_quantity side s q) ++ told_line (own side q) (line_in side q (told side s (own side q) q.id)))))

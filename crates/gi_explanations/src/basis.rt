@@ -1,20 +1,21 @@
 //! What a quantity is made from.
 
-ghost use Rattle.std.specs.Prelude.{◌≡◌, ◌≤◌, IfOk, IfSome, length, string_bytes};
-ghost use Rattle.std.specs.Option.{option_and_then, option_copied};
+ghost use Rattle.std.specs.Prelude.{◌≡◌, ◌≤◌, IfOk, IfSome, Some, length, string_bytes};
+ghost use Rattle.std.specs.Option.{option_and_then, option_copied, option_map_or};
 ghost use Rattle.gi_nominations.specs.Lines.{most_lines};
-ghost use Rattle.gi_desk.specs.History.{contract_in, document_in, notice_in};
+ghost use Rattle.gi_desk.specs.History.{contract_in, document_in, notice_in, rule_in};
 ghost use Rattle.gi_desk.specs.Queries.{fact_at};
-ghost use Rattle.gi_explanations.specs.Basis.{asked_line as asked_line_of, basis_lines as basis_lines_of, contract_line as contract_line_of, nominated_line, nominated_words as nominated_words_of, nomination_line as nomination_line_of, notice_line as notice_line_of, standing_contract, standing_nomination, standing_notice};
+ghost use Rattle.gi_explanations.specs.Basis.{asked_rule, asked_line as asked_line_of, basis_lines as basis_lines_of, contract_line as contract_line_of, nominated_line, nominated_words as nominated_words_of, nomination_line as nomination_line_of, notice_line as notice_line_of, standing_contract, standing_nomination, standing_notice};
 ghost use Rattle.gi_explanations.specs.Numbers.{numbers as numbers_of};
+ghost use Rattle.gi_processing.specs.declared.rule.Rule.TheVariants.{One};
 
 use crate::lines::{line_for, quantity};
 use crate::numbers::Numbers;
 use crate::question::Question;
 use gi_desk::{Desk, Fact, Role};
-use gi_messages::{Line, Nomint};
+use gi_messages::{NominationLine, Nomint};
 use gi_pairs::Side;
-use gi_processing::{Contract, Notice};
+use gi_processing::{Contract, Notice, Rule};
 use std::alloc::{AllocError, Global};
 
 fn document_at<R: Role>(desk: &Desk<R>, n: u32) -> Option<&Nomint>
@@ -44,6 +45,26 @@ fn notice_at<R: Role>(desk: &Desk<R>, n: u32) -> Option<Notice>
     }
 }
 
+fn rule_at<R: Role>(desk: &Desk<R>, n: u32) -> Rule
+    ensures { result ≡ option_map_or rule_in (fact_at desk.now.facts n) One }
+{
+    match desk.fact(n) {
+        Some(Fact::Closed { rule, .. }) => *rule,
+        _ => Rule::One,
+    }
+}
+
+/// The rule: that of the closing, and rule 2 where the cycle is not closed.
+pub(crate) fn rule<R: Role>(desk: &Desk<R>, question: &Question, numbers: &Numbers) -> Rule
+    requires { numbers.now ≡ numbers_of R.SIDE desk.now.facts question.now }
+    ensures { result ≡ asked_rule desk.now.facts question.now }
+{
+    match numbers.closing {
+        Some(n) => rule_at(desk, n),
+        None => Rule::Two,
+    }
+}
+
 /// The nomination in force.
 pub(crate) fn nomination<'a, R: Role>(
     desk: &'a Desk<R>,
@@ -54,7 +75,7 @@ pub(crate) fn nomination<'a, R: Role>(
     ensures value { option_copied result ≡ standing_nomination R.SIDE desk.now.facts question.now }
     ensures few { IfSome result (λ document. length document.now.lines ≤ most_lines) }
 {
-    desk.known();
+    desk.reveal_invariant();
     document_at(desk, numbers.nomination)
 }
 
@@ -87,7 +108,7 @@ pub(crate) fn line<'a>(
     side: Side,
     question: &Question,
     document: Option<&'a Nomint>,
-) -> Option<&'a Line>
+) -> Option<&'a NominationLine>
     ensures { option_copied result ≡ nominated_line side question.now (option_copied document.entry) }
 {
     let code = question.pair.at(side.other());
@@ -110,32 +131,53 @@ pub(crate) fn asked_line(
     format!(in alloc; "explain {side} {initiating} {matching} {direction} {day} {cycle} {hour}\n")
 }
 
-fn nominated_words(alloc: Global, hour: u8, line: Option<&Line>) -> Result<String, AllocError>
-    ensures { IfOk result (λ text. string_bytes text ≡ nominated_words_of hour (option_copied line.entry)) }
+fn quantity_words(
+    alloc: Global,
+    rule: Rule,
+    hour: u8,
+    line: &NominationLine,
+) -> Result<String, AllocError>
+    ensures { IfOk result (λ text. string_bytes text ≡ nominated_words_of rule hour (Some line.now)) }
+{
+    let quantity = quantity(line, hour);
+    match rule {
+        Rule::One => format!(in alloc; " quantity {quantity}"),
+        Rule::Two => {
+            let priority = line.priority;
+            format!(in alloc; " quantity {quantity} priority {priority}")
+        }
+    }
+}
+
+fn nominated_words(
+    alloc: Global,
+    rule: Rule,
+    hour: u8,
+    line: Option<&NominationLine>,
+) -> Result<String, AllocError>
+    ensures { IfOk result (λ text. string_bytes text ≡ nominated_words_of rule hour (option_copied line.entry)) }
 {
     match line {
         None => format!(in alloc; " no line"),
-        Some(line) => {
-            let quantity = quantity(line, hour);
-            format!(in alloc; " quantity {quantity}")
-        }
+        Some(line) => quantity_words(alloc, rule, hour, line),
     }
 }
 
 fn nomination_line(
     alloc: Global,
+    rule: Rule,
     number: u32,
     hour: u8,
     document: Option<&Nomint>,
-    line: Option<&Line>,
+    line: Option<&NominationLine>,
 ) -> Result<String, AllocError>
-    ensures { IfOk result (λ text. string_bytes text ≡ nomination_line_of number hour (option_copied document.entry) (option_copied line.entry)) }
+    ensures { IfOk result (λ text. string_bytes text ≡ nomination_line_of rule number hour (option_copied document.entry) (option_copied line.entry)) }
 {
     match document {
         None => format!(in alloc; "nomination none\n"),
         Some(document) => {
             let version = document.version;
-            let words = nominated_words(alloc, hour, line)?;
+            let words = nominated_words(alloc, rule, hour, line)?;
             format!(in alloc; "nomination fact {number} version {version}{words}\n")
         }
     }
@@ -182,7 +224,9 @@ pub(crate) fn basis_lines<R: Role>(
 {
     let document = nomination(desk, question, numbers);
     let line = line(R::SIDE, question, document);
-    let nomination = nomination_line(alloc, numbers.nomination, question.hour, document, line)?;
+    let rule = rule(desk, question, numbers);
+    let number = numbers.nomination;
+    let nomination = nomination_line(alloc, rule, number, question.hour, document, line)?;
     let contract = contract_line(alloc, numbers.contract, contract(desk, question, numbers))?;
     let notice = notice_line(alloc, numbers.notice, notice(desk, question, numbers))?;
     format!(in alloc; "{nomination}{contract}{notice}")

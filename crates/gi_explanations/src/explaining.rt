@@ -9,8 +9,9 @@ use crate::reduction::reduction_lines;
 use gi_desk::{Desk, Role};
 use std::alloc::{AllocError, Global};
 
-/// What a quantity comes from, in twelve lines: what was asked; the nomination, the contract and the
-/// notice that count, each with the number of its fact; what is available, the sums of what is
+/// What a quantity comes from, in twelve lines where the cycle is closed by rule 1, and in thirteen
+/// elsewhere: what was asked; the nomination, the contract and the notice that count, each with the
+/// number of its fact; what is available, what lines of lower numbers leave of it, the sums of what is
 /// nominated, and the processed quantity by its formula; the closing, the peer's quantity and the
 /// lower of both; whether that is confirmed, and whom it was told. The facts that count are those
 /// before the cycle's closing, all where it is not closed.

@@ -1,6 +1,6 @@
 //! What holds of all explanations. These functions do nothing; their clauses are the laws.
 
-ghost use Rattle.gi_explanations.specs.Laws.{ExplainsByFacts, ExplainsTheAvailable, ExplainsTheConfirmed, ExplainsTheFrozen, ExplainsTheProcessed};
+ghost use Rattle.gi_explanations.specs.Laws.{ExplainsByFacts, ExplainsTheAvailable, ExplainsTheConfirmed, ExplainsTheFrozen, ExplainsTheLeft, ExplainsTheProcessed};
 
 /// The processed quantity of a closed cycle is what its frozen table reads.
 pub fn explains_the_frozen()
@@ -12,10 +12,11 @@ pub fn explains_the_confirmed()
     ensures { ExplainsTheConfirmed }
 {}
 
-/// What is available, and the processed quantity, are what the formulas make of the numbers that are
-/// shown.
+/// What is available, what is left, and the processed quantity are what the formulas make of the
+/// numbers that are shown.
 pub fn explains_the_reduction()
     ensures available { ExplainsTheAvailable }
+    ensures left { ExplainsTheLeft }
     ensures processed { ExplainsTheProcessed }
 {}
 

@@ -1,19 +1,20 @@
 //! What became of the processed quantity.
 
-ghost use Rattle.std.specs.Prelude.{◌≡◌, ◌≤◌, if◌then◌else◌, IfOk, None, Some, option_map, string_bytes};
+ghost use Rattle.std.specs.Prelude.{◌≡◌, ◌≤◌, if◌then◌else◌, IfOk, None, Some, find, option_map, string_bytes};
 ghost use Rattle.std.specs.Option.{option_and_then, option_copied};
 ghost use Rattle.gi_desk.specs.History.{peer_in, peer_of};
 ghost use Rattle.gi_desk.specs.Queries.{fact_at, told as told_of};
 ghost use Rattle.gi_explanations.specs.Numbers.{numbers as numbers_of, own};
-ghost use Rattle.gi_explanations.specs.Outcome.{confirmed_line as confirmed_line_of, frozen_line as frozen_line_of, line_in, lower_line as lower_line_of, outcome_lines as outcome_lines_of, peer_line as peer_line_of, read_at, told_line as told_line_of};
+ghost use Rattle.gi_explanations.specs.Outcome.{confirmed_line as confirmed_line_of, frozen_line as frozen_line_of, is_told_line, line_in, lower_line as lower_line_of, outcome_lines as outcome_lines_of, peer_line as peer_line_of, read_at, told_line as told_line_of};
 
-use crate::lines::line_for;
+use crate::basis::rule;
 use crate::numbers::Numbers;
 use crate::question::Question;
 use crate::reduction::processed;
 use gi_desk::{Desk, Fact, Role};
 use gi_messages::{Line, Nomres};
-use gi_pairs::{Code, CycleId, Side, Table};
+use gi_pairs::{Code, CycleId, Direction, Side, Table};
+use gi_processing::Rule;
 use std::alloc::{AllocError, Global};
 
 fn peer_if(same: bool, peer: &Table) -> Option<&Table>
@@ -49,12 +50,21 @@ fn read(table: Option<&Table>, question: &Question) -> Option<u64>
     }
 }
 
-fn frozen_line(alloc: Global, closing: Option<u32>) -> Result<String, AllocError>
-    ensures { IfOk result (λ text. string_bytes text ≡ frozen_line_of closing) }
+fn closed_line(alloc: Global, rule: Rule, number: u32) -> Result<String, AllocError>
+    ensures { IfOk result (λ text. string_bytes text ≡ frozen_line_of rule (Some number)) }
+{
+    match rule {
+        Rule::One => format!(in alloc; "frozen fact {number}\n"),
+        Rule::Two => format!(in alloc; "frozen fact {number} rule 2\n"),
+    }
+}
+
+fn frozen_line(alloc: Global, rule: Rule, closing: Option<u32>) -> Result<String, AllocError>
+    ensures { IfOk result (λ text. string_bytes text ≡ frozen_line_of rule closing) }
 {
     match closing {
         None => format!(in alloc; "frozen not closed\n"),
-        Some(number) => format!(in alloc; "frozen fact {number}\n"),
+        Some(number) => closed_line(alloc, rule, number),
     }
 }
 
@@ -106,6 +116,18 @@ fn told_line(alloc: Global, portfolio: Code, line: Option<&Line>) -> Result<Stri
     }
 }
 
+fn is_told_for(line: &Line, code: Code, direction: Direction) -> bool
+    ensures { result ≡ is_told_line code direction line.now }
+{
+    line.counterparty == code && line.direction == direction
+}
+
+fn told_line_for(lines: &[Line], code: Code, direction: Direction) -> Option<&Line>
+    ensures { option_copied result ≡ find (is_told_line code direction) lines.now }
+{
+    lines.iter().find(|line| is_told_for(line, code, direction))
+}
+
 fn line_of<'a>(side: Side, question: &Question, nomres: &'a Option<Nomres>) -> Option<&'a Line>
     ensures { option_copied result ≡ line_in side question.now nomres.now }
 {
@@ -113,7 +135,7 @@ fn line_of<'a>(side: Side, question: &Question, nomres: &'a Option<Nomres>) -> O
         None => None,
         Some(nomres) => {
             let code = question.pair.at(side.other());
-            line_for(nomres.lines.as_slice(), code, question.direction)
+            told_line_for(nomres.lines.as_slice(), code, question.direction)
         }
     }
 }
@@ -139,7 +161,7 @@ pub(crate) fn outcome_lines<R: Role>(
 {
     let peer = read(met(desk, question, numbers), question);
     let confirmed = read(desk.confirmed(question.id), question);
-    let frozen = frozen_line(alloc, numbers.closing)?;
+    let frozen = frozen_line(alloc, rule(desk, question, numbers), numbers.closing)?;
     let met = peer_line(alloc, numbers.meeting.unwrap_or(0), peer)?;
     let lower = lower_line(alloc, processed(desk, question, numbers), peer)?;
     let confirmed = confirmed_line(alloc, peer.is_some(), confirmed)?;

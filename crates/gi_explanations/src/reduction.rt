@@ -3,82 +3,92 @@
 ghost use Rattle.std.specs.Prelude.{◌≡◌, ◌*◌, ◌/◌, ◌-◌, ◌<◌, ◌≤◌, ◌^◌, IfOk, length, string_bytes};
 ghost use Rattle.std.specs.Option.{option_copied};
 ghost use Rattle.gi_nominations.specs.Lines.{most_lines};
-ghost use Rattle.gi_processing.specs.Capacity.{left_of, part as part_of};
-ghost use Rattle.gi_processing.specs.HoursLeft.{left_under};
+ghost use Rattle.gi_processing.specs.Capacity.{left_of};
 ghost use Rattle.gi_processing.specs.Reduction.{in_direction};
+ghost use Rattle.gi_processing.specs.declared.rule.Rule.TheVariants.{Two};
 ghost use Rattle.gi_explanations.specs.Numbers.{counterparty, numbers as numbers_of};
-ghost use Rattle.gi_explanations.specs.Reduction.{amounts as amounts_in, amounts_of as amounts_at, available_line as available_line_of, formula as formula_of, is_covered as is_covered_of, processed_line as processed_line_of, processed_quantity as processed_quantity_of, reason as reason_of, reduced as reduced_of, reduction_lines as reduction_lines_of, sums_line as sums_line_of};
+ghost use Rattle.gi_explanations.specs.Sums.{sum_served_before};
+ghost use Rattle.gi_explanations.specs.Reduction.{amounts as amounts_in, amounts_of as amounts_at, available_line as available_line_of, formula as formula_of, is_covered as is_covered_of, priority_line as priority_line_of, processed_line as processed_line_of, processed_quantity as processed_quantity_of, reason as reason_of, reduced as reduced_of, reduction_lines as reduction_lines_of, sums_line as sums_line_of};
 
-use crate::basis::{contract, line, nomination, notice};
+use crate::basis::{contract, line, nomination, notice, rule};
 use crate::covering::is_covered;
-use crate::lines::{Span, quantity, sum};
+use crate::lines::{Group, Span, quantity, sum};
 use crate::numbers::Numbers;
 use crate::question::Question;
 use gi_desk::{Desk, Role};
-use gi_messages::Line;
-use gi_pairs::{Quantity, Side};
-use gi_processing::{Contract, MOST_PERMILLE, Notice};
+use gi_messages::NominationLine;
+use gi_pairs::Side;
+use gi_processing::{Contract, Notice, Rule, Thousandths, scaled};
 use std::alloc::{AllocError, Global};
 
 /// What is available, and the sums of what is nominated, in kWh/h.
 #[derive(Clone, Copy)]
 pub(crate) struct Amounts {
     pub available: u64,
-    /// Of the counterparties before the one that is asked about.
+    /// Nominated by the lines that are served before.
+    pub nominated_before: u64,
+    /// After those, of what is available.
+    pub left: u64,
+    /// Of the counterparties before the one that is asked about, among the lines that share that.
     pub before: u64,
     /// Of those and of that one.
     pub up_to: u64,
     pub all: u64,
 }
 
-fn firm_left(notice: &Option<Notice>) -> u16
-    ensures { result ≡ (left_under notice.now).firm }
-{
-    match notice {
-        None => MOST_PERMILLE,
-        Some(notice) => notice.firm,
-    }
-}
-
-fn interruptible_left(notice: &Option<Notice>) -> u16
-    ensures { result ≡ (left_under notice.now).interruptible }
-{
-    match notice {
-        None => MOST_PERMILLE,
-        Some(notice) => notice.interruptible,
-    }
-}
-
-fn part(quantity: Quantity, permille: u16) -> u64
-    ensures value { result ≡ part_of quantity permille }
-    ensures bound { result < 2 ^ 60 }
-{
-    quantity.value() * u64::from(permille) / u64::from(MOST_PERMILLE)
-}
-
 fn available(contract: Option<Contract>, notice: Option<Notice>) -> u64
     ensures { result ≡ left_of contract notice }
 {
-    let Some(contract) = contract else {
-        return 0;
-    };
-    part(contract.firm, firm_left(&notice))
-        + part(contract.interruptible, interruptible_left(&notice))
+    match contract {
+        Some(contract) => contract.parts(Thousandths::under(&notice)),
+        None => 0,
+    }
 }
 
-fn amounts_of(side: Side, question: &Question, lines: &[Line], available: u64) -> Amounts
+/// What the lines that are served before the line nominate.
+fn nominated_before(
+    rule: Rule,
+    line: Option<&NominationLine>,
+    question: &Question,
+    lines: &[NominationLine],
+) -> u64
     requires few { length lines.now ≤ most_lines }
-    ensures value { result ≡ amounts_at available (counterparty side question.now) (question.now.hour - 1) (in_direction question.now.direction lines.now) }
+    ensures { result ≡ sum_served_before rule (option_copied line.entry) (question.now.hour - 1) (in_direction question.now.direction lines.now) }
+{
+    match (rule, line) {
+        (Rule::Two, Some(line)) => {
+            let before = Group::Before(line.priority);
+            let (direction, hour) = (question.direction, question.hour);
+            sum(lines, Span::All, before, line.counterparty, direction, hour)
+        }
+        _ => 0,
+    }
+}
+
+fn amounts_of(
+    side: Side,
+    question: &Question,
+    lines: &[NominationLine],
+    rule: Rule,
+    line: Option<&NominationLine>,
+    available: u64,
+) -> Amounts
+    requires few { length lines.now ≤ most_lines }
+    ensures value { result ≡ amounts_at rule (option_copied line.entry) available (counterparty side question.now) (question.now.hour - 1) (in_direction question.now.direction lines.now) }
     ensures before { result.before ≤ result.all }
     ensures up_to { result.up_to ≤ result.all }
 {
     let code = question.pair.at(side.other());
     let (direction, hour) = (question.direction, question.hour);
-    let before = sum(lines, Span::Before, code, direction, hour);
-    let up_to = sum(lines, Span::UpTo, code, direction, hour);
-    let all = sum(lines, Span::All, code, direction, hour);
+    let group = Group::sharing(rule, line);
+    let before = sum(lines, Span::Before, group, code, direction, hour);
+    let up_to = sum(lines, Span::UpTo, group, code, direction, hour);
+    let all = sum(lines, Span::All, group, code, direction, hour);
+    let nominated_before = nominated_before(rule, line, question, lines);
     Amounts {
         available,
+        nominated_before,
+        left: available.saturating_sub(nominated_before),
         before,
         up_to,
         all,
@@ -97,9 +107,16 @@ fn amounts_for<R: Role>(desk: &Desk<R>, question: &Question, numbers: &Numbers) 
         notice(desk, question, numbers),
     );
     match nomination(desk, question, numbers) {
-        Some(document) => amounts_of(R::SIDE, question, document.lines.as_slice(), available),
+        Some(document) => {
+            let rule = rule(desk, question, numbers);
+            let line = line(R::SIDE, question, Some(document));
+            let lines = document.lines.as_slice();
+            amounts_of(R::SIDE, question, lines, rule, line, available)
+        }
         None => Amounts {
             available,
+            nominated_before: 0,
+            left: available,
             before: 0,
             up_to: 0,
             all: 0,
@@ -107,25 +124,17 @@ fn amounts_for<R: Role>(desk: &Desk<R>, question: &Question, numbers: &Numbers) 
     }
 }
 
-fn scaled(available: u64, sum: u64, all: u64) -> u64
-    requires some { 0 < all }
-    requires within { sum ≤ all }
-    ensures { result ≡ available * sum / all }
-{
-    (u128::from(available) * u128::from(sum) / u128::from(all)) as u64
-}
-
-/// A quantity's part of what is available.
+/// A quantity's part of what is left.
 fn reduced(amounts: Amounts, nominated: u64) -> u64
     requires before { amounts.before ≤ amounts.all }
     requires up_to { amounts.up_to ≤ amounts.all }
     ensures { result ≡ reduced_of amounts nominated }
 {
-    if amounts.all <= amounts.available {
+    if amounts.all <= amounts.left {
         return nominated;
     }
-    let up_to = scaled(amounts.available, amounts.up_to, amounts.all);
-    up_to.saturating_sub(scaled(amounts.available, amounts.before, amounts.all))
+    let up_to = scaled(amounts.left, amounts.up_to, amounts.all);
+    up_to.saturating_sub(scaled(amounts.left, amounts.before, amounts.all))
 }
 
 /// The processed quantity, in kWh/h.
@@ -157,10 +166,42 @@ fn available_line(
         return format!(in alloc; "available no contract = 0\n");
     };
     let (firm, interruptible) = (contract.firm.value(), contract.interruptible.value());
-    let (of_firm, of_interruptible) = (firm_left(&notice), interruptible_left(&notice));
+    let left = Thousandths::under(&notice);
+    let (of_firm, of_interruptible) = (left.firm, left.interruptible);
     format!(in alloc;
         "available {firm} * {of_firm} / 1000 + {interruptible} * {of_interruptible} / 1000 = {available}\n"
     )
+}
+
+fn of_priority(
+    alloc: Global,
+    line: Option<&NominationLine>,
+    amounts: Amounts,
+) -> Result<String, AllocError>
+    ensures { IfOk result (λ text. string_bytes text ≡ priority_line_of Two (option_copied line.entry) amounts) }
+{
+    match line {
+        None => format!(in alloc; "priority none\n"),
+        Some(line) => {
+            let (priority, left) = (line.priority, amounts.left);
+            let before = amounts.nominated_before;
+            format!(in alloc; "priority {priority} before {before} left {left}\n")
+        }
+    }
+}
+
+fn priority_line(
+    alloc: Global,
+    rule: Rule,
+    line: Option<&NominationLine>,
+    amounts: Amounts,
+) -> Result<String, AllocError>
+    ensures { IfOk result (λ text. string_bytes text ≡ priority_line_of rule (option_copied line.entry) amounts) }
+{
+    match rule {
+        Rule::One => Ok(String::new(alloc)),
+        Rule::Two => of_priority(alloc, line, amounts),
+    }
 }
 
 fn sums_line(alloc: Global, amounts: Amounts) -> Result<String, AllocError>
@@ -173,18 +214,18 @@ fn sums_line(alloc: Global, amounts: Amounts) -> Result<String, AllocError>
 fn formula(alloc: Global, amounts: Amounts) -> Result<String, AllocError>
     ensures { IfOk result (λ text. string_bytes text ≡ formula_of amounts) }
 {
-    let (available, all) = (amounts.available, amounts.all);
-    if all <= available {
-        return format!(in alloc; "all {all} within {available}");
+    let (left, all) = (amounts.left, amounts.all);
+    if all <= left {
+        return format!(in alloc; "all {all} within {left}");
     }
     let (before, up_to) = (amounts.before, amounts.up_to);
-    format!(in alloc; "{available} * {up_to} / {all} - {available} * {before} / {all}")
+    format!(in alloc; "{left} * {up_to} / {all} - {left} * {before} / {all}")
 }
 
 fn reason(
     alloc: Global,
     covered: bool,
-    line: Option<&Line>,
+    line: Option<&NominationLine>,
     amounts: Amounts,
 ) -> Result<String, AllocError>
     ensures { IfOk result (λ text. string_bytes text ≡ reason_of covered (option_copied line.entry) amounts) }
@@ -201,7 +242,7 @@ fn reason(
 fn processed_line(
     alloc: Global,
     covered: bool,
-    line: Option<&Line>,
+    line: Option<&NominationLine>,
     amounts: Amounts,
     quantity: u64,
 ) -> Result<String, AllocError>
@@ -228,7 +269,9 @@ pub(crate) fn reduction_lines<R: Role>(
     let contract = contract(desk, question, numbers);
     let notice = notice(desk, question, numbers);
     let available = available_line(alloc, contract, notice, amounts.available)?;
+    let rule = rule(desk, question, numbers);
+    let priority = priority_line(alloc, rule, line, amounts)?;
     let sums = sums_line(alloc, amounts)?;
     let processed = processed_line(alloc, covered, line, amounts, quantity)?;
-    format!(in alloc; "{available}{sums}{processed}")
+    format!(in alloc; "{available}{priority}{sums}{processed}")
 }

@@ -61,7 +61,7 @@ fn closes(fact: &Fact, id: &CycleId) -> bool
     ensures { result ≡ is_closing id.now fact.now }
 {
     match fact {
-        Fact::Closed(other) => other == id,
+        Fact::Closed { id: other, .. } => other == id,
         _ => false,
     }
 }

@@ -1,5 +1,5 @@
 -- Several facts that are written as one text are read back, and what is read are 1 to 64 facts.
-use Rattle.std.proofs.Common.{◌≡◌, ◌≢◌, inl, inr, ℕ, ◌≤◌, ◌&&◌, nat_le, true, List, [], ◌∷◌, ◌++◌, length, get_or, map, Option, Some, None, option_and_then, Result, Ok, Err, refl, sym, ap, ◌∙◌, subst, arith}
+use Rattle.std.proofs.Common.{◌≡◌, ◌≢◌, inl, inr, ℕ, ◌≤◌, Bool, ◌&&◌, nat_le, cond, true, false, List, [], ◌∷◌, ◌++◌, length, get_or, map, Option, Some, None, option_and_then, Result, Ok, Err, refl, sym, ap, ◌∙◌, subst, arith}
 use Rattle.std.specs.Prelude.{IfOk}
 use Rattle.std.specs.Global.{Vec}
 use Rattle.std.specs.List.{AllByRecursion}
@@ -9,21 +9,23 @@ use Rattle.std.proofs.lemmas.Bool.Decides.{nat_tests}
 use Rattle.std.proofs.lemmas.Option.{option_and_then_some}
 use Rattle.json.specs.Print.{print}
 use Rattle.json.specs.Written.{Written}
-use Rattle.serde_json.specs.Data.{Data, null, boolean, number, string, array, object, items_depth}
+use Rattle.serde_json.specs.Data.{Data, Items, null, boolean, number, string, array, object, items_depth}
+use Rattle.serde_json.specs.Find.{as_array}
 use Rattle.serde_json.specs.View.{items_of}
 use Rattle.serde_json.specs.Written.{compact_text}
 use Rattle.gi_messages.specs.Adding.{Added, tokens_of}
 use Rattle.gi_messages.specs.Json.{json_of}
 use Rattle.gi_messages.specs.Reading.{Read, ◌>>=◌, each}
+use Rattle.gi_messages.proofs.FieldLemmas.{as_elements, each_takes, items_len-Each}
 use Rattle.gi_messages.proofs.Plain.{ArePlainItems, json_of-compact_text}
 use Rattle.gi_messages.proofs.WrittenTokens.{text_is}
-use Rattle.gi_facts.specs.Batch.{array_text, batch_of, batch_of_value, batch_text, facts_data, most_facts, one_fact, several}
+use Rattle.gi_facts.specs.Batch.{array_text, batch_of, batch_of_value, batch_text, facts_data, holds_several, most_facts, one_fact, several}
 use Rattle.gi_facts.specs.Decoding.{fact}
-use Rattle.gi_facts.specs.Grammar.{IsWritable}
+use Rattle.gi_facts.specs.Grammar.{IsFact, IsWritable}
 use Rattle.gi_facts.specs.Writing.{closing_data, contract_data, data_of, fact_text, meeting_data, nomination_data, notice_data}
 use Rattle.gi_facts.specs.declared.fact.Fact.{Fact}
 use Rattle.gi_facts.specs.declared.fact.Fact.TheVariants as facts
-use Rattle.gi_facts.proofs.ReadingLemmas.{fact_again}
+use Rattle.gi_facts.proofs.ReadingLemmas.{Reads-fact, fact_again}
 use Rattle.gi_facts.proofs.WritingLemmas.{data_of-stands, depth-data_of, fits_from_writable_fact, plain}
 
 -- ---- the array that is written
@@ -59,7 +61,7 @@ unfolding contract_data notice_data nomination_data closing_data meeting_data
 one_object (facts.Contracted c) = refl
 one_object (facts.Noticed n) = refl
 one_object (facts.Nominated m) = refl
-one_object (facts.Closed id) = refl
+one_object (facts.Closed id rule) = refl
 one_object (facts.Met id peer) = refl
 
 pub batch_again : (fs : List Fact) → AllByRecursion IsWritable fs → 1 ≤ length fs → length fs ≤ 64 → batch_of (batch_text fs) ≡ Some fs
@@ -125,3 +127,27 @@ is_alone fs f (Err e) is h = tt
 -- the text of facts that were added to nothing
 pub is_several : {a b : Written} (fs : List Fact) (bytes : List ℕ) → length fs ≢ 1 → a.before ≡ [] → a.tokens ≡ [] → Added a b (tokens_of (facts_data fs)) → bytes ≡ b.before ++ print b.tokens → bytes ≡ batch_text fs
 is_several fs bytes many before none h is = is ∙ (text_is (facts_data fs) before none h ∙ more_text fs many)
+
+-- ---- what is read of an array
+
+module _ (ds : Items) (b : Bool) (counted : holds_several (array ds) ≡ b) where
+  as_counted : (fs : List Fact) → each fact ds ≡ Ok fs → several fs ≡ cond b (Some fs) None
+  as_counted fs read =
+      let as_many = items_len-Each IsFact ds fs (each_takes fact IsFact Reads-fact ds fs read) in
+      ap (λ test. cond test (Some fs) None) (subst (λ n. nat_le 2 n && nat_le n most_facts ≡ b) as_many counted)
+
+holds_none : (ds : Items) → holds_several (array ds) ≡ false → (r : Read (List Fact)) → each fact ds ≡ r → option_and_then several (result_ok r) ≡ None
+holds_none ds over (Ok fs) read = as_counted ds false over fs read
+holds_none ds over (Err key) read = refl
+
+-- an array of too few or too many elements
+pub is_miscounted : (d : Data) (ds : Items) → as_array d ≡ Some ds → holds_several d ≡ false → batch_of_value d ≡ None
+is_miscounted d ds is over =
+    let same = as_elements d ds is in
+    ap batch_of_value same ∙ holds_none ds (subst (λ v. holds_several v ≡ false) same over) (each fact ds) refl
+
+-- an array of as many as there may be
+pub is_several_read : (d : Data) (ds : Items) (fs : List Fact) → as_array d ≡ Some ds → holds_several d ≡ true → each fact ds ≡ Ok fs → batch_of_value d ≡ Some fs
+is_several_read d ds fs is within read =
+    let same = as_elements d ds is in
+    ap batch_of_value same ∙ ap (λ (r : Read (List Fact)). option_and_then several (result_ok r)) read ∙ as_counted ds true (subst (λ v. holds_several v ≡ true) same within) fs read

@@ -1,5 +1,5 @@
 -- A fact is read exactly where it stands in the relation.
-use Rattle.std.proofs.Common.{◌≡◌, ℕ, List, Option, Some, None, option_and_then, Result, Ok, Err, refl, sym, ap, ◌∙◌, subst}
+use Rattle.std.proofs.Common.{◌≡◌, ℕ, Bool, true, false, cond, nat_eq, eqb-true, List, Option, Some, None, option_and_then, Result, Ok, Err, refl, sym, ap, ◌∙◌, subst}
 use Rattle.std.specs.Prelude.{IfOk}
 use Rattle.std.specs.Result.{result_ok}
 use Rattle.std.specs.Str.{bytes_eq}
@@ -13,16 +13,16 @@ use Rattle.gi_pairs.specs.Table.{TableContents}
 use Rattle.gi_pairs.specs.declared.cycle_id.CycleId.{CycleId}
 use Rattle.gi_pairs.specs.declared.direction.Direction.{Direction}
 use Rattle.gi_messages.specs.Decoding.{nomint, kind_of as message_kind_of}
-use Rattle.gi_messages.specs.Grammar.{Has, IsText, IsWhole, HasTable}
+use Rattle.gi_messages.specs.Grammar.{Has, HasOr, IsText, IsWhole, HasTable}
 use Rattle.gi_messages.specs.Json.{json_of}
 use Rattle.gi_messages.specs.Limits.{last_cycle}
-use Rattle.gi_messages.specs.Reading.{Read, ◌>>=◌, code, day, direction, number, span, table}
+use Rattle.gi_messages.specs.Reading.{Read, ◌>>=◌, code, day, direction, number, number_or, span, table, wanted}
 use Rattle.gi_messages.specs.declared.head.Span.{Span}
 use Rattle.gi_messages.specs.declared.key.Key.TheVariants as keys
 use Rattle.gi_messages.specs.declared.kind.Kind.{Kind as MessageKind}
 use Rattle.gi_messages.specs.declared.kind.Kind.TheVariants as message_kinds
 use Rattle.gi_messages.specs.declared.message.Nomint.{Nomint}
-use Rattle.gi_messages.proofs.FieldLemmas.{Reads, Reads-code, Reads-day, Reads-direction, Reads-field, Reads-named, Reads-number, bind_ok}
+use Rattle.gi_messages.proofs.FieldLemmas.{Reads, Reads-code, Reads-day, Reads-direction, Reads-field, Reads-named, Reads-number, Reads-number_or, bind_ok, wanted_ok}
 use Rattle.gi_messages.proofs.HeadLemmas.{Reads-span, made_span}
 use Rattle.gi_messages.proofs.HoursLemmas.{ok_is}
 use Rattle.gi_messages.proofs.MessageLemmas.{found_passes, kind_of-again, kind_of-takes}
@@ -31,9 +31,12 @@ use Rattle.gi_messages.proofs.OrderLemmas.{for_its_hours}
 use Rattle.gi_messages.proofs.TableLemmas.{table_takes, table_again}
 use Rattle.gi_processing.specs.CapacityLimits.{most_permille}
 use Rattle.gi_processing.specs.declared.contract.Contract.{Contract}
+use Rattle.gi_processing.specs.Rule.{rule_number, rule_numbered}
 use Rattle.gi_processing.specs.declared.notice.Notice.{Notice}
-use Rattle.gi_facts.specs.Decoding.{Gives, contract, cycle_id, document, document_of, fact, fact_of, if_nomint, kind, meeting, notice, of_kind, of_value, peer_table}
-use Rattle.gi_facts.specs.Grammar.{IsContract, IsCycleId, IsDocument, IsFact, IsNotice, IsOfKind, IsPeerTable, Spells}
+use Rattle.gi_processing.specs.declared.rule.Rule.{Rule}
+use Rattle.gi_processing.specs.declared.rule.Rule.TheVariants.{One, Two}
+use Rattle.gi_facts.specs.Decoding.{Gives, closing, contract, cycle_id, document, document_of, fact, fact_of, if_nomint, kind, meeting, notice, of_kind, of_value, peer_table, rule}
+use Rattle.gi_facts.specs.Grammar.{HasRule, IsContract, IsCycleId, IsDocument, IsFact, IsNotice, IsOfKind, IsPeerTable, Spells}
 use Rattle.gi_facts.specs.Kind.{kind_named, kind_text, kinds as all_kinds}
 use Rattle.gi_facts.specs.declared.fact.Fact.{Fact}
 use Rattle.gi_facts.specs.declared.fact.Fact.TheVariants as facts
@@ -154,6 +157,43 @@ cycle_id_again : (d : Data) (id : CycleId) → IsCycleId d id → cycle_id d ≡
 unfolding cycle_id
 cycle_id_again d id h = rw ((Reads-day keys.Day).again d id.day h.day, (Reads-number 0 last_cycle keys.Cycle).again d id.cycle h.cycle) refl
 
+-- ---- rules
+
+rule_numbered_again : (r : Rule) → rule_numbered (rule_number r) ≡ Some r
+rule_numbered_again One = refl
+rule_numbered_again Two = refl
+
+rule_by : (n : ℕ) (r : Rule) (one two : Bool) → nat_eq n 1 ≡ one → nat_eq n 2 ≡ two → cond one (Some One) (cond two (Some Two) None) ≡ Some r → n ≡ rule_number r
+rule_by n r true two is other e = let same : One ≡ r = cc in eqb-true n 1 is ∙ ap rule_number same
+rule_by n r false true is other e = let same : Two ≡ r = cc in eqb-true n 2 other ∙ ap rule_number same
+rule_by n r false false is other e = absurd cc
+
+-- only the number of a rule is read as it
+rule_numbered_takes : (n : ℕ) (r : Rule) → rule_numbered n ≡ Some r → n ≡ rule_number r
+rule_numbered_takes n r e = rule_by n r (nat_eq n 1) (nat_eq n 2) refl refl e
+
+rule_takes : (d : Data) (r : Rule) → rule d ≡ Ok r → HasRule d r
+unfolding rule
+rule_takes d r e =
+    let n = bind_ok (number_or 1 1 2 keys.Rule d) (λ n. wanted keys.Rule (rule_numbered n)) r e in
+    subst (HasOr 1 (IsWhole 1 2) keys.Rule d) (rule_numbered_takes n.0 r (wanted_ok keys.Rule (rule_numbered n.0) r n.2)) ((Reads-number_or 1 1 2 keys.Rule).takes d n.0 n.1)
+
+rule_again : (d : Data) (r : Rule) → HasRule d r → rule d ≡ Ok r
+unfolding rule
+rule_again d r h = rw ((Reads-number_or 1 1 2 keys.Rule).again d (rule_number r) h, rule_numbered_again r) refl
+
+closing_takes : (d : Data) (f : Fact) → IsOfKind kinds.Closed d → closing d ≡ Ok f → IsFact d f
+unfolding closing
+closing_takes d f is e =
+    let second = λ (id : CycleId). rule d >>= λ r. Ok (facts.Closed id r) in
+    let b = bind_ok (cycle_id d) second f e in
+    let r = bind_ok (rule d) (λ r. Ok (facts.Closed b.0 r)) f b.2 in
+    subst (IsFact d) (ok_is (facts.Closed b.0 r.0) f r.2) (is, cycle_id_takes d b.0 b.1, rule_takes d r.0 r.1)
+
+closing_again : (d : Data) (id : CycleId) (r : Rule) → IsCycleId d id → HasRule d r → closing d ≡ Ok (facts.Closed id r)
+unfolding closing
+closing_again d id r is has = rw (cycle_id_again d id is, rule_again d r has) refl
+
 -- ---- meetings
 
 peer_table_takes : (d : Data) (peer : TableContents) → peer_table d ≡ Ok peer → IsPeerTable d peer
@@ -219,9 +259,7 @@ of_kind_takes kinds.Notice d f is e =
 of_kind_takes kinds.Nomination d f is e =
     let b = bind_ok (document d) (λ found. Ok (facts.Nominated found)) f e in
     subst (IsFact d) (ok_is (facts.Nominated b.0) f b.2) (is, Reads-document.takes d b.0 b.1)
-of_kind_takes kinds.Closed d f is e =
-    let b = bind_ok (cycle_id d) (λ found. Ok (facts.Closed found)) f e in
-    subst (IsFact d) (ok_is (facts.Closed b.0) f b.2) (is, cycle_id_takes d b.0 b.1)
+of_kind_takes kinds.Closed d f is e = closing_takes d f is e
 of_kind_takes kinds.Met d f is e =
     let second = λ (id : CycleId). peer_table d >>= λ peer. Ok (facts.Met id peer) in
     let b = bind_ok (cycle_id d) second f e in
@@ -243,10 +281,13 @@ unfolding meeting
 fact_again d (facts.Contracted c) h = of_kind_is kinds.Contract d h.0 ∙ ap (λ (s : Read Contract). s >>= λ found. Ok (facts.Contracted found)) (contract_again d c h.1)
 fact_again d (facts.Noticed n) h = of_kind_is kinds.Notice d h.0 ∙ ap (λ (s : Read Notice). s >>= λ found. Ok (facts.Noticed found)) (notice_again d n h.1)
 fact_again d (facts.Nominated m) h = of_kind_is kinds.Nomination d h.0 ∙ ap (λ (s : Read Nomint). s >>= λ found. Ok (facts.Nominated found)) (Reads-document.again d m h.1)
-fact_again d (facts.Closed id) h = of_kind_is kinds.Closed d h.0 ∙ ap (λ (s : Read CycleId). s >>= λ found. Ok (facts.Closed found)) (cycle_id_again d id h.1)
+fact_again d (facts.Closed id r) h = of_kind_is kinds.Closed d h.0 ∙ closing_again d id r h.1 h.2
 fact_again d (facts.Met id peer) h =
     of_kind_is kinds.Met d h.0 ∙ ap (λ (s : Read CycleId). s >>= λ found. peer_table d >>= λ table. Ok (facts.Met found table)) (cycle_id_again d id h.1)
     ∙ ap (λ (s : Read TableContents). s >>= λ table. Ok (facts.Met id table)) (peer_table_again d peer h.2)
+
+pub Reads-fact : Reads fact IsFact
+Reads-fact = record { takes = fact_takes; again = λ d f h. fact_again d f h }
 
 -- ---- bytes
 

@@ -1,5 +1,5 @@
 -- Facts are the same exactly where they are equal.
-use Rattle.std.proofs.Common.{◌≡◌, ℕ, true, ◌&&◌, List, refl, ap, subst, nat_eq}
+use Rattle.std.proofs.Common.{◌≡◌, ℕ, Bool, true, false, ◌&&◌, List, refl, ap, subst, nat_eq}
 use Rattle.std.specs.Prelude.{Decides}
 use Rattle.std.specs.Cmp.Lexicographic.{pointwise}
 use Rattle.std.proofs.lemmas.Bool.Decides.{Decides-and, Decides-eqb, Decides-like}
@@ -14,12 +14,15 @@ use Rattle.gi_pairs.specs.declared.direction.Direction.{Direction}
 use Rattle.gi_pairs.specs.declared.direction.Direction.TheVariants.{IM, MI}
 use Rattle.gi_pairs.specs.declared.row.Row.{Row}
 use Rattle.gi_messages.specs.Lines.{line_eq, nomint_eq}
-use Rattle.gi_messages.specs.declared.line.Line.{Line}
+use Rattle.gi_messages.specs.declared.nomination_line.NominationLine.{NominationLine}
 use Rattle.gi_messages.specs.declared.message.Nomint.{Nomint}
 use Rattle.gi_processing.specs.Capacity.{contract_eq, notice_eq, same_direction}
 use Rattle.gi_processing.specs.declared.contract.Contract.{Contract}
 use Rattle.gi_processing.specs.declared.notice.Notice.{Notice}
-use Rattle.gi_facts.specs.Same.{same_cycle, same_fact}
+use Rattle.gi_processing.specs.Rule.{rule_number}
+use Rattle.gi_processing.specs.declared.rule.Rule.{Rule}
+use Rattle.gi_processing.specs.declared.rule.Rule.TheVariants.{One, Two}
+use Rattle.gi_facts.specs.Same.{same_cycle, same_fact, same_rule}
 use Rattle.gi_facts.specs.declared.fact.Fact.{Fact}
 use Rattle.gi_facts.specs.declared.fact.Fact.TheVariants.{Contracted, Noticed, Nominated, Closed, Met}
 
@@ -64,16 +67,37 @@ tables a b =
     Decides-like (table_eq a b) (λ h. λ i. record { first = h.0.0 i; last = h.0.1 i; rows = h.1 i })
     (λ e. ((ap (λ (t : TableContents). t.first) e, ap (λ (t : TableContents). t.last) e), ap (λ (t : TableContents). t.rows) e)) all
 
-same_lines : (a b : Line) → Decides (line_eq a b) (a ≡ b)
+same_lines : (a b : NominationLine) → Decides (line_eq a b) (a ≡ b)
 same_lines a b =
     let counterparty = pointwise nat_eq a.counterparty b.counterparty in
     let direction = same_direction a.direction b.direction in
     let hours = pointwise nat_eq a.hours b.hours in
-    let all =
-    Decides-and counterparty (direction && hours) (lists a.counterparty b.counterparty)
-    (Decides-and direction hours (directions a.direction b.direction) (lists a.hours b.hours)) in
-    Decides-like (line_eq a b) (λ h. λ i. record { counterparty = h.0 i; direction = h.1.0 i; hours = h.1.1 i })
-    (λ e. (ap (λ (l : Line). l.counterparty) e, (ap (λ (l : Line). l.direction) e, ap (λ (l : Line). l.hours) e))) all
+    let priority = nat_eq a.priority b.priority in
+    let hours_too = Decides-and hours priority (lists a.hours b.hours) (numbers a.priority b.priority) in
+    let direction_too = Decides-and direction (hours && priority) (directions a.direction b.direction) hours_too in
+    let all = Decides-and counterparty (direction && (hours && priority)) (lists a.counterparty b.counterparty) direction_too in
+    Decides-like (line_eq a b) (λ h. λ i. record { counterparty = h.0 i; direction = h.1.0 i; hours = h.1.1.0 i; priority = h.1.1.1 i })
+    (λ e. (ap (λ (l : NominationLine). l.counterparty) e, (ap (λ (l : NominationLine). l.direction) e, (ap (λ (l : NominationLine). l.hours) e, ap (λ (l : NominationLine). l.priority) e)))) all
+
+-- ---- how `==` compares lines
+
+each_way : (f g : Direction → Direction → Bool) → f IM IM ≡ g IM IM → f IM MI ≡ g IM MI → f MI IM ≡ g MI IM → f MI MI ≡ g MI MI → (a b : Direction) → f a b ≡ g a b
+each_way f g first second third fourth IM IM = first
+each_way f g first second third fourth IM MI = second
+each_way f g first second third fourth MI IM = third
+each_way f g first second third fourth MI MI = fourth
+
+-- lines by a comparison of directions
+abbrev lines_by : (Direction → Direction → Bool) → List NominationLine → List NominationLine → Bool
+lines_by eq = pointwise (λ x y. pointwise nat_eq x.counterparty y.counterparty && (eq x.direction y.direction && (pointwise nat_eq x.hours y.hours && nat_eq x.priority y.priority)))
+
+abbrev documents_by : (Direction → Direction → Bool) → Nomint → Nomint → Bool
+documents_by eq a b = pointwise nat_eq a.point b.point && (pointwise nat_eq a.portfolio b.portfolio && (same_day a.day b.day && (nat_eq a.version b.version && lines_by eq a.lines b.lines)))
+
+pub documents_compare : (eq : Direction → Direction → Bool) → eq IM IM ≡ true → eq IM MI ≡ false → eq MI IM ≡ false → eq MI MI ≡ true → (a b : Nomint) → documents_by eq a b ≡ nomint_eq a b
+documents_compare eq first second third fourth a b =
+    let same = each_way eq same_direction first second third fourth in
+    λ i. documents_by (λ x y. same x y i) a b
 
 -- ---- what facts are made of
 
@@ -134,13 +158,22 @@ same_cycle-is a b is = (cycles a b).0 is
 pub same_cycle-self : (a : CycleId) → same_cycle a a ≡ true
 same_cycle-self a = (cycles a a).1 refl
 
+rule_from : (a b : Rule) → rule_number a ≡ rule_number b → a ≡ b
+rule_from One One e = refl
+rule_from One Two e = absurd cc
+rule_from Two One e = absurd cc
+rule_from Two Two e = refl
+
+pub same_rules : (a b : Rule) → Decides (same_rule a b) (a ≡ b)
+same_rules a b = Decides-like (same_rule a b) (rule_from a b) (λ e. ap rule_number e) (numbers (rule_number a) (rule_number b))
+
 -- ---- facts
 
 abbrev Parts : Fact → Fact → Type 0
 Parts (Contracted a) (Contracted b) = a ≡ b
 Parts (Noticed a) (Noticed b) = a ≡ b
 Parts (Nominated a) (Nominated b) = a ≡ b
-Parts (Closed a) (Closed b) = a ≡ b
+Parts (Closed a rule) (Closed b other) = (a ≡ b) × (rule ≡ other)
 Parts (Met a peer) (Met b other) = (a ≡ b) × (peer ≡ other)
 Parts a b = ⊥
 
@@ -148,7 +181,7 @@ parts_refl : (a : Fact) → Parts a a
 parts_refl (Contracted a) = refl
 parts_refl (Noticed a) = refl
 parts_refl (Nominated a) = refl
-parts_refl (Closed a) = refl
+parts_refl (Closed a rule) = (refl, refl)
 parts_refl (Met a peer) = (refl, refl)
 
 parts_of : (a b : Fact) → a ≡ b → Parts a b
@@ -158,7 +191,7 @@ by_parts : (a b : Fact) → Parts a b → a ≡ b
 by_parts (Contracted a) (Contracted b) e = ap Contracted e
 by_parts (Noticed a) (Noticed b) e = ap Noticed e
 by_parts (Nominated a) (Nominated b) e = ap Nominated e
-by_parts (Closed a) (Closed b) e = ap Closed e
+by_parts (Closed a rule) (Closed b other) e = λ i. Closed (e.0 i) (e.1 i)
 by_parts (Met a peer) (Met b other) e = λ i. Met (e.0 i) (e.1 i)
 by_parts a b e = absurd e
 
@@ -166,7 +199,7 @@ by_fact : (a b : Fact) → Decides (same_fact a b) (Parts a b)
 by_fact (Contracted a) (Contracted b) = contracts a b
 by_fact (Noticed a) (Noticed b) = notices a b
 by_fact (Nominated a) (Nominated b) = documents a b
-by_fact (Closed a) (Closed b) = cycles a b
+by_fact (Closed a rule) (Closed b other) = Decides-and (same_cycle a b) (same_rule rule other) (cycles a b) (same_rules rule other)
 by_fact (Met a peer) (Met b other) = Decides-and (same_cycle a b) (table_eq peer other) (cycles a b) (tables peer other)
 by_fact a b = (λ e. absurd cc, λ e. absurd e)
 

@@ -1,11 +1,14 @@
 -- What is written for a fact stands for it, and is read back.
-use Rattle.std.proofs.Common.{◌≡◌, ℕ, ◌≤◌, true, List, [], ◌++◌, Some, refl, ap, ◌∙◌, arith}
+use Rattle.std.proofs.Common.{◌≡◌, inl, inr, ℕ, ◌≤◌, true, List, [], ◌∷◌, ◌++◌, Some, Result, Ok, IfOk, refl, ap, ◌∙◌, arith}
 use Rattle.std.specs.Str.{is_utf8}
 use Rattle.std.proofs.lemmas.Str.{is_utf8-from_IsUtf8}
 use Rattle.json.specs.Print.{print}
+use Rattle.json.specs.Token.{end_object}
+use Rattle.json.specs.Tree.{members_tokens}
 use Rattle.json.specs.Written.{Written}
 use Rattle.json.proofs.Printed.Utf8.{IsUtf8-are_ascii}
 use Rattle.serde_json.specs.Data.{Data, depth}
+use Rattle.serde_json.specs.Written.{members_outline}
 use Rattle.gi_pairs.specs.Limits.{last_hour, most_processed_rows}
 use Rattle.gi_pairs.specs.Quantity.{most_quantity}
 use Rattle.gi_pairs.specs.Table.{TableContents}
@@ -21,15 +24,17 @@ use Rattle.gi_messages.proofs.Plain.{IsPlain, IsUtf8-compact_text, json_of-compa
 use Rattle.gi_messages.proofs.TableLemmas.{is_code}
 use Rattle.gi_messages.proofs.WritingLemmas.{fits_from_writable}
 use Rattle.gi_messages.proofs.WrittenKinds.{nomint_plain, nomint_stands, of_kind-nomint}
-use Rattle.gi_messages.proofs.WrittenParts.{code_utf8, depth-lines, depth-rows, direction_utf8, few_rows, plain_day, plain_table, stands_code, stands_day, stands_direction, stands_number, stands_table}
-use Rattle.gi_messages.proofs.WrittenTokens.{text_is}
+use Rattle.gi_messages.proofs.WrittenParts.{code_utf8, depth-nomination_lines, depth-rows, direction_utf8, few_rows, plain_day, plain_table, stands_code, stands_day, stands_direction, stands_number, stands_table}
+use Rattle.gi_messages.proofs.WrittenTokens.{followed, text_is}
 use Rattle.gi_processing.specs.CapacityLimits.{most_permille}
 use Rattle.gi_processing.specs.declared.contract.Contract.{Contract}
 use Rattle.gi_processing.specs.declared.notice.Notice.{Notice}
+use Rattle.gi_processing.specs.declared.rule.Rule.{Rule}
+use Rattle.gi_processing.specs.declared.rule.Rule.TheVariants.{One, Two}
 use Rattle.gi_facts.specs.Decoding.{fact_of}
 use Rattle.gi_facts.specs.Grammar.{IsCycleId, IsFact, IsWritable, Spells}
 use Rattle.gi_facts.specs.Writable.{FitsContract, FitsCycle, FitsFact, FitsNotice, FitsProcessed}
-use Rattle.gi_facts.specs.Writing.{closing_data, contract_data, data_of, fact_text, meeting_data, nomination_data, notice_data}
+use Rattle.gi_facts.specs.Writing.{AddsRule, closing_data, contract_data, data_of, fact_text, meeting_data, nomination_data, notice_data, rule_members}
 use Rattle.gi_facts.specs.declared.fact.Fact.{Fact}
 use Rattle.gi_facts.specs.declared.fact.Fact.TheVariants as facts
 use Rattle.gi_facts.proofs.ReadingLemmas.{fact_of_again}
@@ -67,9 +72,18 @@ nomination_stands : (m : Nomint) → FitsNomint m → IsFact (nomination_data m)
 unfolding nomination_data
 nomination_stands m h = (refl, record { value = nomint_data m; found = refl; stands = record { kind = of_kind-nomint m; fields = nomint_stands m h } })
 
-closing_stands : (id : CycleId) → FitsCycle id → IsFact (closing_data id) (facts.Closed id)
+closing_stands : (id : CycleId) (rule : Rule) → FitsCycle id → IsFact (closing_data id rule) (facts.Closed id rule)
 unfolding closing_data
-closing_stands id h = (refl, record { day = stands_day keys.Day _ id.day h.day refl; cycle = stands_number keys.Cycle _ 0 last_cycle id.cycle (omega arith) h.cycle refl })
+closing_stands id One h = (
+  refl,
+  record { day = stands_day keys.Day _ id.day h.day refl; cycle = stands_number keys.Cycle _ 0 last_cycle id.cycle (omega arith) h.cycle refl },
+  inl (refl, refl),
+)
+closing_stands id Two h = (
+  refl,
+  record { day = stands_day keys.Day _ id.day h.day refl; cycle = stands_number keys.Cycle _ 0 last_cycle id.cycle (omega arith) h.cycle refl },
+  inr (stands_number keys.Rule _ 1 2 2 (omega arith) (omega arith) refl),
+)
 
 meeting_stands : (id : CycleId) (peer : TableContents) → FitsCycle id → FitsProcessed peer → IsFact (meeting_data id peer) (facts.Met id peer)
 unfolding meeting_data
@@ -87,7 +101,7 @@ stands : (f : Fact) → FitsFact f → IsFact (data_of f) f
 stands (facts.Contracted c) h = contract_stands c h
 stands (facts.Noticed n) h = notice_stands n h
 stands (facts.Nominated m) h = nomination_stands m h
-stands (facts.Closed id) h = closing_stands id h
+stands (facts.Closed id rule) h = closing_stands id rule h
 stands (facts.Met id peer) h = meeting_stands id peer h.0 h.1
 
 pub writable_from_fits : (f : Fact) → FitsFact f → IsWritable f
@@ -108,7 +122,7 @@ fits_from_writable_fact (facts.Noticed n) w =
 fits_from_writable_fact (facts.Nominated m) w =
     let h = w.1.1 in
     fits_from_writable (NomintMessage m) (h.value, (h.stands.kind, h.stands.fields))
-fits_from_writable_fact (facts.Closed id) w = cycle_fits w.0 id w.1.1
+fits_from_writable_fact (facts.Closed id rule) w = cycle_fits w.0 id w.1.1
 fits_from_writable_fact (facts.Met id peer) w = (cycle_fits w.0 id w.1.1, record { table = w.1.2.rows.makes.table; few = few_rows _ _ _ _ _ peer w.1.2.rows })
 
 -- what is written for a fact stands for it
@@ -164,11 +178,23 @@ plain (facts.Noticed n) h = (
   refl,
 )
 plain (facts.Nominated m) h = ((IsUtf8-are_ascii _ refl, IsUtf8-are_ascii _ refl, (IsUtf8-are_ascii _ refl, nomint_plain m h, tt)), refl)
-plain (facts.Closed id) h = (
+plain (facts.Closed id One) h = (
   (
     IsUtf8-are_ascii _ refl,
     omega (arith, h.cycle),
     (IsUtf8-are_ascii _ refl, plain_day id.day h.day, (IsUtf8-are_ascii _ refl, IsUtf8-are_ascii _ refl, tt)),
+  ),
+  refl,
+)
+plain (facts.Closed id Two) h = (
+  (
+    IsUtf8-are_ascii _ refl,
+    omega (arith, h.cycle),
+    (
+      IsUtf8-are_ascii _ refl,
+      plain_day id.day h.day,
+      (IsUtf8-are_ascii _ refl, IsUtf8-are_ascii _ refl, (IsUtf8-are_ascii _ refl, omega arith, tt)),
+    ),
   ),
   refl,
 )
@@ -198,8 +224,9 @@ pub depth-data_of : (f : Fact) → depth (data_of f) ≤ 126
 unfolding contract_data notice_data nomination_data closing_data meeting_data nomint_data
 depth-data_of (facts.Contracted c) = omega arith
 depth-data_of (facts.Noticed n) = omega arith
-depth-data_of (facts.Nominated m) = omega (arith, depth-lines m.lines)
-depth-data_of (facts.Closed id) = omega arith
+depth-data_of (facts.Nominated m) = omega (arith, depth-nomination_lines m.lines)
+depth-data_of (facts.Closed id One) = omega arith
+depth-data_of (facts.Closed id Two) = omega arith
 depth-data_of (facts.Met id peer) = omega (arith, depth-rows peer.rows)
 
 -- ---- what is written is read back
@@ -214,6 +241,13 @@ round_trip f h = fact_of_again (fact_text f) f (text_of-spells f h)
 pub is_text : (f : Fact) → IsWritable f → is_utf8 (fact_text f) ≡ true
 unfolding fact_text
 is_text f h = is_utf8-from_IsUtf8 (fact_text f) (IsUtf8-compact_text (data_of f) (plain f (fits_from_writable_fact f h)))
+
+-- ---- what `put_closing` answers
+
+-- what ends a closing stands behind its rule
+pub rule_ended : {E : Type 0} (a b : Written) (rule : Rule) (r : Result (Unit {0}) E) (c : Written) → AddsRule {E = E} (Ok tt) a b rule → IfOk r (λ _. Added b c (end_object ∷ [])) → IfOk r (λ _. Added a c (members_tokens (members_outline (rule_members rule))))
+rule_ended a b One r c h ended = followed r c _ h ended
+rule_ended a b Two r c h ended = followed r c _ h ended
 
 -- ---- what `encode_fact` answers
 

@@ -1,7 +1,8 @@
 -- Several facts in one text: one fact's own text, or a JSON array of 2 to 64 facts in their order.
-use Rattle.std.specs.Prelude.{◌≡◌, ℕ, List, [], ◌∷◌, map, length, ◌&&◌, nat_le, if◌then◌else◌, Option, Some, None, option_and_then, Result, Ok, Err}
+use Rattle.std.specs.Prelude.{◌≡◌, ℕ, Bool, false, List, [], ◌∷◌, map, length, ◌&&◌, nat_le, if◌then◌else◌, Option, Some, None, option_and_then, Result, Ok, Err}
 use Rattle.std.specs.Result.{result_ok}
 use Rattle.serde_json.specs.Data.{Data, Items, array}
+use Rattle.serde_json.specs.Events.{items_len}
 use Rattle.serde_json.specs.View.{items_of}
 use Rattle.serde_json.specs.Written.{compact_text}
 use Rattle.gi_messages.specs.Json.{json_of}
@@ -49,6 +50,11 @@ one_fact d = fact d >>= λ found. Ok (found ∷ [])
 abbrev pub batch_of_value : Data → Option (List Fact)
 batch_of_value (array ds) = of_elements ds
 batch_of_value d = result_ok (one_fact d)
+
+-- whether a value is an array of as many elements as there may be facts in one
+abbrev pub holds_several : Data → Bool
+holds_several (array ds) = nat_le 2 (items_len ds) && nat_le (items_len ds) most_facts
+holds_several d = false
 
 -- the facts that bytes are
 unfoldable pub batch_of : List ℕ → Option (List Fact)

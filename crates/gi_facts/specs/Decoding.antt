@@ -9,14 +9,16 @@ use Rattle.gi_pairs.specs.declared.cycle_id.CycleId.{CycleId}
 use Rattle.gi_messages.specs.Decoding.{nomint, kind_of as message_kind_of}
 use Rattle.gi_messages.specs.Json.{json_of}
 use Rattle.gi_messages.specs.Limits.{last_cycle}
-use Rattle.gi_messages.specs.Reading.{Read, ◌>>=◌, wanted, member_at, text, code, day, direction, number, span, table}
-use Rattle.gi_messages.specs.declared.key.Key.TheVariants.{Portfolio, Day, Direction, Cycle, Fact as FactKey, Nomint as NomintKey, Firm, Interruptible, Peer}
+use Rattle.gi_messages.specs.Reading.{Read, ◌>>=◌, wanted, member_at, text, code, day, direction, number, number_or, span, table}
+use Rattle.gi_messages.specs.declared.key.Key.TheVariants.{Portfolio, Day, Direction, Cycle, Fact as FactKey, Nomint as NomintKey, Firm, Interruptible, Peer, Rule as RuleKey}
 use Rattle.gi_messages.specs.declared.kind.Kind.{Kind as MessageKind}
 use Rattle.gi_messages.specs.declared.kind.Kind.TheVariants as messages
 use Rattle.gi_messages.specs.declared.message.Nomint.{Nomint}
 use Rattle.gi_processing.specs.CapacityLimits.{most_permille}
 use Rattle.gi_processing.specs.declared.contract.Contract.{Contract}
 use Rattle.gi_processing.specs.declared.notice.Notice.{Notice}
+use Rattle.gi_processing.specs.declared.rule.Rule.{Rule}
+use Rattle.gi_processing.specs.Rule.{rule_numbered}
 use Rattle.gi_facts.specs.Kind.{kind_named}
 use Rattle.gi_facts.specs.declared.kind.Kind.{Kind}
 use Rattle.gi_facts.specs.declared.kind.Kind.TheVariants as kinds
@@ -61,6 +63,18 @@ cycle_id d = do
   cycle ← number 0 last_cycle Cycle d
   Ok (record { day = date; cycle = cycle })
 
+-- the rule of the number that is named, or the first where none is
+unfoldable pub rule : Data → Read Rule
+rule d = do
+  number ← number_or 1 1 2 RuleKey d
+  wanted RuleKey (rule_numbered number)
+
+unfoldable pub closing : Data → Read Fact
+closing d = do
+  id ← cycle_id d
+  rule ← rule d
+  Ok (facts.Closed id rule)
+
 unfoldable pub peer_table : Data → Read TableContents
 peer_table d = do
   span ← span d
@@ -83,7 +97,7 @@ abbrev pub of_kind : Kind → Data → Read Fact
 of_kind kinds.Contract d = contract d >>= λ found. Ok (facts.Contracted found)
 of_kind kinds.Notice d = notice d >>= λ found. Ok (facts.Noticed found)
 of_kind kinds.Nomination d = document d >>= λ found. Ok (facts.Nominated found)
-of_kind kinds.Closed d = cycle_id d >>= λ found. Ok (facts.Closed found)
+of_kind kinds.Closed d = closing d
 of_kind kinds.Met d = meeting d
 
 unfoldable pub fact : Data → Read Fact

@@ -6,7 +6,7 @@ use Rattle.gi_pairs.specs.Limits.{last_hour, most_processed_rows}
 use Rattle.gi_pairs.specs.Quantity.{most_quantity}
 use Rattle.gi_pairs.specs.Table.{TableContents}
 use Rattle.gi_pairs.specs.declared.cycle_id.CycleId.{CycleId}
-use Rattle.gi_messages.specs.Grammar.{Has, IsText, NamesCode, NamesDay, NamesDirection, IsWhole, HasTable, IsNomint, IsOfKind as IsOfMessageKind}
+use Rattle.gi_messages.specs.Grammar.{Has, HasOr, IsText, NamesCode, NamesDay, NamesDirection, IsWhole, HasTable, IsNomint, IsOfKind as IsOfMessageKind}
 use Rattle.gi_messages.specs.Json.{json_of}
 use Rattle.gi_messages.specs.Key.{key_text}
 use Rattle.gi_messages.specs.Limits.{last_cycle}
@@ -15,6 +15,8 @@ use Rattle.gi_messages.specs.declared.kind.Kind.TheVariants.{Nomint as NomintKin
 use Rattle.gi_messages.specs.declared.message.Nomint.{Nomint}
 use Rattle.gi_processing.specs.declared.contract.Contract.{Contract}
 use Rattle.gi_processing.specs.declared.notice.Notice.{Notice}
+use Rattle.gi_processing.specs.declared.rule.Rule.{Rule}
+use Rattle.gi_processing.specs.Rule.{rule_number}
 use Rattle.gi_processing.specs.CapacityLimits.{most_permille}
 use Rattle.gi_facts.specs.Kind.{kind_text}
 use Rattle.gi_facts.specs.declared.kind.Kind.{Kind}
@@ -49,6 +51,10 @@ pub record IsCycleId (d : Data) (id : CycleId) : Type 0 where
   pub day : Has (IsText NamesDay) keys.Day d id.day
   pub cycle : Has (IsWhole 0 last_cycle) keys.Cycle d id.cycle
 
+-- a rule by its number, the first where the key is missing
+abbrev pub HasRule : Data → Rule → Type 0
+HasRule d rule = HasOr 1 (IsWhole 1 2) keys.Rule d (rule_number rule)
+
 -- the peer's table for the hours from first to last, its rows in any order
 pub record IsPeerTable (d : Data) (peer : TableContents) : Type 0 where
   pub first : Has (IsWhole 1 last_hour) keys.First d peer.first
@@ -64,7 +70,7 @@ abbrev pub IsFact : Data → Fact → Type 0
 IsFact d (Contracted contract) = IsOfKind kinds.Contract d × IsContract d contract
 IsFact d (Noticed notice) = IsOfKind kinds.Notice d × IsNotice d notice
 IsFact d (Nominated document) = IsOfKind kinds.Nomination d × Has IsDocument keys.Nomint d document
-IsFact d (Closed id) = IsOfKind kinds.Closed d × IsCycleId d id
+IsFact d (Closed id rule) = IsOfKind kinds.Closed d × IsCycleId d id × HasRule d rule
 IsFact d (Met id peer) = IsOfKind kinds.Met d × IsCycleId d id × IsPeerTable d peer
 
 -- the bytes are JSON text of the fact, of any length

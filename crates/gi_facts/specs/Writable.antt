@@ -44,5 +44,5 @@ abbrev pub FitsFact : Fact → Type 0
 FitsFact (Contracted contract) = FitsContract contract
 FitsFact (Noticed notice) = FitsNotice notice
 FitsFact (Nominated document) = FitsNomint document
-FitsFact (Closed id) = FitsCycle id
+FitsFact (Closed id rule) = FitsCycle id
 FitsFact (Met id peer) = FitsCycle id × FitsProcessed peer

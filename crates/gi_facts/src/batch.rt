@@ -1,11 +1,15 @@
 //! Several facts in one text.
 
-ghost use Rattle.std.specs.Prelude.{◌≡◌, IfOk};
+ghost use Rattle.std.specs.Prelude.{◌≡◌, ◌<◌, Err, IfOk, Some};
+ghost use Rattle.serde_json.specs.Data.{Items};
+ghost use Rattle.serde_json.specs.Events.{items_len};
+ghost use Rattle.serde_json.specs.Find.{as_array};
 ghost use Rattle.gi_messages.specs.Adding.{Adds};
 ghost use Rattle.gi_messages.specs.Reading as reading;
 ghost use Rattle.gi_messages.specs.Tokens.{value_at, elements_at};
-ghost use Rattle.gi_facts.specs.Batch.{GivesFacts, batch_of, batch_of_value, batch_text, facts_data, of_elements, one_fact};
+ghost use Rattle.gi_facts.specs.Batch.{GivesFacts, batch_of, batch_of_value, batch_text, facts_data, holds_several, most_facts, one_fact};
 ghost use Rattle.gi_facts.specs.Decoding as decoding;
+ghost use Rattle.gi_facts.specs.declared.fact_fault.FactFault.TheVariants.{NotAFact};
 
 use crate::decoding::fact;
 use crate::encoding::{encode_fact, put_fact, room_for_fact};
@@ -60,16 +64,6 @@ fn each_fact(alloc: Global, mut elements: JsonElements<'_, '_>) -> Result<Vec<Fa
     Ok(facts)
 }
 
-fn facts_of(alloc: Global, elements: JsonElements<'_, '_>) -> Result<Vec<Fact>, FactFault>
-    ensures { GivesFacts (λ found. found.items) result (of_elements (elements_at elements.entry)) }
-{
-    let facts = each_fact(alloc, elements)?;
-    if facts.len() < 2 || MOST_FACTS < facts.len() {
-        return Err(FactFault::NotAFact);
-    }
-    Ok(facts)
-}
-
 fn one_fact(alloc: Global, value: &JsonValue<'_, '_>) -> Result<Vec<Fact>, FieldFault>
     ensures { reading.Gives (λ found. found.items) result (one_fact (value_at value.now)) }
 {
@@ -78,17 +72,33 @@ fn one_fact(alloc: Global, value: &JsonValue<'_, '_>) -> Result<Vec<Fact>, Field
     Ok(facts)
 }
 
-fn batch_of_value(alloc: Global, value: &JsonValue<'_, '_>) -> Result<Vec<Fact>, FactFault>
-    ensures { GivesFacts (λ found. found.items) result (batch_of_value (value_at value.now)) }
+/// Whether it is an array of as many elements as there may be facts in one.
+fn holds_several(value: &JsonValue<'_, '_>) -> bool
+    ensures { result ≡ holds_several (value_at value.now) }
 {
     match value.elements() {
-        Some(elements) => facts_of(alloc, elements),
-        None => Ok(one_fact(alloc, value)?),
+        Some(elements) => matches!(elements.count_within(MOST_FACTS), Some(2..)),
+        None => false,
     }
 }
 
+fn batch_of_value(alloc: Global, value: &JsonValue<'_, '_>) -> Result<Vec<Fact>, FactFault>
+    ensures exact { GivesFacts (λ found. found.items) result (batch_of_value (value_at value.now)) }
+    ensures too_many { (elements : Items) → as_array (value_at value.now) ≡ Some elements → most_facts < items_len elements → result ≡ Err NotAFact }
+    ensures too_few { (elements : Items) → as_array (value_at value.now) ≡ Some elements → items_len elements < 2 → result ≡ Err NotAFact }
+{
+    let Some(elements) = value.elements() else {
+        return Ok(one_fact(alloc, value)?);
+    };
+    if !holds_several(value) {
+        return Err(FactFault::NotAFact);
+    }
+    Ok(each_fact(alloc, elements)?)
+}
+
 /// The facts that the bytes are: one, or the elements of an array of 2 to 64 facts. `NotAFact` where
-/// they are neither, and `OutOfMemory` where memory runs out.
+/// they are neither, and `OutOfMemory` where memory runs out. Of an array of fewer or more elements
+/// none is read.
 #[tactic(auto, unfolding(crate::specs::Batch::batch_of))]
 pub fn decode_batch(alloc: Global, bytes: &[u8]) -> Result<Vec<Fact>, FactFault>
     ensures exact { GivesFacts (λ found. found.items) result (batch_of bytes.now) }

@@ -5,7 +5,7 @@ ghost use Rattle.gi_messages.specs.Tokens.{value_at};
 ghost use Rattle.gi_pairs.specs.Quantity.{most_quantity};
 ghost use Rattle.gi_messages.specs.Reading as reading;
 ghost use Rattle.gi_facts.specs.declared.fact.Fact.{Fact};
-ghost use Rattle.gi_facts.specs.Decoding.{Gives, contract, cycle_id, document, document_of, fact, fact_of, kind, meeting, notice, of_kind, peer_table};
+ghost use Rattle.gi_facts.specs.Decoding.{Gives, closing, contract, cycle_id, document, document_of, fact, fact_of, kind, meeting, notice, of_kind, peer_table, rule};
 ghost use Rattle.gi_facts.specs.Grammar.{Spells};
 
 use crate::fact::Fact;
@@ -13,11 +13,11 @@ use crate::fact_fault::FactFault;
 use crate::kind::{Kind, kind_named};
 use gi_messages::parts::{
     FieldFault, JsonValue, Kind as MessageKind, Span, code, day, direction, json, kind_of, needed,
-    nomint, number, span_of, table, text,
+    nomint, number, number_or, span_of, table, text,
 };
 use gi_messages::{Key, LAST_CYCLE, Nomint};
 use gi_pairs::{CycleId, MOST_PROCESSED_ROWS, Quantity, Table};
-use gi_processing::{Contract, MOST_PERMILLE, Notice};
+use gi_processing::{Contract, MOST_PERMILLE, Notice, Rule};
 use json::Scratch;
 use std::alloc::Global;
 
@@ -90,6 +90,22 @@ fn cycle_id(object: &JsonValue<'_, '_>) -> Result<CycleId, Key>
     Ok(CycleId { day, cycle })
 }
 
+#[tactic(auto, unfolding(crate::specs::Decoding::rule))]
+fn rule(object: &JsonValue<'_, '_>) -> Result<Rule, Key>
+    ensures { result ≡ rule (value_at object.now) }
+{
+    Rule::numbered(number_or(object, Key::Rule, 1, 1, 2)?).ok_or(Key::Rule)
+}
+
+#[tactic(auto, unfolding(crate::specs::Decoding::closing))]
+fn closing(object: &JsonValue<'_, '_>) -> Result<Fact, Key>
+    ensures { result ≡ closing (value_at object.now) }
+{
+    let id = cycle_id(object)?;
+    let rule = rule(object)?;
+    Ok(Fact::Closed { id, rule })
+}
+
 #[tactic(auto, unfolding(crate::specs::Decoding::peer_table))]
 fn peer_table(alloc: Global, object: &JsonValue<'_, '_>) -> Result<Table, FieldFault>
     ensures { reading.Gives (λ found. found) result (peer_table (value_at object.now)) }
@@ -121,7 +137,7 @@ fn of_kind(alloc: Global, kind: Kind, object: &JsonValue<'_, '_>) -> Result<Fact
         Kind::Contract => Ok(Fact::Contracted(contract(object)?)),
         Kind::Notice => Ok(Fact::Noticed(notice(object)?)),
         Kind::Nomination => Ok(Fact::Nominated(document(alloc, object)?)),
-        Kind::Closed => Ok(Fact::Closed(cycle_id(object)?)),
+        Kind::Closed => Ok(closing(object)?),
         Kind::Met => meeting(alloc, object),
     }
 }

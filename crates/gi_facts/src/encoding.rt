@@ -4,7 +4,7 @@ ghost use Rattle.std.specs.Prelude.{◌≡◌, IfOk, Some};
 ghost use Rattle.gi_messages.specs.Adding.{Adds};
 ghost use Rattle.gi_facts.specs.Decoding.{fact_of};
 ghost use Rattle.gi_facts.specs.Grammar.{IsWritable};
-ghost use Rattle.gi_facts.specs.Writing.{closing_data, contract_data, data_of, fact_text, meeting_data, nomination_data, notice_data};
+ghost use Rattle.gi_facts.specs.Writing.{AddsRule, closing_data, contract_data, data_of, fact_text, meeting_data, nomination_data, notice_data};
 
 use crate::fact::Fact;
 use crate::kind::Kind;
@@ -14,7 +14,7 @@ use gi_messages::parts::{
 };
 use gi_messages::{Key, Nomint};
 use gi_pairs::{CycleId, Table};
-use gi_processing::{Contract, Notice};
+use gi_processing::{Contract, Notice, Rule};
 use json::Writer;
 use std::alloc::{AllocError, Global};
 
@@ -55,13 +55,24 @@ fn put_nomination(alloc: Global, out: &mut Writer, document: &Nomint) -> Result<
     out.end_object()
 }
 
-fn put_closing(alloc: Global, out: &mut Writer, id: &CycleId) -> Result<(), AllocError>
-    ensures { Adds result out.old out.new (closing_data id.now) }
+/// Adds a rule at the key `rule`, unless it is the first.
+fn put_rule(out: &mut Writer, rule: Rule) -> Result<(), AllocError>
+    ensures { AddsRule result out.old out.new rule }
+{
+    if rule == Rule::One {
+        return Ok(());
+    }
+    put_number(out, Key::Rule, u64::from(rule.number()))
+}
+
+fn put_closing(alloc: Global, out: &mut Writer, id: &CycleId, rule: Rule) -> Result<(), AllocError>
+    ensures { Adds result out.old out.new (closing_data id.now rule) }
 {
     out.begin_object()?;
     put_number(out, Key::Cycle, u64::from(id.cycle))?;
     put_day(alloc, out, &id.day)?;
     put_text(out, Key::Fact, Kind::Closed.text())?;
+    put_rule(out, rule)?;
     out.end_object()
 }
 
@@ -91,7 +102,7 @@ pub fn put_fact(alloc: Global, out: &mut Writer, fact: &Fact) -> Result<(), Allo
         Fact::Contracted(contract) => put_contract(alloc, out, contract),
         Fact::Noticed(notice) => put_notice(alloc, out, notice),
         Fact::Nominated(document) => put_nomination(alloc, out, document),
-        Fact::Closed(id) => put_closing(alloc, out, id),
+        Fact::Closed { id, rule } => put_closing(alloc, out, id, *rule),
         Fact::Met { id, peer } => put_meeting(alloc, out, id, peer),
     }
 }

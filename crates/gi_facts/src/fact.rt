@@ -3,7 +3,7 @@ ghost use Rattle.gi_facts.specs.Same.{same_fact};
 
 use gi_messages::Nomint;
 use gi_pairs::{CycleId, Table};
-use gi_processing::{Contract, Notice};
+use gi_processing::{Contract, Notice, Rule};
 use std::alloc::AllocError;
 
 /// What an operator has recorded.
@@ -15,8 +15,8 @@ pub enum Fact {
     Noticed(Notice),
     /// A nomination that was taken.
     Nominated(Nomint),
-    /// The cycle was closed.
-    Closed(CycleId),
+    /// The cycle was closed, its quantities processed by the rule.
+    Closed { id: CycleId, rule: Rule },
     /// The cycle met the peer's table.
     Met { id: CycleId, peer: Table },
 }
@@ -30,7 +30,10 @@ impl Fact {
             Fact::Contracted(contract) => Fact::Contracted(*contract),
             Fact::Noticed(notice) => Fact::Noticed(*notice),
             Fact::Nominated(document) => Fact::Nominated(document.copy()?),
-            Fact::Closed(id) => Fact::Closed(*id),
+            Fact::Closed { id, rule } => Fact::Closed {
+                id: *id,
+                rule: *rule,
+            },
             Fact::Met { id, peer } => Fact::Met {
                 id: *id,
                 peer: peer.copy()?,
@@ -46,7 +49,9 @@ impl Fact {
             (Fact::Contracted(a), Fact::Contracted(b)) => a == b,
             (Fact::Noticed(a), Fact::Noticed(b)) => a == b,
             (Fact::Nominated(a), Fact::Nominated(b)) => a == b,
-            (Fact::Closed(a), Fact::Closed(b)) => a == b,
+            (Fact::Closed { id: a, rule }, Fact::Closed { id: b, rule: other }) => {
+                a == b && rule == other
+            }
             (Fact::Met { id: a, peer }, Fact::Met { id: b, peer: other }) => {
                 a == b && peer == other
             }

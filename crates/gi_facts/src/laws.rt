@@ -13,8 +13,9 @@ pub fn reads_fact()
 {}
 
 /// A fact is writable exactly where its point, portfolio and counterparties are codes, its day a gas
-/// day, its version from 1 to 999,999,999, its cycle from 0 to 36, its quantities and per-mille
-/// numbers in range, its hours 1 <= first <= last <= 25, and where its table has at most 4,096 rows.
+/// day, its version from 1 to 999,999,999, the priorities of its lines from 1 to 9, its cycle from 0
+/// to 36, its quantities and per-mille numbers in range, its hours 1 <= first <= last <= 25, and
+/// where its table has at most 4,096 rows. A closing may name either rule.
 pub fn fact_writable_exactly()
     ensures { IsWritableExactly }
 {}

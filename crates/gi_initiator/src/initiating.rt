@@ -27,19 +27,11 @@ impl Role for Initiating {
         }
     }
 
-    fn on_closed(
-        _alloc: Global,
-        point: Code,
-        cycle: &Frozen,
-    ) -> Result<Option<Message>, AllocError> {
-        Ok(Some(Message::Delord(order_for(point, cycle)?)))
+    fn on_closed(alloc: Global, point: Code, cycle: &Frozen) -> Result<Vec<Message>, AllocError> {
+        Ok(vec![in alloc; Message::Delord(order_for(point, cycle)?)]?)
     }
 
-    fn on_met(
-        _alloc: Global,
-        _point: Code,
-        _cycle: &Matched,
-    ) -> Result<Option<Message>, AllocError> {
-        Ok(None)
+    fn on_met(alloc: Global, _point: Code, _cycle: &Matched) -> Result<Vec<Message>, AllocError> {
+        Ok(Vec::new(alloc))
     }
 }

@@ -27,15 +27,11 @@ impl Role for Matching {
         }
     }
 
-    fn on_closed(
-        _alloc: Global,
-        _point: Code,
-        _cycle: &Frozen,
-    ) -> Result<Option<Message>, AllocError> {
-        Ok(None)
+    fn on_closed(alloc: Global, _point: Code, _cycle: &Frozen) -> Result<Vec<Message>, AllocError> {
+        Ok(Vec::new(alloc))
     }
 
-    fn on_met(_alloc: Global, point: Code, cycle: &Matched) -> Result<Option<Message>, AllocError> {
-        Ok(Some(Message::Delres(response_for(point, cycle)?)))
+    fn on_met(alloc: Global, point: Code, cycle: &Matched) -> Result<Vec<Message>, AllocError> {
+        Ok(vec![in alloc; Message::Delres(response_for(point, cycle)?)]?)
     }
 }

@@ -6,7 +6,7 @@ pub mod shown;
 use crate::json_bytes::{add_written, json_bytes};
 use gi_calls::{Answer, Fault, Subject, Words};
 use gi_messages::parts::{Span, json, span_of};
-use gi_messages::{Key, Lines, Message, decode, encode};
+use gi_messages::{Key, Line, Lines, Message, MessageLine, decode, encode};
 use json::Scratch;
 use lines::{line_of, lines_of};
 use shown::{add_line, add_lines, add_message};
@@ -16,7 +16,7 @@ use std::alloc::Global;
 #[derive(Drop)]
 pub struct Messages {
     message: Option<Message>,
-    lines: Option<Lines>,
+    lines: Option<Lines<Line>>,
 }
 
 impl Messages {
@@ -80,7 +80,7 @@ impl Messages {
     }
 
     /// Keeps lines in the place of those before, which are let go here alone.
-    fn keep_lines(&mut self, lines: Lines, text: &mut Answer) {
+    fn keep_lines(&mut self, lines: Lines<Line>, text: &mut Answer) {
         add_lines(&lines, text);
         self.lines = Some(lines);
     }

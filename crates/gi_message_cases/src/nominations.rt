@@ -5,6 +5,7 @@ ghost use Rattle.gi_nominations.specs.Book.{IsNewer};
 ghost use Rattle.gi_nominations.specs.declared.verdict.Verdict.TheVariants as Verdict;
 
 use crate::hours_text::add_hours;
+use crate::messages::shown::add_priority;
 use crate::nomint_text::nomint;
 use gi_calls::{Answer, Fault, Subject, Words};
 use gi_day::Calendar;
@@ -98,6 +99,7 @@ fn add_nomint(nomint: &Nomint, text: &mut Answer) {
         text.end_line();
         text.show(line.counterparty);
         text.word(line.direction);
+        add_priority(line, text);
         add_hours(line.hours.as_slice(), text);
     }
 }

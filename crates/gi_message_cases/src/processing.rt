@@ -1,9 +1,11 @@
 //! What is available to a portfolio, and what of its nomination is processed.
 
+mod drawn;
 mod one_by_one;
 mod recorded;
 mod records;
 mod reducing;
+mod unit_by_unit;
 
 use crate::hours_text::add_table;
 use gi_calls::{Answer, Fault, Subject, Words};
@@ -13,18 +15,20 @@ use gi_processing::{ContractFault, MOST_PERMILLE, MOST_PORTFOLIOS, NoticeFault};
 use one_by_one::reduce_triples;
 use recorded::answer_recorded;
 use records::{Records, fault};
-use reducing::reduce;
+use reducing::{reduce, reduce_by};
 use std::alloc::Global;
+use unit_by_unit::reduce_drawn;
 
 /// The calls of the subject `processing`.
 ///
 /// Of one side, which `new POINT` begins: `set` and `refuses` with a contract, `notice` and a notice,
 /// `knows PORTFOLIO DAY`, `available PORTFOLIO DAY DIRECTION HOUR`; `judge NOMINT`, and `take NOMINT`,
-/// which takes what is recordable; `processed SIDE DAY CYCLE`, `row_count` with the same words, and
-/// then `at INITIATING MATCHING DIRECTION HOUR` in that table.
+/// which takes what is recordable; `processed SIDE DAY CYCLE RULE`, by rule 2 where none is named,
+/// `row_count` with the same words, and then `at INITIATING MATCHING DIRECTION HOUR` in that table.
 ///
 /// Of nothing before them: `fault` and a notice, `reduce AVAILABLE QUANTITY ..`, `reduce_mixed`
-/// and `reduce_triples`, `most_portfolios`, `most_permille` and `faults`.
+/// and `reduce_triples`, `reduce_by RULE AVAILABLE QUANTITY/PRIORITY ..` and `reduce_drawn`,
+/// `most_portfolios`, `most_permille` and `faults`.
 #[derive(Drop)]
 pub struct Processing {
     records: Option<Records>,
@@ -63,6 +67,8 @@ fn answer_alone(
         "reduce" => reduce(alloc, words, false, text),
         "reduce_mixed" => reduce(alloc, words, true, text),
         "reduce_triples" => reduce_triples(alloc, words, text),
+        "reduce_by" => reduce_by(alloc, words, text),
+        "reduce_drawn" => reduce_drawn(alloc, words, text),
         _ => Ok(answer_plain(name, words, text)),
     }
 }
@@ -119,7 +125,7 @@ impl Processing {
         true
     }
 
-    /// Makes the processed table of a cycle, and adds all of it or how many rows it has.
+    /// Makes the processed table of a cycle by a rule, and adds all of it or how many rows it has.
     fn process(
         &mut self,
         alloc: Global,
@@ -130,10 +136,10 @@ impl Processing {
         let Some(records) = &self.records else {
             return Ok(false);
         };
-        let (Some(side), Some(id)) = (words.side(), words.cycle()) else {
+        let (Some(side), Some((id, rule))) = (words.side(), words.closing()) else {
             return Ok(false);
         };
-        let table = records.processed(alloc, side, id.day, id.cycle)?;
+        let table = records.processed(alloc, side, id.day, id.cycle, rule)?;
         add_processed(&table, whole, text);
         self.keep(table.ok());
         Ok(true)

@@ -1,5 +1,5 @@
 -- A reader answers exactly what stands in the relation.
-use Rattle.std.proofs.Common.{◌≡◌, ℕ, ◌≤◌, Bool, true, false, cond, ◌&&◌, nat_le, List, [], ◌∷◌, length, Option, Some, None, option_and_then, Ok, Err, refl, ap, ◌∙◌, subst, leb-true, le-leb, suc}
+use Rattle.std.proofs.Common.{◌≡◌, ℕ, ◌≤◌, inl, inr, Bool, true, false, cond, ◌&&◌, nat_le, List, [], ◌∷◌, length, Option, Some, None, option_and_then, Ok, Err, refl, sym, ap, ◌∙◌, subst, leb-true, le-leb, suc}
 use Rattle.std.specs.List.{AllByRecursion}
 use Rattle.std.proofs.lemmas.Bool.{and_parts}
 use Rattle.std.proofs.lemmas.Option.{option_and_then_some}
@@ -11,8 +11,8 @@ use Rattle.gi_messages.specs.declared.key.Key.{Key}
 use Rattle.gi_messages.specs.Key.{key_text}
 use Rattle.gi_messages.specs.Dates.{day_of}
 use Rattle.gi_messages.specs.Names.{code_of}
-use Rattle.gi_messages.specs.Grammar.{Has, IsText, NamesCode, NamesDay, NamesDirection, IsWhole, Each, AreElements}
-use Rattle.gi_messages.specs.Reading.{Read, ◌>>=◌, wanted, member_at, limited, whole, each, code, day, direction}
+use Rattle.gi_messages.specs.Grammar.{Has, HasOr, IsText, NamesCode, NamesDay, NamesDirection, IsWhole, Each, AreElements}
+use Rattle.gi_messages.specs.Reading.{Read, ◌>>=◌, wanted, member_at, limited, whole, or_usual, each, code, day, direction}
 use Rattle.gi_messages.specs.Reading as reading
 use Rattle.gi_messages.proofs.DateLemmas.{day_of-takes, day_of-again}
 use Rattle.gi_messages.proofs.NameLemmas.{code_of-takes, code_of-again, direction_named-takes, direction_named-again}
@@ -69,6 +69,23 @@ Reads-whole low high key = record {
 pub Reads-number : (low high : ℕ) (key : Key) → Reads (reading.number low high key) (Has (IsWhole low high) key)
 unfolding reading.number
 Reads-number low high key = Reads-field key (whole low high key) (IsWhole low high) (Reads-whole low high key)
+
+-- a number that may be missing
+module _ (usual low high : ℕ) (key : Key) (d : Data) (n : ℕ) where
+  or_takes : (o : Option Data) → get (key_text key) d ≡ o → or_usual usual (whole low high key) o ≡ Ok n → HasOr usual (IsWhole low high) key d n
+  or_takes None is e = let same : usual ≡ n = cc in inl (is, sym same)
+  or_takes (Some v) is e = inr (record { value = v; found = is; stands = (Reads-whole low high key).takes v n e })
+
+  or_again : HasOr usual (IsWhole low high) key d n → or_usual usual (whole low high key) (get (key_text key) d) ≡ Ok n
+  or_again (inl (none, same)) = rw (none, same) refl
+  or_again (inr h) = ap (or_usual usual (whole low high key)) h.found ∙ (Reads-whole low high key).again h.value n h.stands
+
+pub Reads-number_or : (usual low high : ℕ) (key : Key) → Reads (reading.number_or usual low high key) (HasOr usual (IsWhole low high) key)
+unfolding reading.number_or
+Reads-number_or usual low high key = record {
+  takes = λ d n e. or_takes usual low high key d n (get (key_text key) d) refl e;
+  again = λ d n h. or_again usual low high key d n h;
+}
 
 -- ---- texts
 

@@ -4,7 +4,7 @@ use Rattle.std.specs.Result.{result_ok}
 use Rattle.std.proofs.lemmas.List.Elements.{All-from_recursion}
 use Rattle.serde_json.specs.Data.{Data, Items}
 use Rattle.serde_json.specs.Events.{items_len}
-use Rattle.serde_json.specs.Find.{as_str}
+use Rattle.serde_json.specs.Find.{as_str, get}
 use Rattle.gi_pairs.specs.Direction.{direction_named}
 use Rattle.gi_pairs.specs.Limits.{last_hour, most_processed_rows, most_rows}
 use Rattle.gi_pairs.specs.Quantity.{most_quantity}
@@ -16,13 +16,14 @@ use Rattle.jiff_core.specs.declared.civil.date.Date.{Date}
 use Rattle.gi_pairs.specs.declared.direction.Direction.{Direction}
 use Rattle.gi_messages.specs.Dates.{day_of}
 use Rattle.gi_messages.specs.Decoding.{acknow, decoded, delord, delres, head, if_json, if_kind, kind_of, named, nomint, nomres, of_kind}
-use Rattle.gi_messages.specs.FirstFault.{Among, Field, HasHours, HasNoKind, IsArray, IsJson, IsRefusedFor, Lacks, Part, Refuses, RefusesLine, RefusesLineFor, RefusesLines, RefusesHead, RefusesLinesFor, RefusesRow, RefusesSpan, RefusesTable}
-use Rattle.gi_messages.specs.Grammar.{AreElements, Each, Has, HasRows, HasTable, IsLine, IsLineFor, IsOfKind, IsRowFor, IsText, IsWhole, NamesCode, NamesDay, NamesDirection}
+use Rattle.gi_messages.specs.FirstFault.{Among, Field, HasHours, HasNoKind, IsArray, IsJson, IsRefusedFor, Lacks, Part, Refuses, RefusesLineFor, RefusesNominationLine, RefusesNominationLines, RefusesHead, RefusesLinesFor, RefusesRow, RefusesSpan, RefusesTable}
+use Rattle.gi_messages.specs.Grammar.{AreElements, Each, Has, HasOr, HasRows, HasTable, IsLineFor, IsNominationLine, IsOfKind, IsRowFor, IsText, IsWhole, NamesCode, NamesDay, NamesDirection}
 use Rattle.gi_messages.specs.Json.{json_of}
+use Rattle.gi_messages.specs.Key.{key_text}
 use Rattle.gi_messages.specs.Laws.{MissesKind, NamesFirstKey}
-use Rattle.gi_messages.specs.Limits.{last_cycle, last_version, most_bytes}
+use Rattle.gi_messages.specs.Limits.{last_cycle, last_priority, last_version, most_bytes, usual_priority}
 use Rattle.gi_messages.specs.Names.{code_of}
-use Rattle.gi_messages.specs.Reading.{Read, ◌>>=◌, code, day, direction, each, hours, items, line, lines, member_at, number, quantities, row, rows_of, span, table, wanted, whole}
+use Rattle.gi_messages.specs.Reading.{Read, ◌>>=◌, code, day, direction, each, hours, items, line, lines, member_at, nomination_line, number, number_or, or_usual, quantities, row, rows_of, span, table, wanted, whole}
 use Rattle.gi_messages.specs.Reading as reading
 use Rattle.gi_messages.specs.declared.head.Head.{Head}
 use Rattle.gi_messages.specs.declared.head.Span.{Span}
@@ -34,14 +35,14 @@ use Rattle.gi_messages.specs.declared.message.Message.{Message}
 use Rattle.gi_messages.specs.declared.message.Message.TheVariants as messages
 use Rattle.gi_messages.specs.declared.message_fault.MessageFault.{MessageFault}
 use Rattle.gi_messages.specs.declared.message_fault.MessageFault.TheVariants as faults
-use Rattle.gi_messages.proofs.FieldLemmas.{Reads-code, Reads-day, Reads-direction, Reads-number, all_of_each, wanted_ok}
+use Rattle.gi_messages.proofs.FieldLemmas.{Reads, Reads-code, Reads-day, Reads-direction, Reads-number, Reads-number_or, all_of_each, wanted_ok}
 use Rattle.gi_messages.proofs.HeadLemmas.{made_head, made_span}
 use Rattle.gi_messages.proofs.HoursLemmas.{hours_again, hours_take}
-use Rattle.gi_messages.proofs.LineLemmas.{Reads-line, Reads-line_for}
+use Rattle.gi_messages.proofs.LineLemmas.{Reads-line_for, Reads-nomination_line}
 use Rattle.gi_messages.proofs.MessageLemmas.{kind_of-again, kind_of-takes}
 use Rattle.gi_messages.proofs.RowLemmas.{Reads-row}
 use Rattle.gi_messages.proofs.TableLemmas.{IsRow-IsRowFor, made as made_table, makes, some_of_ok, table_again, table_takes}
-use Rattle.gi_messages.proofs.Refusing.{Gets, Names, Reads-items, Refused, among, each_gets, field, gets, in_object, lacks, like, made, names-bind, names-each, names-items, names-member, names-test, names-wanted, part, within}
+use Rattle.gi_messages.proofs.Refusing.{Gets, Names, Reads-items, Refused, among, each_gets, field, gets, in_object, lacks, like, made, names-bind, names-found, names-each, names-items, names-member, names-test, names-wanted, part, within}
 
 -- ---- fields of one value
 
@@ -70,6 +71,14 @@ names-whole low high key d = names-wanted key _
 names-number : (low high : ℕ) (key : Key) (d : Data) → Names key (number low high key d)
 unfolding number
 names-number low high key d = names-bind key (member_at key d) (whole low high key) (names-member key d) (names-whole low high key)
+
+names-or : (usual low high : ℕ) (key : Key) (o : Option Data) → Names key (or_usual usual (whole low high key) o)
+names-or usual low high key None = names-found key usual
+names-or usual low high key (Some v) = names-whole low high key v
+
+names-number_or : (usual low high : ℕ) (key : Key) (d : Data) → Names key (number_or usual low high key d)
+unfolding number_or
+names-number_or usual low high key d = names-or usual low high key (get (key_text key) d)
 
 abbrev whole_quantity : Data → Read ℕ
 whole_quantity = whole 0 most_quantity keys.Hours
@@ -141,12 +150,17 @@ hours_alone count d =
       again = λ hs h. hours_again (Some count) d hs h.stands h.whole;
     }) (names-hours (Some count) d)
 
-any_hours : (d : Data) → Refused (hours None d) (Lacks (Has (AreElements (IsWhole 0 most_quantity)) keys.Hours d) keys.Hours)
-any_hours d =
-    lacks (hours None d) (Has (AreElements (IsWhole 0 most_quantity)) keys.Hours d) keys.Hours (record {
-      takes = λ hs e. (hours_take None d hs e).0;
-      again = λ hs h. hours_again None d hs h tt;
-    }) (names-hours None d)
+Reads-any_hours : Reads (hours None) (Has (AreElements (IsWhole 0 most_quantity)) keys.Hours)
+Reads-any_hours = record { takes = λ d hs e. (hours_take None d hs e).0; again = λ d hs h. hours_again None d hs h tt }
+
+hours_field : {Y : Type 0} (d : Data) (f : List ℕ → Read Y) (after : List ℕ → Key → Type 0) → ((x : List ℕ) → Refused (f x) (after x)) → Refused (hours None d >>= f) (Field (AreElements (IsWhole 0 most_quantity)) keys.Hours d after)
+hours_field d f after later = field keys.Hours (hours None) (AreElements (IsWhole 0 most_quantity)) Reads-any_hours (names-hours None) d f after later
+
+priority_alone : (d : Data) → Refused (number_or usual_priority 1 last_priority keys.Priority d) (Lacks (HasOr usual_priority (IsWhole 1 last_priority) keys.Priority d) keys.Priority)
+priority_alone d =
+    let read = number_or usual_priority 1 last_priority keys.Priority in
+    let stands = HasOr usual_priority (IsWhole 1 last_priority) keys.Priority in
+    lacks (read d) (stands d) keys.Priority (gets read stands (Reads-number_or usual_priority 1 last_priority keys.Priority) d) (names-number_or usual_priority 1 last_priority keys.Priority d)
 
 row_refused : (key : Key) (count : ℕ) (d : Data) → Refused (row key count d) (RefusesRow key count d)
 unfolding row
@@ -154,11 +168,11 @@ row_refused key count d =
     in_object key d _ _ (code_field keys.Initiating d _ _ (λ initiating. code_field keys.Matching d _ _ (λ matching. direction_field keys.Direction d _ _ (λ way.
     made (hours (Some count) d) _ _ (hours_alone count d)))))
 
-line_refused : (d : Data) → Refused (line None d) (RefusesLine d)
-unfolding line
-line_refused d =
-    in_object keys.Lines d _ _ (code_field keys.Counterparty d _ _ (λ counterparty. direction_field keys.Direction d _ _ (λ way.
-    made (hours None d) _ _ (any_hours d))))
+nomination_line_refused : (d : Data) → Refused (nomination_line None d) (RefusesNominationLine d)
+unfolding nomination_line
+nomination_line_refused d =
+    in_object keys.Lines d _ _ (code_field keys.Counterparty d _ _ (λ counterparty. direction_field keys.Direction d _ _ (λ way. hours_field d _ _ (λ quantities.
+    made (number_or usual_priority 1 last_priority keys.Priority d) _ _ (priority_alone d)))))
 
 line_for_refused : (count : ℕ) (d : Data) → Refused (line (Some count) d) (RefusesLineFor count d)
 unfolding line
@@ -166,13 +180,13 @@ line_for_refused count d =
     in_object keys.Lines d _ _ (code_field keys.Counterparty d _ _ (λ counterparty. direction_field keys.Direction d _ _ (λ way.
     made (hours (Some count) d) _ _ (hours_alone count d))))
 
-lines_refused : (d : Data) → Refused (lines None d) (RefusesLines d)
+nomination_lines_refused : (d : Data) → Refused (lines (nomination_line None) d) (RefusesNominationLines d)
 unfolding lines
-lines_refused d =
-    field keys.Lines (items keys.Lines) IsArray (Reads-items keys.Lines) (names-items keys.Lines) d (each (line None)) (Among IsLine RefusesLine)
-    (among (line None) IsLine RefusesLine Reads-line line_refused)
+nomination_lines_refused d =
+    field keys.Lines (items keys.Lines) IsArray (Reads-items keys.Lines) (names-items keys.Lines) d (each (nomination_line None)) (Among IsNominationLine RefusesNominationLine)
+    (among (nomination_line None) IsNominationLine RefusesNominationLine Reads-nomination_line nomination_line_refused)
 
-lines_for_refused : (count : ℕ) (d : Data) → Refused (lines (Some count) d) (RefusesLinesFor count d)
+lines_for_refused : (count : ℕ) (d : Data) → Refused (lines (line (Some count)) d) (RefusesLinesFor count d)
 unfolding lines
 lines_for_refused count d =
     field keys.Lines (items keys.Lines) IsArray (Reads-items keys.Lines) (names-items keys.Lines) d (each (line (Some count))) (Among (IsLineFor count) (RefusesLineFor count))
@@ -221,7 +235,7 @@ nomint_refused : (d : Data) → Refused (nomint d) (Refuses kinds.Nomint d)
 unfolding nomint
 nomint_refused d =
     code_field keys.Point d _ _ (λ point. code_field keys.Portfolio d _ _ (λ portfolio. day_field keys.Day d _ _ (λ date. number_field keys.Version d 1 last_version _ _ (λ version.
-    made (lines None d) _ _ (lines_refused d)))))
+    made (lines (nomination_line None) d) _ _ (nomination_lines_refused d)))))
 
 acknow_refused : (d : Data) → Refused (acknow d) (Refuses kinds.Acknow d)
 unfolding acknow
@@ -233,7 +247,7 @@ nomres_refused : (d : Data) → Refused (nomres d) (Refuses kinds.Nomres d)
 unfolding nomres
 nomres_refused d =
     code_field keys.Point d _ _ (λ point. code_field keys.Portfolio d _ _ (λ portfolio. day_field keys.Day d _ _ (λ date. number_field keys.Cycle d 0 last_cycle _ _ (λ cycle.
-    span_field d _ _ (λ first last. made (lines (Some (covered first last)) d) _ _ (lines_for_refused (covered first last) d))))))
+    span_field d _ _ (λ first last. made (lines (line (Some (covered first last))) d) _ _ (lines_for_refused (covered first last) d))))))
 
 delord_refused : (d : Data) → Refused (delord d) (Refuses kinds.Delord d)
 unfolding delord

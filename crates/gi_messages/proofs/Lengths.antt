@@ -67,5 +67,8 @@ without_comma (member k d ms) = omega arith
 pub object_within : (ms : Members) (most : ℕ) → AreWithin most ms → IsWithin (most + 1) (object ms)
 object_within ms most h = record { within = omega (arith, without_comma ms, h.within) }
 
+pub members_wider : (ms : Members) (low high : ℕ) → AreWithin low ms → low ≤ high → AreWithin high ms
+members_wider ms low high h le = record { within = omega (arith, h.within, le) }
+
 pub wider : (d : Data) (low high : ℕ) → IsWithin low d → low ≤ high → IsWithin high d
 wider d low high h le = record { within = omega (arith, h.within, le) }

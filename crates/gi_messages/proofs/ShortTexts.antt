@@ -1,9 +1,9 @@
 -- The text of a message with few lines is not too large.
-use Rattle.std.proofs.Common.{ℕ, ◌+◌, ◌*◌, ◌≤◌, ℤ, pos, negsuc, List, [], ◌∷◌, ◌++◌, length, All, arith}
+use Rattle.std.proofs.Common.{ℕ, ◌+◌, ◌*◌, ◌≤◌, Bool, true, false, cond, ◌==◌, ℤ, pos, negsuc, List, [], ◌∷◌, ◌++◌, length, All, arith}
 use Rattle.std.proofs.lemmas.Fmt.{length-decimal-le}
 use Rattle.jiff_core.specs.declared.civil.date.Date.{Date}
 use Rattle.jiff_fmt.specs.Text.{year_text, pad2}
-use Rattle.serde_json.specs.Data.{Data, string, Members, member}
+use Rattle.serde_json.specs.Data.{Data, string, Members, no_members, member}
 use Rattle.gi_day.specs.Day.{day_text}
 use Rattle.gi_pairs.specs.Code.{IsCode}
 use Rattle.gi_pairs.specs.Direction.{direction_text}
@@ -19,6 +19,7 @@ use Rattle.gi_messages.specs.declared.key.Key.TheVariants as keys
 use Rattle.gi_messages.specs.declared.kind.Kind.{Kind}
 use Rattle.gi_messages.specs.declared.kind.Kind.TheVariants as kinds
 use Rattle.gi_messages.specs.declared.line.Line.{Line}
+use Rattle.gi_messages.specs.declared.nomination_line.NominationLine.{NominationLine}
 use Rattle.gi_messages.specs.declared.message.Nomint.{Nomint}
 use Rattle.gi_messages.specs.declared.message.Acknow.{Acknow}
 use Rattle.gi_messages.specs.declared.message.Nomres.{Nomres}
@@ -26,12 +27,12 @@ use Rattle.gi_messages.specs.declared.message.Delord.{Delord}
 use Rattle.gi_messages.specs.declared.message.Delres.{Delres}
 use Rattle.gi_messages.specs.declared.message.Message.{Message}
 use Rattle.gi_messages.specs.declared.message.Message.TheVariants as messages
-use Rattle.gi_messages.specs.Grammar.{FitsLine, FitsNomint, FitsAcknow, FitsNomres, FitsDelord, FitsDelres, Fits, IsWritable, HasFewLines}
+use Rattle.gi_messages.specs.Grammar.{FitsLine, FitsNominationLine, FitsNomint, FitsAcknow, FitsNomres, FitsDelord, FitsDelres, Fits, IsWritable, HasFewLines}
 use Rattle.gi_messages.specs.Key.{key_text}
 use Rattle.gi_messages.specs.Kind.{kind_text}
-use Rattle.gi_messages.specs.Limits.{most_bytes}
-use Rattle.gi_messages.specs.Writing.{whole, whole_numbers, row_data, rows_data, line_data, lines_data, nomint_data, acknow_data, nomres_data, delord_data, delres_data, data_of, text_of}
-use Rattle.gi_messages.proofs.Lengths.{IsWithin, AreWithin, quoted_le, array_within, none_within, member_within, object_within, wider}
+use Rattle.gi_messages.specs.Limits.{most_bytes, usual_priority}
+use Rattle.gi_messages.specs.Writing.{whole, whole_numbers, row_data, rows_data, line_data, priority_members, nomination_line_data, lines_data, nomint_data, acknow_data, nomres_data, delord_data, delres_data, data_of, text_of}
+use Rattle.gi_messages.proofs.Lengths.{IsWithin, AreWithin, quoted_le, array_within, none_within, member_within, object_within, members_wider, wider}
 use Rattle.gi_messages.proofs.WritingLemmas.{fits_from_writable}
 
 -- ---- fields
@@ -83,11 +84,13 @@ key_le keys.Initiating = omega arith
 key_le keys.Matching = omega arith
 key_le keys.Direction = omega arith
 key_le keys.Hours = omega arith
+key_le keys.Priority = omega arith
 key_le keys.Fact = omega arith
 key_le keys.Nomint = omega arith
 key_le keys.Firm = omega arith
 key_le keys.Interruptible = omega arith
 key_le keys.Peer = omega arith
+key_le keys.Rule = omega arith
 
 with_key : (key : Key) (d : Data) (ms : Members) (value rest : ℕ) → IsWithin value d → AreWithin rest ms → AreWithin (value + rest + 82) (member (key_text key) d ms)
 with_key key d ms value rest = member_within (key_text key) d ms value rest (key_le key)
@@ -114,14 +117,34 @@ line_within l h few =
     let counterparty = with_key keys.Counterparty _ _ _ _ (code_within l.counterparty h.counterparty) direction in
     wider _ _ 999 (object_within _ _ counterparty) (omega arith)
 
+priority_by : (priority : ℕ) → IsQuantity priority → (b : Bool) → AreWithin 181 (cond b no_members (member (key_text keys.Priority) (whole priority) no_members))
+priority_by priority small true = members_wider _ 1 181 none_within (omega arith)
+priority_by priority small false = with_key keys.Priority _ _ _ _ (number_within priority small) none_within
+
+priority_within : (priority : ℕ) → IsQuantity priority → AreWithin 181 (priority_members priority)
+priority_within priority small = priority_by priority small (priority == usual_priority)
+
+nomination_line_within : (l : NominationLine) → FitsNominationLine l → length l.hours ≤ last_hour → IsWithin 999 (nomination_line_data l)
+unfolding nomination_line_data
+nomination_line_within l h few =
+    let priority = priority_within l.priority (omega (arith, h.to)) in
+    let hours = with_key keys.Hours _ _ _ _ (hours_within l.hours h.quantities few) priority in
+    let direction = with_key keys.Direction _ _ _ _ (direction_within l.direction) hours in
+    let counterparty = with_key keys.Counterparty _ _ _ _ (code_within l.counterparty h.counterparty) direction in
+    wider _ _ 999 (object_within _ _ counterparty) (omega arith)
+
 row_hours : (t : TableContents) → IsTable t → All (λ r. length r.hours ≤ last_hour) t.rows
 row_hours t h i r at = omega (arith, h.whole i r at, h.begins, h.ends)
 
 table_within : (most : ℕ) (t : TableContents) → IsTable t → length t.rows ≤ most → IsWithin (most * 1_000 + 2) (rows_data t.rows)
 table_within most t h few = wider _ _ _ (array_within row_data 999 t.rows (λ i r at. row_within _ (h.all i r at) (row_hours t h i r at))) (omega (arith, few))
 
-lines_within : (ls : List Line) → All FitsLine ls → All (λ l. length l.hours ≤ last_hour) ls → length ls ≤ most_rows → IsWithin (most_rows * 1_000 + 2) (lines_data ls)
+lines_within : (ls : List Line) → All FitsLine ls → All (λ l. length l.hours ≤ last_hour) ls → length ls ≤ most_rows → IsWithin (most_rows * 1_000 + 2) (lines_data line_data ls)
 lines_within ls fits short few = wider _ _ _ (array_within line_data 999 ls (λ i l at. line_within _ (fits i l at) (short i l at))) (omega (arith, few))
+
+nomination_lines_within : (ls : List NominationLine) → All FitsNominationLine ls → All (λ l. length l.hours ≤ last_hour) ls → length ls ≤ most_rows
+    → IsWithin (most_rows * 1_000 + 2) (lines_data nomination_line_data ls)
+nomination_lines_within ls fits short few = wider _ _ _ (array_within nomination_line_data 999 ls (λ i l at. nomination_line_within _ (fits i l at) (short i l at))) (omega (arith, few))
 
 -- ---- messages
 
@@ -131,7 +154,7 @@ nomint_within m h few =
     let version = with_key keys.Version _ _ _ _ (number_within m.version (omega (arith, h.to))) none_within in
     let portfolio = with_key keys.Portfolio _ _ _ _ (code_within m.portfolio h.portfolio) version in
     let point = with_key keys.Point _ _ _ _ (code_within m.point h.point) portfolio in
-    let lines = with_key keys.Lines _ _ _ _ (lines_within m.lines h.lines few.1 few.0) point in
+    let lines = with_key keys.Lines _ _ _ _ (nomination_lines_within m.lines h.lines few.1 few.0) point in
     let kind = with_key keys.Kind _ _ _ _ (kind_within kinds.Nomint) lines in
     let day = with_key keys.Day _ _ _ _ (day_within m.day) kind in
     wider _ _ most_bytes (object_within _ _ day) (omega arith)

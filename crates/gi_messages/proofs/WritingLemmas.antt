@@ -14,13 +14,13 @@ use Rattle.gi_messages.proofs.MessageLemmas.{decoded_again}
 use Rattle.gi_messages.proofs.Plain.{IsPlain, json_of-compact_text}
 use Rattle.gi_messages.proofs.TableLemmas.{is_code}
 use Rattle.gi_messages.proofs.WrittenTokens.{text_is}
-use Rattle.gi_messages.proofs.WrittenParts.{depth-rows, depth-lines, few_rows, lines_fit, lines_fit_for}
+use Rattle.gi_messages.proofs.WrittenParts.{depth-rows, depth-lines, depth-nomination_lines, few_rows, lines_fit_for, nomination_lines_fit}
 use Rattle.gi_messages.proofs.WrittenKinds.{nomint_stands, acknow_stands, nomres_stands, delord_stands, delres_stands, of_kind-nomint, of_kind-acknow, of_kind-nomres, of_kind-delord, of_kind-delres, nomint_plain, acknow_plain, nomres_plain, delord_plain, delres_plain}
 
 -- the values nest four deep
 pub depth-data_of : (m : Message) → depth (data_of m) ≤ 127
 unfolding nomint_data acknow_data nomres_data delord_data delres_data
-depth-data_of (messages.Nomint m) = omega (arith, depth-lines m.lines)
+depth-data_of (messages.Nomint m) = omega (arith, depth-nomination_lines m.lines)
 depth-data_of (messages.Acknow m) = omega arith
 depth-data_of (messages.Nomres m) = omega (arith, depth-lines m.lines)
 depth-data_of (messages.Delord m) = omega (arith, depth-rows m.processed.rows)
@@ -49,7 +49,7 @@ fits_from_writable (messages.Nomint m) w =
       day = h.day.stands.names.0;
       from = h.version.stands.from;
       to = h.version.stands.to;
-      lines = lines_fit _ m.lines h.lines;
+      lines = nomination_lines_fit _ m.lines h.lines;
     }
 fits_from_writable (messages.Acknow m) w =
     let h = w.1.1 in

@@ -14,7 +14,7 @@ use Rattle.gi_messages.specs.declared.message.Delres.{Delres}
 use Rattle.gi_messages.specs.Grammar.{IsNomint, IsAcknow, IsNomres, IsDelord, IsDelres, IsOfKind, FitsNomint, FitsAcknow, FitsNomres, FitsDelord, FitsDelres}
 use Rattle.gi_messages.specs.Writing.{nomint_data, acknow_data, nomres_data, delord_data, delres_data}
 use Rattle.gi_messages.proofs.Plain.{IsPlain}
-use Rattle.gi_messages.proofs.WrittenParts.{stands_code, stands_day, stands_number, stands_lines, stands_lines_for, stands_table, code_utf8, plain_day, plain_lines, plain_table}
+use Rattle.gi_messages.proofs.WrittenParts.{stands_code, stands_day, stands_number, stands_nomination_lines, stands_lines_for, stands_table, code_utf8, plain_day, plain_lines, plain_nomination_lines, plain_table}
 
 -- ---- a message that fits stands in the value that is written for it
 
@@ -25,7 +25,7 @@ nomint_stands m h = record {
   portfolio = stands_code keys.Portfolio _ m.portfolio h.portfolio refl;
   day = stands_day keys.Day _ m.day h.day refl;
   version = stands_number keys.Version _ 1 last_version m.version h.from h.to refl;
-  lines = stands_lines _ m.lines h.lines refl;
+  lines = stands_nomination_lines _ m.lines h.lines refl;
 }
 
 pub acknow_stands : (m : Acknow) → FitsAcknow m → IsAcknow (acknow_data m) m
@@ -105,7 +105,7 @@ nomint_plain m h = (
       IsUtf8-are_ascii _ refl,
       (
         IsUtf8-are_ascii _ refl,
-        plain_lines m.lines h.lines,
+        plain_nomination_lines m.lines h.lines,
         (
           IsUtf8-are_ascii _ refl,
           code_utf8 m.point h.point,

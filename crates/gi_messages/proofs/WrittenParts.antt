@@ -1,5 +1,5 @@
 -- The parts of what is written for a message: its rows, lines and fields.
-use Rattle.std.proofs.Common.{◌≡◌, ℕ, ◌≤◌, List, [], ◌∷◌, length, map, All, Some, IsUtf8, refl, sym, ap, ◌∙◌, subst, arith}
+use Rattle.std.proofs.Common.{◌≡◌, ℕ, ◌≤◌, inl, inr, Bool, true, false, cond, ◌==◌, eqb-true, List, [], ◌∷◌, length, map, All, Some, IsUtf8, refl, sym, ap, ◌∙◌, subst, arith}
 use Rattle.std.specs.List.{AllByRecursion}
 use Rattle.std.proofs.lemmas.List.Elements.{All-from_recursion, recursion_from_All}
 use Rattle.std.proofs.lemmas.List.Sorted.{IsPermutation-refl, length_permutation}
@@ -7,7 +7,7 @@ use Rattle.std.proofs.lemmas.Str.{IsUtf8-from_ascii}
 use Rattle.json.proofs.Printed.Utf8.{IsUtf8-are_ascii}
 use Rattle.jiff_core.specs.declared.civil.date.Date.{Date}
 use Rattle.serde_json.specs.Find.{get}
-use Rattle.serde_json.specs.Data.{Data, string, depth, items_depth}
+use Rattle.serde_json.specs.Data.{Data, string, object, Members, no_members, member, depth, items_depth, members_depth}
 use Rattle.serde_json.specs.View.{items_of}
 use Rattle.gi_day.specs.Day.{IsGasYear, day_text}
 use Rattle.gi_day.proofs.DayLaws.{is_text, day_text-ascii}
@@ -23,9 +23,11 @@ use Rattle.gi_pairs.proofs.CodeLaws.{code-ascii}
 use Rattle.gi_messages.specs.declared.key.Key.{Key}
 use Rattle.gi_messages.specs.declared.key.Key.TheVariants as keys
 use Rattle.gi_messages.specs.declared.line.Line.{Line}
-use Rattle.gi_messages.specs.Grammar.{Has, IsText, NamesCode, NamesDay, NamesDirection, IsWhole, Each, AreElements, IsRowFor, HasTable, IsLine, IsLineFor, FitsLine}
+use Rattle.gi_messages.specs.declared.nomination_line.NominationLine.{NominationLine}
+use Rattle.gi_messages.specs.Grammar.{Has, HasOr, IsText, NamesCode, NamesDay, NamesDirection, IsWhole, Each, AreElements, IsRowFor, HasTable, IsLine, IsLineFor, IsNominationLine, FitsLine, FitsNominationLine}
 use Rattle.gi_messages.specs.Key.{key_text}
-use Rattle.gi_messages.specs.Writing.{whole, row_data, rows_data, line_data, lines_data}
+use Rattle.gi_messages.specs.Limits.{last_priority, usual_priority}
+use Rattle.gi_messages.specs.Writing.{whole, whole_numbers, row_data, rows_data, line_data, nomination_line_data, lines_data}
 use Rattle.gi_messages.proofs.FieldLemmas.{all_of_each}
 use Rattle.gi_messages.proofs.Plain.{IsPlain, ArePlainItems}
 use Rattle.gi_messages.proofs.TableLemmas.{is_code, are_quantities}
@@ -44,6 +46,14 @@ depth-line : (l : Line) → depth (line_data l) ≡ 2
 unfolding line_data
 depth-line l = rw (items_depth-whole l.hours) refl
 
+priority_depth : (priority : ℕ) (b : Bool) → members_depth (cond b no_members (member (key_text keys.Priority) (whole priority) no_members)) ≡ 0
+priority_depth priority true = refl
+priority_depth priority false = refl
+
+depth-nomination_line : (l : NominationLine) → depth (nomination_line_data l) ≡ 2
+unfolding nomination_line_data
+depth-nomination_line l = rw (items_depth-whole l.hours, priority_depth l.priority (l.priority == usual_priority)) refl
+
 each_two_deep : {X : Type 0} (f : X → Data) → ((x : X) → depth (f x) ≡ 2) → (xs : List X) → items_depth (items_of (map f xs)) ≤ 2
 each_two_deep f h [] = omega arith
 each_two_deep f h (x ∷ xs) = omega (arith, h x, each_two_deep f h xs)
@@ -53,6 +63,9 @@ depth-rows rs = each_two_deep row_data depth-row rs
 
 pub depth-lines : (ls : List Line) → items_depth (items_of (map line_data ls)) ≤ 2
 depth-lines ls = each_two_deep line_data depth-line ls
+
+pub depth-nomination_lines : (ls : List NominationLine) → items_depth (items_of (map nomination_line_data ls)) ≤ 2
+depth-nomination_lines ls = each_two_deep nomination_line_data depth-nomination_line ls
 
 -- ---- rows
 
@@ -133,13 +146,78 @@ plain_lines_by : (ls : List Line) → AllByRecursion FitsLine ls → ArePlainIte
 plain_lines_by [] h = tt
 plain_lines_by (l ∷ ls) h = (line_plain l h.0, plain_lines_by ls h.1)
 
-each_line : (ls : List Line) → AllByRecursion FitsLine ls → Each IsLine (items_of (map line_data ls)) ls
-each_line [] h = tt
-each_line (l ∷ ls) h = (line_stands l h.0, each_line ls h.1)
-
 each_line_for : (n : ℕ) (ls : List Line) → AllByRecursion FitsLine ls → AllByRecursion (λ l. length l.hours ≡ n) ls → Each (IsLineFor n) (items_of (map line_data ls)) ls
 each_line_for n [] fits whole = tt
 each_line_for n (l ∷ ls) fits whole = (record { stands = line_stands l fits.0; whole = whole.0 }, each_line_for n ls fits.1 whole.1)
+
+-- ---- lines of nominations, whose last member may be missing
+
+abbrev line_with : NominationLine → Members → Data
+line_with l last =
+    object (member (key_text keys.Counterparty) (string l.counterparty) (member (key_text keys.Direction) (string (direction_text l.direction)) (member (key_text keys.Hours) (whole_numbers l.hours) last)))
+
+abbrev last_member : ℕ → Bool → Members
+last_member priority b = cond b no_members (member (key_text keys.Priority) (whole priority) no_members)
+
+nomination_plain_by : (l : NominationLine) → FitsNominationLine l → (b : Bool) → IsPlain (line_with l (last_member l.priority b))
+nomination_plain_by l h true = (
+  (
+    IsUtf8-are_ascii _ refl,
+    code_utf8 l.counterparty h.counterparty,
+    (
+      IsUtf8-are_ascii _ refl,
+      direction_utf8 l.direction,
+      (IsUtf8-are_ascii _ refl, plain_wholes l.hours (recursion_from_All IsQuantity l.hours h.quantities), tt),
+    ),
+  ),
+  refl,
+)
+nomination_plain_by l h false = (
+  (
+    IsUtf8-are_ascii _ refl,
+    code_utf8 l.counterparty h.counterparty,
+    (
+      IsUtf8-are_ascii _ refl,
+      direction_utf8 l.direction,
+      (
+        IsUtf8-are_ascii _ refl,
+        plain_wholes l.hours (recursion_from_All IsQuantity l.hours h.quantities),
+        (IsUtf8-are_ascii _ refl, omega (arith, h.to), tt),
+      ),
+    ),
+  ),
+  refl,
+)
+
+nomination_line_plain : (l : NominationLine) → FitsNominationLine l → IsPlain (nomination_line_data l)
+unfolding nomination_line_data
+nomination_line_plain l h = nomination_plain_by l h (l.priority == usual_priority)
+
+nomination_stands_by : (l : NominationLine) → FitsNominationLine l → (b : Bool) → (l.priority == usual_priority) ≡ b → IsNominationLine (line_with l (last_member l.priority b)) l
+nomination_stands_by l h true usual = record {
+  counterparty = record { value = _; found = refl; stands = record { text = l.counterparty; written = refl; names = (h.counterparty, refl) } };
+  direction = record { value = _; found = refl; stands = record { text = direction_text l.direction; written = refl; names = refl } };
+  quantities = record { value = _; found = refl; stands = record { elements = items_of (map whole l.hours); written = refl; each = whole_elements l.hours (recursion_from_All IsQuantity l.hours h.quantities) } };
+  priority = inl (refl, eqb-true l.priority usual_priority usual);
+}
+nomination_stands_by l h false other = record {
+  counterparty = record { value = _; found = refl; stands = record { text = l.counterparty; written = refl; names = (h.counterparty, refl) } };
+  direction = record { value = _; found = refl; stands = record { text = direction_text l.direction; written = refl; names = refl } };
+  quantities = record { value = _; found = refl; stands = record { elements = items_of (map whole l.hours); written = refl; each = whole_elements l.hours (recursion_from_All IsQuantity l.hours h.quantities) } };
+  priority = inr (record { value = _; found = refl; stands = record { written = refl; from = h.from; to = h.to } });
+}
+
+nomination_line_stands : (l : NominationLine) → FitsNominationLine l → IsNominationLine (nomination_line_data l) l
+unfolding nomination_line_data
+nomination_line_stands l h = nomination_stands_by l h (l.priority == usual_priority) refl
+
+plain_nominations_by : (ls : List NominationLine) → AllByRecursion FitsNominationLine ls → ArePlainItems (items_of (map nomination_line_data ls))
+plain_nominations_by [] h = tt
+plain_nominations_by (l ∷ ls) h = (nomination_line_plain l h.0, plain_nominations_by ls h.1)
+
+each_nomination_line : (ls : List NominationLine) → AllByRecursion FitsNominationLine ls → Each IsNominationLine (items_of (map nomination_line_data ls)) ls
+each_nomination_line [] h = tt
+each_nomination_line (l ∷ ls) h = (nomination_line_stands l h.0, each_nomination_line ls h.1)
 
 -- ---- fields
 
@@ -174,17 +252,18 @@ stands_table key d most first last t table begins ends few found =
       makes = record { begins = begins; ends = ends; same = IsPermutation-refl t.rows; table = table };
     }
 
-pub stands_lines : (d : Data) (ls : List Line) → All FitsLine ls → get (key_text keys.Lines) d ≡ Some (lines_data ls) → Has (AreElements IsLine) keys.Lines d ls
-stands_lines d ls fits found = record {
-  value = lines_data ls;
+pub stands_nomination_lines : (d : Data) (ls : List NominationLine) → All FitsNominationLine ls → get (key_text keys.Lines) d ≡ Some (lines_data nomination_line_data ls)
+    → Has (AreElements IsNominationLine) keys.Lines d ls
+stands_nomination_lines d ls fits found = record {
+  value = lines_data nomination_line_data ls;
   found = found;
-  stands = record { elements = items_of (map line_data ls); written = refl; each = each_line ls (recursion_from_All FitsLine ls fits) };
+  stands = record { elements = items_of (map nomination_line_data ls); written = refl; each = each_nomination_line ls (recursion_from_All FitsNominationLine ls fits) };
 }
 
-pub stands_lines_for : (d : Data) (n : ℕ) (ls : List Line) → All FitsLine ls → All (λ (l : Line). length l.hours ≡ n) ls → get (key_text keys.Lines) d ≡ Some (lines_data ls)
+pub stands_lines_for : (d : Data) (n : ℕ) (ls : List Line) → All FitsLine ls → All (λ (l : Line). length l.hours ≡ n) ls → get (key_text keys.Lines) d ≡ Some (lines_data line_data ls)
     → Has (AreElements (IsLineFor n)) keys.Lines d ls
 stands_lines_for d n ls fits whole found = record {
-  value = lines_data ls;
+  value = lines_data line_data ls;
   found = found;
   stands = record { elements = items_of (map line_data ls); written = refl; each = each_line_for n ls (recursion_from_All FitsLine ls fits) (recursion_from_All (λ l. length l.hours ≡ n) ls whole) };
 }
@@ -197,8 +276,19 @@ few_rows most first last key d t h = subst (λ n. n ≤ most) (sym (length_permu
 line_fits : (d : Data) (l : Line) → IsLine d l → FitsLine l
 line_fits d l h = record { counterparty = is_code _ d l.counterparty h.counterparty; quantities = are_quantities d l.hours h.quantities }
 
-pub lines_fit : (d : Data) (ls : List Line) → Has (AreElements IsLine) keys.Lines d ls → All FitsLine ls
-lines_fit d ls h = All-from_recursion FitsLine ls (all_of_each IsLine FitsLine line_fits h.stands.elements ls h.stands.each)
+-- the priority that is missing is one too
+usual_fits : (d : Data) (n : ℕ) → HasOr usual_priority (IsWhole 1 last_priority) keys.Priority d n → (1 ≤ n) × (n ≤ last_priority)
+usual_fits d n (inl h) = (omega (arith, h.1), omega (arith, h.1))
+usual_fits d n (inr h) = (h.stands.from, h.stands.to)
+
+nomination_line_fits : (d : Data) (l : NominationLine) → IsNominationLine d l → FitsNominationLine l
+nomination_line_fits d l h =
+    let priority = usual_fits d l.priority h.priority in
+    record { counterparty = is_code _ d l.counterparty h.counterparty; quantities = are_quantities d l.hours h.quantities; from = priority.0; to = priority.1 }
+
+pub nomination_lines_fit : (d : Data) (ls : List NominationLine) → Has (AreElements IsNominationLine) keys.Lines d ls → All FitsNominationLine ls
+nomination_lines_fit d ls h =
+    All-from_recursion FitsNominationLine ls (all_of_each IsNominationLine FitsNominationLine nomination_line_fits h.stands.elements ls h.stands.each)
 
 pub lines_fit_for : (d : Data) (n : ℕ) (ls : List Line) → Has (AreElements (IsLineFor n)) keys.Lines d ls → All FitsLine ls × All (λ (l : Line). length l.hours ≡ n) ls
 lines_fit_for d n ls h = (
@@ -216,3 +306,6 @@ plain_day day range = IsUtf8-from_ascii (day_text day) (day_text-ascii day range
 
 pub plain_lines : (ls : List Line) → All FitsLine ls → ArePlainItems (items_of (map line_data ls))
 plain_lines ls fits = plain_lines_by ls (recursion_from_All FitsLine ls fits)
+
+pub plain_nomination_lines : (ls : List NominationLine) → All FitsNominationLine ls → ArePlainItems (items_of (map nomination_line_data ls))
+plain_nomination_lines ls fits = plain_nominations_by ls (recursion_from_All FitsNominationLine ls fits)

@@ -1,5 +1,5 @@
 -- What is added to a JSON text that is being written, as tokens.
-use Rattle.std.specs.Prelude.{◌≡◌, ℕ, List, ◌∷◌, ◌++◌, Result, IfOk}
+use Rattle.std.specs.Prelude.{◌≡◌, ℕ, List, [], ◌∷◌, ◌++◌, ◌==◌, Result, IfOk, if◌then◌else◌}
 use Rattle.json.specs.Token.{Token}
 use Rattle.json.specs.Tree.{json_tokens}
 use Rattle.json.specs.Written.{Written}
@@ -9,6 +9,7 @@ use Rattle.serde_json.specs.Written.{outline}
 use Rattle.gi_day.specs.Day.{day_text}
 use Rattle.gi_messages.specs.Key.{key_text}
 use Rattle.gi_messages.specs.Kind.{kind_text}
+use Rattle.gi_messages.specs.Limits.{usual_priority}
 use Rattle.gi_messages.specs.Writing.{whole}
 use Rattle.gi_messages.specs.declared.head.Span.{Span}
 use Rattle.gi_messages.specs.declared.key.Key.{Key}
@@ -35,6 +36,10 @@ AddsMember r old new k d = IfOk r (λ _. Added old new (Token.key (key_text k) �
 -- the tokens of a member
 abbrev pub member_tokens : Key → Data → List Token
 member_tokens k d = Token.key (key_text k) ∷ tokens_of d
+
+-- the member of a priority is added, where it is not the usual one
+abbrev pub AddsPriority : {E : Type 0} → Result (Unit {0}) E → Written → Written → ℕ → Type 0
+AddsPriority r old new priority = IfOk r (λ _. Added old new (if priority == usual_priority then [] else member_tokens keys.Priority (whole priority)))
 
 -- the members are added that the messages of a cycle have from it on to the last hour
 abbrev pub AddsHead : {E : Type 0} → Result (Unit {0}) E → Written → Written → Kind → ℕ → Date → Span → Type 0

@@ -23,7 +23,7 @@ use Rattle.gi_messages.specs.declared.message_fault.MessageFault.TheVariants as 
 use Rattle.gi_messages.specs.Json.{json_of}
 use Rattle.gi_messages.specs.Key.{key_text}
 use Rattle.gi_messages.specs.Kind.{kind_named}
-use Rattle.gi_messages.specs.Reading.{Read, ◌>>=◌, code, day, number, span, lines, table}
+use Rattle.gi_messages.specs.Reading.{Read, ◌>>=◌, code, day, number, span, line, nomination_line, lines, table}
 
 -- the fields of each kind, in their order
 unfoldable pub nomint : Data → Read Nomint
@@ -32,7 +32,7 @@ nomint d = do
   portfolio ← code Portfolio d
   date ← day Day d
   version ← number 1 last_version Version d
-  lines ← lines None d
+  lines ← lines (nomination_line None) d
   Ok (record { point = point; portfolio = portfolio; day = date; version = version; lines = lines })
 
 unfoldable pub acknow : Data → Read Acknow
@@ -50,7 +50,7 @@ nomres d = do
   date ← day Day d
   cycle ← number 0 last_cycle Cycle d
   span ← span d
-  lines ← lines (Some (covered span.first span.last)) d
+  lines ← lines (line (Some (covered span.first span.last))) d
   Ok (record { point = point; portfolio = portfolio; day = date; cycle = cycle; first = span.first; last = span.last; lines = lines })
 
 -- what an order and a response begin with

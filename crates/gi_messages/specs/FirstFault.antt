@@ -10,9 +10,9 @@ use Rattle.gi_messages.specs.declared.key.Key.{Key}
 use Rattle.gi_messages.specs.declared.key.Key.TheVariants as keys
 use Rattle.gi_messages.specs.declared.kind.Kind.{Kind}
 use Rattle.gi_messages.specs.declared.kind.Kind.TheVariants as kinds
-use Rattle.gi_messages.specs.Grammar.{AreElements, Each, Has, HasRows, HasTable, IsLine, IsLineFor, IsOfKind, IsRowFor, IsText, IsWhole, NamesCode, NamesDay, NamesDirection}
+use Rattle.gi_messages.specs.Grammar.{AreElements, Each, Has, HasOr, HasRows, HasTable, IsLineFor, IsNominationLine, IsOfKind, IsRowFor, IsText, IsWhole, NamesCode, NamesDay, NamesDirection}
 use Rattle.gi_messages.specs.Json.{json_of}
-use Rattle.gi_messages.specs.Limits.{last_cycle, last_version, most_bytes}
+use Rattle.gi_messages.specs.Limits.{last_cycle, last_priority, last_version, most_bytes, usual_priority}
 
 -- A part says itself which key is named where it has no value; where it has one, what comes after it says so.
 abbrev pub Part : {X : Type 0} → (X → Type 0) → (Key → Type 0) → (X → Key → Type 0) → Key → Type 0
@@ -55,13 +55,14 @@ RefusesRow array_key hours d =
     Field (IsText NamesDirection) keys.Direction d (λ _.
     Lacks (HasHours hours d) keys.Hours))))
 
--- a line of any length, and one for so many hours
-abbrev pub RefusesLine : Data → Key → Type 0
-RefusesLine d =
+-- a line of a nomination, which may do without a priority, and a line for so many hours
+abbrev pub RefusesNominationLine : Data → Key → Type 0
+RefusesNominationLine d =
     Then (IsObject d) keys.Lines (λ _.
     Field (IsText NamesCode) keys.Counterparty d (λ _.
     Field (IsText NamesDirection) keys.Direction d (λ _.
-    Lacks (Has (AreElements (IsWhole 0 most_quantity)) keys.Hours d) keys.Hours)))
+    Field (AreElements (IsWhole 0 most_quantity)) keys.Hours d (λ _.
+    Lacks (HasOr usual_priority (IsWhole 1 last_priority) keys.Priority d) keys.Priority))))
 
 abbrev pub RefusesLineFor : ℕ → Data → Key → Type 0
 RefusesLineFor hours d =
@@ -71,8 +72,8 @@ RefusesLineFor hours d =
     Lacks (HasHours hours d) keys.Hours)))
 
 -- the lines
-abbrev pub RefusesLines : Data → Key → Type 0
-RefusesLines d = Field IsArray keys.Lines d (Among IsLine RefusesLine)
+abbrev pub RefusesNominationLines : Data → Key → Type 0
+RefusesNominationLines d = Field IsArray keys.Lines d (Among IsNominationLine RefusesNominationLine)
 
 abbrev pub RefusesLinesFor : ℕ → Data → Key → Type 0
 RefusesLinesFor hours d = Field IsArray keys.Lines d (Among (IsLineFor hours) (RefusesLineFor hours))
@@ -103,7 +104,7 @@ Refuses kinds.Nomint d =
     Field (IsText NamesCode) keys.Portfolio d (λ _.
     Field (IsText NamesDay) keys.Day d (λ _.
     Field (IsWhole 1 last_version) keys.Version d (λ _.
-    RefusesLines d))))
+    RefusesNominationLines d))))
 Refuses kinds.Acknow d =
     Field (IsText NamesCode) keys.Point d (λ _.
     Field (IsText NamesCode) keys.Portfolio d (λ _.

@@ -1,5 +1,5 @@
 -- Which JSON values stand for which messages, field by field and apart from how they are read.
-use Rattle.std.specs.Prelude.{◌≡◌, ℕ, ◌≤◌, List, [], ◌∷◌, length, All, Some}
+use Rattle.std.specs.Prelude.{◌≡◌, ◌⊎◌, ℕ, ◌≤◌, List, [], ◌∷◌, length, All, Some, None}
 use Rattle.std.specs.List.Sorted.{IsPermutation}
 use Rattle.serde_json.specs.Data.{Data, number, unsigned, string, array, Items, no_items, item}
 use Rattle.serde_json.specs.Find.{get}
@@ -10,7 +10,7 @@ use Rattle.gi_pairs.specs.Direction.{direction_text}
 use Rattle.gi_pairs.specs.Table.{TableContents, IsTable, covered}
 use Rattle.gi_pairs.specs.declared.direction.Direction.{Direction}
 use Rattle.gi_pairs.specs.Quantity.{IsQuantity, most_quantity}
-use Rattle.gi_messages.specs.Limits.{most_bytes, last_cycle, last_version}
+use Rattle.gi_messages.specs.Limits.{most_bytes, last_cycle, last_priority, last_version, usual_priority}
 use Rattle.gi_pairs.specs.declared.row.Row.{Row}
 use Rattle.gi_pairs.specs.Limits.{last_hour, most_processed_rows, most_rows}
 use Rattle.gi_messages.specs.declared.key.Key.{Key}
@@ -18,6 +18,7 @@ use Rattle.gi_messages.specs.declared.key.Key.TheVariants as keys
 use Rattle.gi_messages.specs.declared.kind.Kind.{Kind}
 use Rattle.gi_messages.specs.declared.kind.Kind.TheVariants as kinds
 use Rattle.gi_messages.specs.declared.line.Line.{Line}
+use Rattle.gi_messages.specs.declared.nomination_line.NominationLine.{NominationLine}
 use Rattle.gi_messages.specs.declared.message.Nomint.{Nomint}
 use Rattle.gi_messages.specs.declared.message.Acknow.{Acknow}
 use Rattle.gi_messages.specs.declared.message.Nomres.{Nomres}
@@ -34,6 +35,10 @@ pub record Has {X : Type 0} (Stands : Data → X → Type 0) (key : Key) (d : Da
   pub value : Data
   pub found : get (key_text key) d ≡ Some value
   pub stands : Stands value x
+
+-- the same, or the object has no such key and x is the usual value
+abbrev pub HasOr : {X : Type 0} → X → (Data → X → Type 0) → Key → Data → X → Type 0
+HasOr usual Stands key d x = ((get (key_text key) d ≡ None) × (x ≡ usual)) ⊎ Has Stands key d x
 
 -- a text that names x
 pub record IsText {X : Type 0} (Names : List ℕ → X → Type 0) (d : Data) (x : X) : Type 0 where
@@ -104,13 +109,20 @@ pub record IsLineFor (hours : ℕ) (d : Data) (line : Line) : Type 0 where
   pub stands : IsLine d line
   pub whole : length line.hours ≡ hours
 
--- lines of any length, in the order in which they came
+-- a line of a nomination: it is of any length, and its priority is a whole number from 1 to 9, or the key is missing and it is 5
+pub record IsNominationLine (d : Data) (line : NominationLine) : Type 0 where
+  pub counterparty : Has (IsText NamesCode) keys.Counterparty d line.counterparty
+  pub direction : Has (IsText NamesDirection) keys.Direction d line.direction
+  pub quantities : Has (AreElements (IsWhole 0 most_quantity)) keys.Hours d line.hours
+  pub priority : HasOr usual_priority (IsWhole 1 last_priority) keys.Priority d line.priority
+
+-- the lines in the order in which they came
 pub record IsNomint (d : Data) (m : Nomint) : Type 0 where
   pub point : Has (IsText NamesCode) keys.Point d m.point
   pub portfolio : Has (IsText NamesCode) keys.Portfolio d m.portfolio
   pub day : Has (IsText NamesDay) keys.Day d m.day
   pub version : Has (IsWhole 1 last_version) keys.Version d m.version
-  pub lines : Has (AreElements IsLine) keys.Lines d m.lines
+  pub lines : Has (AreElements IsNominationLine) keys.Lines d m.lines
 
 pub record IsAcknow (d : Data) (m : Acknow) : Type 0 where
   pub point : Has (IsText NamesCode) keys.Point d m.point
@@ -174,6 +186,13 @@ pub record FitsLine (line : Line) : Type 0 where
   pub counterparty : IsCode line.counterparty
   pub quantities : All IsQuantity line.hours
 
+-- a line of a nomination that can be written, which has a priority besides
+pub record FitsNominationLine (line : NominationLine) : Type 0 where
+  pub counterparty : IsCode line.counterparty
+  pub quantities : All IsQuantity line.hours
+  pub from : 1 ≤ line.priority
+  pub to : line.priority ≤ last_priority
+
 -- A message that can be written: codes, a gas day, a version or a cycle of it, lines, each for the hours of the message where it names hours, and tables
 -- of not too many rows, for the same hours.
 pub record FitsNomint (m : Nomint) : Type 0 where
@@ -182,7 +201,7 @@ pub record FitsNomint (m : Nomint) : Type 0 where
   pub day : IsGasYear m.day.year
   pub from : 1 ≤ m.version
   pub to : m.version ≤ last_version
-  pub lines : All FitsLine m.lines
+  pub lines : All FitsNominationLine m.lines
 
 pub record FitsAcknow (m : Acknow) : Type 0 where
   pub point : IsCode m.point

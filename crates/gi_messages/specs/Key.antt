@@ -1,7 +1,7 @@
 -- The keys of JSON objects, as they stand in the text.
 use Rattle.std.specs.Prelude.{ℕ, List, codes}
 use Rattle.gi_messages.specs.declared.key.Key.{Key}
-use Rattle.gi_messages.specs.declared.key.Key.TheVariants.{Kind, Point, Portfolio, Day, Version, Cycle, First, Last, Lines, Processed, Confirmed, Counterparty, Initiating, Matching, Direction, Hours, Fact, Nomint, Firm, Interruptible, Peer}
+use Rattle.gi_messages.specs.declared.key.Key.TheVariants.{Kind, Point, Portfolio, Day, Version, Cycle, First, Last, Lines, Processed, Confirmed, Counterparty, Initiating, Matching, Direction, Hours, Priority, Fact, Nomint, Firm, Interruptible, Peer, Rule}
 
 abbrev pub key_text : Key → List ℕ
 key_text Kind = codes "kind"
@@ -20,8 +20,10 @@ key_text Initiating = codes "initiating"
 key_text Matching = codes "matching"
 key_text Direction = codes "direction"
 key_text Hours = codes "hours"
+key_text Priority = codes "priority"
 key_text Fact = codes "fact"
 key_text Nomint = codes "nomint"
 key_text Firm = codes "firm"
 key_text Interruptible = codes "interruptible"
 key_text Peer = codes "peer"
+key_text Rule = codes "rule"

@@ -12,12 +12,14 @@ use Rattle.gi_pairs.specs.Table.{TableContents, covered, built}
 use Rattle.gi_pairs.specs.Limits.{last_hour}
 use Rattle.gi_pairs.specs.Quantity.{most_quantity}
 use Rattle.gi_messages.specs.declared.key.Key.{Key}
-use Rattle.gi_messages.specs.declared.key.Key.TheVariants.{First, Last, Lines, Counterparty, Initiating, Matching, Direction as DirectionKey, Hours}
+use Rattle.gi_messages.specs.declared.key.Key.TheVariants.{First, Last, Lines, Counterparty, Initiating, Matching, Direction as DirectionKey, Hours, Priority}
 use Rattle.gi_messages.specs.declared.head.Span.{Span}
 use Rattle.gi_messages.specs.declared.line.Line.{Line}
+use Rattle.gi_messages.specs.declared.nomination_line.NominationLine.{NominationLine}
 use Rattle.gi_messages.specs.declared.fault.FieldFault.{FieldFault}
 use Rattle.gi_messages.specs.declared.fault.FieldFault.TheVariants as fault
 use Rattle.gi_messages.specs.Key.{key_text}
+use Rattle.gi_messages.specs.Limits.{last_priority, usual_priority}
 use Rattle.gi_messages.specs.Dates.{day_of}
 use Rattle.gi_messages.specs.Names.{code_of}
 
@@ -64,6 +66,14 @@ whole low high key d = wanted key (option_and_then (limited low high) (option_an
 -- the whole number at a key
 unfoldable pub number : ℕ → ℕ → Key → Data → Read ℕ
 number low high key d = member_at key d >>= whole low high key
+
+-- the whole number at a key, or the usual one where the key is missing
+abbrev pub or_usual : ℕ → (Data → Read ℕ) → Option Data → Read ℕ
+or_usual usual read None = Ok usual
+or_usual usual read (Some d) = read d
+
+unfoldable pub number_or : ℕ → ℕ → ℕ → Key → Data → Read ℕ
+number_or usual low high key d = or_usual usual (whole low high key) (get (key_text key) d)
 
 -- the text at a key
 unfoldable pub text : Key → Data → Read (List ℕ)
@@ -144,7 +154,7 @@ table key limit first last d = do
   rows ← rows_of key limit (covered first last) ds
   wanted key (result_ok (built first last rows))
 
--- a line; an element that is no object is wrong under `lines`
+-- a line, for so many hours or of any length; an element that is no object is wrong under `lines`
 unfoldable pub line : Option ℕ → Data → Read Line
 line count d =
     if is_some (as_object d) then (do
@@ -154,8 +164,19 @@ line count d =
       Ok (record { counterparty = counterparty; direction = direction; hours = hours }))
     else Err Lines
 
--- the lines, in the order in which they came
-unfoldable pub lines : Option ℕ → Data → Read (List Line)
-lines count d = do
+-- a line of a nomination, in the same way
+unfoldable pub nomination_line : Option ℕ → Data → Read NominationLine
+nomination_line count d =
+    if is_some (as_object d) then (do
+      counterparty ← code Counterparty d
+      direction ← direction DirectionKey d
+      hours ← hours count d
+      priority ← number_or usual_priority 1 last_priority Priority d
+      Ok (record { counterparty = counterparty; direction = direction; hours = hours; priority = priority }))
+    else Err Lines
+
+-- the lines, each as f reads it, in the order in which they came
+unfoldable pub lines : {X : Type 0} → (Data → Read X) → Data → Read (List X)
+lines f d = do
   ds ← items Lines d
-  each (line count) ds
+  each f ds

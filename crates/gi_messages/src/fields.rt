@@ -2,7 +2,7 @@
 
 ghost use Rattle.std.specs.Prelude.{◌≡◌, ◌≤◌, IfOk};
 ghost use Rattle.gi_messages.specs.Tokens.{value_at, elements_at};
-ghost use Rattle.gi_messages.specs.Reading.{Finds, member_at, whole, number, text, code, day, direction, items};
+ghost use Rattle.gi_messages.specs.Reading.{Finds, member_at, whole, number, number_or, text, code, day, direction, items};
 
 use crate::json_value::{JsonElements, JsonValue};
 use crate::key::Key;
@@ -36,6 +36,25 @@ pub fn number(object: &JsonValue<'_, '_>, key: Key, low: u64, high: u64) -> Resu
     ensures within { IfOk result (λ n. (low ≤ n) × (n ≤ high)) }
 {
     whole(&needed(object, key)?, key, low, high)
+}
+
+/// The whole number from `low` to `high` at a key, or the usual one where the key is missing.
+#[tactic(auto, unfolding(crate::specs::Reading::number_or))]
+pub fn number_or(
+    object: &JsonValue<'_, '_>,
+    key: Key,
+    usual: u64,
+    low: u64,
+    high: u64,
+) -> Result<u64, Key>
+    requires { (low ≤ usual) × (usual ≤ high) }
+    ensures value { result ≡ number_or usual low high key (value_at object.now) }
+    ensures within { IfOk result (λ n. (low ≤ n) × (n ≤ high)) }
+{
+    match object.get(key.text()) {
+        Some(value) => whole(&value, key, low, high),
+        None => Ok(usual),
+    }
 }
 
 /// The text at a key.

@@ -22,11 +22,13 @@ pub enum Key {
     Matching,
     Direction,
     Hours,
+    Priority,
     Fact,
     Nomint,
     Firm,
     Interruptible,
     Peer,
+    Rule,
 }
 
 impl Key {
@@ -51,11 +53,13 @@ impl Key {
             Key::Matching => "matching",
             Key::Direction => "direction",
             Key::Hours => "hours",
+            Key::Priority => "priority",
             Key::Fact => "fact",
             Key::Nomint => "nomint",
             Key::Firm => "firm",
             Key::Interruptible => "interruptible",
             Key::Peer => "peer",
+            Key::Rule => "rule",
         }
     }
 }

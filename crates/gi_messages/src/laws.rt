@@ -20,9 +20,10 @@ pub fn names_first_key()
 {}
 
 /// A message is writable exactly where its point, portfolio and counterparties are codes, its day a
-/// gas day, its version from 1 to 999,999,999, its cycle from 0 to 36 and its quantities in range;
-/// where a NOMRES covers hours 1 <= first <= last <= 25 and its lines are for them, a processed
-/// table has at most 4,096 rows, and a confirmed table is for the same hours.
+/// gas day, its version from 1 to 999,999,999, the priorities of its lines from 1 to 9, its cycle
+/// from 0 to 36 and its quantities in range; where a NOMRES covers hours 1 <= first <= last <= 25
+/// and its lines are for them, a processed table has at most 4,096 rows, and a confirmed table is
+/// for the same hours.
 pub fn writable_exactly()
     ensures { IsWritableExactly }
 {}

@@ -20,7 +20,9 @@ mod lines;
 mod members;
 mod message;
 mod message_fault;
+mod message_line;
 mod names;
+mod nomination_line;
 pub mod parts;
 mod quantities;
 mod room;
@@ -41,3 +43,5 @@ pub use message::{
     Acknow, Delord, Delres, LAST_CYCLE, LAST_VERSION, MOST_BYTES, Message, Nomint, Nomres,
 };
 pub use message_fault::MessageFault;
+pub use message_line::MessageLine;
+pub use nomination_line::{LAST_PRIORITY, NominationLine, USUAL_PRIORITY};

@@ -2,48 +2,26 @@
 
 ghost use Rattle.std.specs.Prelude.{◌≡◌};
 ghost use Rattle.gi_messages.specs.Tokens.{value_at, elements_at};
-ghost use Rattle.gi_messages.specs.Reading.{Gives, each, line, lines};
+ghost use Rattle.gi_messages.specs.Reading.{Gives, each, lines};
 
 use crate::fault::FieldFault;
-use crate::fields::{code, direction, items};
+use crate::fields::items;
 use crate::json_value::{JsonElements, JsonValue};
 use crate::key::Key;
-use crate::line::Line;
 use crate::lines::Lines;
-use crate::quantities::hours;
+use crate::message_line::MessageLine;
 use std::alloc::Global;
 
-#[tactic(auto, unfolding(crate::specs::Reading::line))]
-fn line(
-    alloc: Global,
-    element: &JsonValue<'_, '_>,
-    count: Option<usize>,
-) -> Result<Line, FieldFault>
-    ensures { Gives (λ found. found) result (line count (value_at element.now)) }
-{
-    if !element.is_object() {
-        return Err(FieldFault::Wrong(Key::Lines));
-    }
-    let counterparty = code(element, Key::Counterparty)?;
-    let direction = direction(element, Key::Direction)?;
-    let hours = hours(alloc, element, count)?;
-    Ok(Line {
-        counterparty,
-        direction,
-        hours,
-    })
-}
-
-fn each_line(
+fn each_line<T: MessageLine>(
     alloc: Global,
     mut elements: JsonElements<'_, '_>,
     count: Option<usize>,
-) -> Result<Vec<Line>, FieldFault>
-    ensures { Gives (λ found. found.items) result (each (line count) (elements_at elements.entry)) }
+) -> Result<Vec<T>, FieldFault>
+    ensures { Gives (λ found. found.items) result (each (T.reading count) (elements_at elements.entry)) }
 {
     let mut lines = Vec::new(alloc);
     while let Some(element) = elements.next() {
-        lines.push(line(alloc, &element, count)?)?;
+        lines.push(T::read(alloc, &element, count)?)?;
     }
     Ok(lines)
 }
@@ -51,12 +29,12 @@ fn each_line(
 /// The lines at the key `lines`, in the order in which they came: each with so many hours, or with
 /// any number of them where no count is given.
 #[tactic(auto, unfolding(crate::specs::Reading::lines))]
-pub fn lines(
+pub fn lines<T: MessageLine>(
     alloc: Global,
     object: &JsonValue<'_, '_>,
     count: Option<usize>,
-) -> Result<Lines, FieldFault>
-    ensures { Gives (λ found. found) result (lines count (value_at object.now)) }
+) -> Result<Lines<T>, FieldFault>
+    ensures { Gives (λ found. found) result (lines (T.reading count) (value_at object.now)) }
 {
     let elements = items(object, Key::Lines)?;
     Ok(Lines::from(each_line(alloc, elements, count)?))

@@ -1,52 +1,51 @@
 ghost use Rattle.std.specs.Prelude.{◌≡◌, IfOk};
-ghost use Rattle.std.proofs.Common.{rules};
-ghost use Rattle.std.specs.Cmp.Rules.{comparing};
 ghost use Rattle.std.specs.Cmp.Lexicographic.{lists_equiv, lists_per, pointwise};
 
-use crate::line::Line;
+use crate::message_line::MessageLine;
 use std::alloc::AllocError;
 use std::marker::Model;
 
-/// Lines in the order in which they came.
+/// Lines of a message, in the order in which they came.
 #[derive(Drop)]
-pub struct Lines {
-    lines: Vec<Line>,
+pub struct Lines<T> {
+    lines: Vec<T>,
 }
 
-impl Model for Lines {
+impl<T> Model for Lines<T> {
     ghost use Rattle.std.specs.Prelude.{List};
-    ghost use Rattle.gi_messages.specs.declared.line.Line.{Line};
 
-    ghost Value = { List Line };
+    ghost Value = { List T };
 
     ghost view = { λ l. l.lines.items };
 }
 
-impl From<Vec<Line>> for Lines {
+impl<T> From<Vec<T>> for Lines<T> {
     ghost from_gives = { λ list lines. lines ≡ list.items };
 
-    fn from(lines: Vec<Line>) -> Lines {
+    fn from(lines: Vec<T>) -> Lines<T> {
         Lines { lines }
     }
 }
 
-impl Lines {
+impl<T> Lines<T> {
     /// The lines, in order.
-    pub fn as_slice(&self) -> &[Line]
+    pub fn as_slice(&self) -> &[T]
         ensures { result.now ≡ self.now }
     {
         &self.lines
     }
 
     /// The lines, in order, with the memory that they were given in.
-    pub fn into_vec(self) -> Vec<Line>
+    pub fn into_vec(self) -> Vec<T>
         ensures { result.items ≡ self }
     {
         self.lines
     }
+}
 
+impl<T: MessageLine> Lines<T> {
     /// Equal lines, in the same order.
-    pub fn copy(&self) -> Result<Lines, AllocError>
+    pub fn copy(&self) -> Result<Lines<T>, AllocError>
         ensures { IfOk result (λ lines. lines ≡ self.now) }
     {
         let mut copies = Vec::with_capacity(*self.lines.allocator(), self.lines.len())?;
@@ -57,18 +56,16 @@ impl Lines {
     }
 }
 
-impl PartialEq for Lines {
-    ghost use Rattle.gi_messages.specs.Lines.{line_eq};
+impl<T: PartialEq> PartialEq for Lines<T> {
+    ghost eq = { pointwise T.eq };
 
-    ghost eq = { pointwise line_eq };
+    ghost laws = { lists_per T.laws };
 
-    ghost laws = { lists_per (Prim.search (comparing, rules)) };
-
-    fn eq(&self, other: &Lines) -> bool {
+    fn eq(&self, other: &Lines<T>) -> bool {
         self.as_slice() == other.as_slice()
     }
 }
 
-impl Eq for Lines {
-    ghost laws = { lists_equiv (Prim.search (comparing, rules)) };
+impl<T: Eq> Eq for Lines<T> {
+    ghost laws = { lists_equiv T.Eq.laws };
 }

@@ -1,6 +1,8 @@
 ghost use Rattle.std.specs.Prelude.{◌≡◌, IfOk};
 
+use crate::line::Line;
 use crate::lines::Lines;
+use crate::nomination_line::NominationLine;
 use gi_day::GasDay;
 use gi_pairs::{Code, Table};
 use std::alloc::AllocError;
@@ -23,7 +25,7 @@ pub struct Nomint {
     pub day: GasDay,
     /// From 1 to 999,999,999.
     pub version: u32,
-    pub lines: Lines,
+    pub lines: Lines<NominationLine>,
 }
 
 impl Nomint {
@@ -64,7 +66,7 @@ pub struct Nomres {
     /// The last hour that they cover, at most 25.
     pub last: u8,
     /// One quantity for each covered hour.
-    pub lines: Lines,
+    pub lines: Lines<Line>,
 }
 
 /// What the initiating operator sends to the matching one: its processed quantities of a cycle.

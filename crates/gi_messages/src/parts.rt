@@ -3,7 +3,7 @@
 pub use crate::decoding::{kind_of, nomint};
 pub use crate::encoding::put_nomint;
 pub use crate::fault::FieldFault;
-pub use crate::fields::{code, day, direction, needed, number, text};
+pub use crate::fields::{code, day, direction, needed, number, number_or, text};
 pub use crate::head::{Span, span_of};
 pub use crate::json_text::{JsonText, json};
 pub use crate::json_value::{JsonElements, JsonValue};

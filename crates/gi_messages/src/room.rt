@@ -3,8 +3,8 @@
 ghost use Rattle.std.specs.Prelude.{◌≤◌};
 ghost use Rattle.gi_messages.specs.Limits.{most_bytes};
 
-use crate::line::Line;
 use crate::message::{MOST_BYTES, Message};
+use crate::message_line::MessageLine;
 use gi_pairs::Row;
 
 // What an object takes beside its rows or lines, a row or a line beside its quantities, and a
@@ -29,9 +29,9 @@ pub fn room_for_rows(rows: &[Row]) -> usize {
 }
 
 /// About how many bytes lines of as many hours as the first take.
-pub fn room_for_lines(lines: &[Line]) -> usize {
+pub fn room_for_lines<T: MessageLine>(lines: &[T]) -> usize {
     match lines.first() {
-        Some(line) => room(lines.len(), line.hours.as_slice().len()),
+        Some(line) => room(lines.len(), line.hours().as_slice().len()),
         None => 0,
     }
 }

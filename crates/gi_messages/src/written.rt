@@ -75,19 +75,19 @@ fn delres(alloc: Global, front: &mut Front<'_>) -> Option<Delres> {
 fn fits_delord(order: &Delord) -> bool
     ensures { IsTrue result → FitsDelord order.now }
 {
-    order.point.known();
-    order.day.known();
-    order.processed.known();
+    order.point.reveal_invariant();
+    order.day.reveal_invariant();
+    order.processed.reveal_invariant();
     order.cycle <= LAST_CYCLE && order.processed.rows().len() <= MOST_PROCESSED_ROWS
 }
 
 fn fits_delres(response: &Delres) -> bool
     ensures { IsTrue result → FitsDelres response.now }
 {
-    response.point.known();
-    response.day.known();
-    response.processed.known();
-    response.confirmed.known();
+    response.point.reveal_invariant();
+    response.day.reveal_invariant();
+    response.processed.reveal_invariant();
+    response.confirmed.reveal_invariant();
     response.cycle <= LAST_CYCLE
         && response.processed.rows().len() <= MOST_PROCESSED_ROWS
         && response.confirmed.first() == response.processed.first()

@@ -21,7 +21,7 @@ use Rattle.gi_day.proofs.DayLaws.{same_day-Decides}
 use Rattle.gi_pairs.specs.Key.{code_cmp}
 use Rattle.gi_messages.specs.declared.message.Nomint.{Nomint}
 use Rattle.gi_nominations.specs.Book.{DocumentStands, in_force, is_of}
-use Rattle.gi_nominations.specs.BookKept.{IsFiled, IsOwn}
+use Rattle.gi_nominations.specs.BookRepr.{IsFiled, IsOwn}
 use Rattle.gi_nominations.specs.PortfolioDay.{portfolio_day_cmp, portfolio_day_of}
 use Rattle.gi_nominations.specs.declared.portfolio_day.PortfolioDay.{PortfolioDay}
 use Rattle.gi_nominations.proofs.BookLaws.{in_force-first, in_force-passed, nothing_in_force}

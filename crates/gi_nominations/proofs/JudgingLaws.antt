@@ -1,5 +1,5 @@
 -- What a verdict says of a nomination.
-use Rattle.std.proofs.Common.{◌≡◌, ◌<◌, List, [], ◌∷◌, Bool, true, false, cond, not, Option, Some, None, nat_lt, ltb-true, ltb-false, refl, ap, arith}
+use Rattle.std.proofs.Common.{◌≡◌, ◌<◌, nat_eq, List, [], ◌∷◌, Bool, true, false, cond, not, Option, Some, None, nat_lt, ltb-true, ltb-false, refl, ap, arith}
 use Rattle.std.specs.Cmp.Lexicographic.{pointwise}
 use Rattle.std.specs.Str.{bytes_eq}
 use Rattle.std.proofs.lemmas.Bool.{and_parts}
@@ -11,7 +11,7 @@ use Rattle.gi_pairs.specs.Direction.{place_of}
 use Rattle.gi_pairs.specs.declared.direction.Direction.{Direction}
 use Rattle.gi_pairs.specs.declared.direction.Direction.TheVariants.{IM, MI}
 use Rattle.gi_messages.specs.Lines.{line_eq}
-use Rattle.gi_messages.specs.declared.line.Line.{Line}
+use Rattle.gi_messages.specs.declared.nomination_line.NominationLine.{NominationLine}
 use Rattle.gi_messages.specs.declared.message.Nomint.{Nomint}
 use Rattle.gi_nominations.specs.Book.{Documents, in_force}
 use Rattle.gi_nominations.specs.Lines.{lines_fault}
@@ -99,16 +99,18 @@ direction_same IM MI e = absurd (omega (arith, e))
 direction_same MI IM e = absurd (omega (arith, e))
 direction_same MI MI e = refl
 
-line_takes : (a b : Line) → line_eq a b ≡ true → a ≡ b
+line_takes : (a b : NominationLine) → line_eq a b ≡ true → a ≡ b
 line_takes a b is =
     let first = and_parts (bytes_eq a.counterparty b.counterparty) _ is in
-    let second = and_parts _ (bytes_eq a.hours b.hours) first.1 in
+    let second = and_parts _ _ first.1 in
+    let third = and_parts (bytes_eq a.hours b.hours) (nat_eq a.priority b.priority) second.1 in
     let counterparty = (bytes_eq-Decides a.counterparty b.counterparty).0 first.0 in
     let direction = direction_same a.direction b.direction ((Decides-eqb (place_of a.direction) (place_of b.direction)).0 second.0) in
-    let hours = (bytes_eq-Decides a.hours b.hours).0 second.1 in
-    λ i. record { counterparty = counterparty i; direction = direction i; hours = hours i }
+    let hours = (bytes_eq-Decides a.hours b.hours).0 third.0 in
+    let priority = (Decides-eqb a.priority b.priority).0 third.1 in
+    λ i. record { counterparty = counterparty i; direction = direction i; hours = hours i; priority = priority i }
 
-lines_take : (xs ys : List Line) → pointwise line_eq xs ys ≡ true → xs ≡ ys
+lines_take : (xs ys : List NominationLine) → pointwise line_eq xs ys ≡ true → xs ≡ ys
 lines_take [] [] is = refl
 lines_take [] (y ∷ ys) is = absurd cc
 lines_take (x ∷ xs) [] is = absurd cc

@@ -2,5 +2,5 @@ pub mod FaultText
 pub mod Lines
 pub mod Book
 pub mod PortfolioDay
-pub mod BookKept
+pub mod BookRepr
 pub mod Judging

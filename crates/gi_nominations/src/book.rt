@@ -31,7 +31,7 @@ impl Model for Book {
 
     ghost Value = { Documents };
 
-    ghost use Rattle.gi_nominations.specs.BookKept.{book_of, IsFiled};
+    ghost use Rattle.gi_nominations.specs.BookRepr.{book_of, IsFiled};
 
     ghost view = { book_of };
 
@@ -120,7 +120,7 @@ impl Book {
         requires newer { IsNewer self.now.documents nomint }
         ensures point { self.new.point ≡ self.old.point }
         ensures stands { OnOk result (DocumentStands self.old.documents self.new.documents nomint) }
-        ensures kept { OnErr result (self.new ≡ self.old) }
+        ensures unchanged { OnErr result (self.new ≡ self.old) }
 
         // A document that takes the place of another one needs no memory.
         ensures absent { OnErr result (in_force_of nomint.portfolio nomint.day self.old.documents ≡ None) }

@@ -6,12 +6,12 @@ ghost use Rattle.gi_nominations.specs.Judging.{is_day_over};
 
 use crate::nomination_fault::NominationFault;
 use gi_day::DayFrame;
-use gi_messages::Line;
+use gi_messages::NominationLine;
 
 /// How many lines a nomination has at most.
 pub const MOST_LINES: usize = 64;
 
-fn have_hours(lines: &[Line], hours: usize) -> bool
+fn have_hours(lines: &[NominationLine], hours: usize) -> bool
     ensures { result ≡ has_hours hours lines.now }
 {
     lines
@@ -19,19 +19,19 @@ fn have_hours(lines: &[Line], hours: usize) -> bool
         .all(|line| line.hours.as_slice().len() == hours)
 }
 
-fn is_twin(line: &Line, other: &Line) -> bool
+fn is_twin(line: &NominationLine, other: &NominationLine) -> bool
     ensures { result ≡ is_twin_of line.now other.now }
 {
     line.counterparty == other.counterparty && line.direction == other.direction
 }
 
-fn has_twin(line: &Line, others: &[Line]) -> bool
+fn has_twin(line: &NominationLine, others: &[NominationLine]) -> bool
     ensures { result ≡ has_twin line.now others.now }
 {
     others.iter().any(|other| is_twin(line, other))
 }
 
-fn have_twins(lines: &[Line]) -> bool
+fn have_twins(lines: &[NominationLine]) -> bool
     ensures { result ≡ has_twins lines.now }
 {
     for i in 0..lines.len() {
@@ -44,7 +44,7 @@ fn have_twins(lines: &[Line]) -> bool
 
 /// The first fault of the lines of a gas day that has so many hours.
 #[tactic(auto, unfolding(crate::specs::Lines::lines_fault))]
-pub fn lines_fault(lines: &[Line], hours: u8) -> Option<NominationFault>
+pub fn lines_fault(lines: &[NominationLine], hours: u8) -> Option<NominationFault>
     ensures { result ≡ fault_of_lines hours lines.now }
 {
     if !have_hours(lines, usize::from(hours)) {

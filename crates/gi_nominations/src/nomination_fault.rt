@@ -12,7 +12,7 @@ pub enum NominationFault {
     HourCount,
     /// It has more than 64 lines.
     TooManyLines,
-    /// Two of its lines are of one counterparty and direction.
+    /// Two of its lines are of one counterparty and direction, whatever their priorities.
     DuplicateLine,
     /// The last cycle of its gas day is closed.
     DayOver,

@@ -49,7 +49,7 @@ call_may : (side : Side) (w : WorldState) (call : Call) → AreKnown w → IsFro
 call_may side w (calls.Contract contract) known from = λ id table is. absurd (meets_none (calls.Contract contract) id table refl is)
 call_may side w (calls.Notice notice) known from = λ id table is. absurd (meets_none (calls.Notice notice) id table refl is)
 call_may side w (calls.Submit body) known from = λ id table is. absurd (meets_none (calls.Submit body) id table refl is)
-call_may side w (calls.Close cycle) known from = λ id table is. absurd (meets_none (calls.Close cycle) id table refl is)
+call_may side w (calls.Close cycle rule) known from = λ id table is. absurd (meets_none (calls.Close cycle rule) id table refl is)
 call_may side w (calls.Deliver body) known from = sent_may side w body known from
 call_may side w (calls.Resend cycle) known from = λ id table is. absurd (meets_none (calls.Resend cycle) id table refl is)
 call_may side w (calls.MarkSaved n fact) known from = λ id table is. absurd (meets_none (calls.MarkSaved n fact) id table refl is)

@@ -7,7 +7,7 @@ use Rattle.gi_desk.specs.Laws.{HasOneMoreAtMost, OnlyAppends}
 use Rattle.gi_desk.specs.Machine.{DeskState, after, reply}
 use Rattle.gi_desk.specs.declared.call.Call.{Call}
 use Rattle.gi_office.specs.Entering.{entered}
-use Rattle.gi_office.specs.Keeping.{HeldState, IsKept, SeatState}
+use Rattle.gi_office.specs.Keeping.{HeldState, HeldInvariant, SeatState}
 use Rattle.gi_office.specs.Lives.{IsRun, opened}
 use Rattle.gi_office.specs.declared.entry.Entry.{Entry}
 use Rattle.gi_office.proofs.Points.{keeps_point}
@@ -29,7 +29,7 @@ longer old new more = elim more [
   | inr added ↦ let e = ap (λ (l : List Fact). length l) added.1 in omega (arith, e, length-append old (added.0 ∷ []))
 ]
 
-pub entered_kept : OnlyAppends → (side : Side) (held : HeldState) (seat : SeatState) (call : Call) → IsKept side held → IsKept side (entered side held seat call)
+pub entered_kept : OnlyAppends → (side : Side) (held : HeldState) (seat : SeatState) (call : Call) → HeldInvariant side held → HeldInvariant side (entered side held seat call)
 entered_kept appends side held seat call kept =
     let more = (appends side held.desk call).0 in
     let entry : Entry = record { seat = seat.number; call = call; reply = reply side held.desk call } in

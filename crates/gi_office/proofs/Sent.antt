@@ -89,7 +89,7 @@ pub from_test : (side : Side) (s : DeskState) (packets : List Packet) (call : Ca
 from_test side s packets (calls.Contract contract) all is = tt
 from_test side s packets (calls.Notice notice) all is = tt
 from_test side s packets (calls.Submit body) all is = tt
-from_test side s packets (calls.Close id) all is = tt
+from_test side s packets (calls.Close id rule) all is = tt
 from_test side s packets (calls.Deliver body) all is = was_sent side s body (ap (list_any (carries body)) (sym all) ∙ is)
 from_test side s packets (calls.Resend id) all is = tt
 from_test side s packets (calls.MarkSaved n fact) all is = tt
@@ -99,7 +99,7 @@ pub test_from : (side : Side) (s : DeskState) (packets : List Packet) (call : Ca
 test_from side s packets (calls.Contract contract) all is = refl
 test_from side s packets (calls.Notice notice) all is = refl
 test_from side s packets (calls.Submit body) all is = refl
-test_from side s packets (calls.Close id) all is = refl
+test_from side s packets (calls.Close id rule) all is = refl
 test_from side s packets (calls.Deliver body) all is = ap (list_any (carries body)) all ∙ sent_is side s body is
 test_from side s packets (calls.Resend id) all is = refl
 test_from side s packets (calls.MarkSaved n fact) all is = refl

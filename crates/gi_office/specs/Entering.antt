@@ -3,7 +3,7 @@ use Rattle.std.specs.Prelude.{◌≡◌, ◌↔◌, ◌+◌, [], ◌∷◌, ◌+
 use Rattle.gi_pairs.specs.declared.side.Side.{Side}
 use Rattle.gi_desk.specs.Machine.{after, reply}
 use Rattle.gi_desk.specs.declared.call.Call.{Call}
-use Rattle.gi_office.specs.Keeping.{HeldState, IsFull, IsKept, SeatState}
+use Rattle.gi_office.specs.Keeping.{HeldState, IsFull, HeldInvariant, SeatState}
 use Rattle.gi_office.specs.declared.office_fault.OfficeFault.{OfficeFault}
 use Rattle.gi_office.specs.declared.office_fault.OfficeFault.TheVariants.{SeatFull}
 use Rattle.gi_office.specs.declared.receipt.Receipt.{Receipt}
@@ -28,7 +28,7 @@ noted seat call receipt =
 
 -- What a lock gave is not told, but that it was an office like any other: the receipt is that of the desk machine there.
 abbrev pub IsReceipt : Side → SeatState → Call → Receipt → Type 0
-IsReceipt side seat call receipt = (held : HeldState) × IsKept side held × (receipt ≡ receipt_of side held seat call)
+IsReceipt side seat call receipt = (held : HeldState) × HeldInvariant side held × (receipt ≡ receipt_of side held seat call)
 
 -- the seat that comes back noted the call, or is as it was
 abbrev pub GivesBack : Side → SeatState → Call → Result Receipt OfficeFault → SeatState → Type 0

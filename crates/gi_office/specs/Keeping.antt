@@ -21,7 +21,7 @@ abbrev pub life_of : HeldState → Life
 life_of held = record { point = held.desk.point; opening = take held.opening held.desk.facts; trail = held.trail }
 
 -- the trail is a legal life, of which the desk is the end, and the book counts its entries
-pub record IsKept (side : Side) (held : HeldState) : Type 0 where
+pub record HeldInvariant (side : Side) (held : HeldState) : Type 0 where
   pub within : held.opening ≤ length held.desk.facts
   pub life : IsLegal side (life_of held) held.desk
   pub counted : held.total ≡ length held.trail

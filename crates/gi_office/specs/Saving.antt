@@ -22,7 +22,7 @@ use Rattle.gi_store.specs.Rows.{facts_in}
 use Rattle.gi_store.specs.declared.store_fault.StoreFault.{StoreFault}
 use Rattle.gi_store.specs.declared.store_fault.StoreFault.TheVariants.{NotLoaded, NotNext}
 use Rattle.gi_office.specs.Entering.{IsReceipt, noted}
-use Rattle.gi_office.specs.Keeping.{HeldState, IsFull, IsKept, SeatState}
+use Rattle.gi_office.specs.Keeping.{HeldState, IsFull, HeldInvariant, SeatState}
 use Rattle.gi_office.specs.declared.look.Look.{Look}
 use Rattle.gi_office.specs.declared.look.Look.TheVariants as looks
 use Rattle.gi_office.specs.declared.office_fault.OfficeFault.{OfficeFault}
@@ -63,7 +63,7 @@ CanBeWritten (looks.Next n facts) = AreNext n facts
 
 -- What a lock gave is not told, but that it was an office like any other, in which this was seen.
 abbrev pub IsSeen : Side → Look → Type 0
-IsSeen side look = (held : HeldState) × IsKept side held × (look ≡ look_of held.desk)
+IsSeen side look = (held : HeldState) × HeldInvariant side held × (look ≡ look_of held.desk)
 
 -- ---- the book
 

@@ -3,7 +3,7 @@ use Rattle.std.specs.Prelude.{◌≡◌, ◌≢◌, ◌≤◌, ℕ, ◌+◌, ◌
 use Rattle.gi_pairs.specs.declared.side.Side.{Side}
 use Rattle.gi_facts.specs.declared.fact.Fact.{Fact}
 use Rattle.gi_desk.specs.Machine.{DeskState}
-use Rattle.gi_office.specs.Keeping.{HeldState, IsKept, SeatState, life_of}
+use Rattle.gi_office.specs.Keeping.{HeldState, HeldInvariant, SeatState, life_of}
 use Rattle.gi_office.specs.Lives.{IsLegal, Life}
 use Rattle.gi_office.specs.declared.entry.Entry.{Entry}
 use Rattle.gi_office.specs.declared.note.Note.{Note}
@@ -100,6 +100,6 @@ CountsAll parts held handed = AreAll parts handed → noted_by handed ≡ length
 -- What a lock kept is not told, but that it was an office like any other. An office of so many seats settles as that one.
 pub record SettlesKept (side : Side) (parts seats : ℕ) (handed : List SeatState) (result : Result SettledState Unsettled) : Type 0 where
   pub held : HeldState
-  pub kept : IsKept side held
+  pub kept : HeldInvariant side held
   pub settles : Settles seats held handed result
   pub counted : CountsAll parts held handed

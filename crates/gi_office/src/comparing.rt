@@ -2,13 +2,14 @@
 
 ghost use Rattle.std.specs.Prelude.{◌≡◌, ◌↔◌, IsTrue, Some, slice_get};
 ghost use Rattle.gi_office.specs.Settling.{note_of};
+ghost use Rattle.gi_desk.specs.declared.call.Call.TheVariants.{Close};
 
 use crate::entry::Entry;
 use crate::note::Note;
 use gi_desk::{Answer, Call, Fact, Packet, Reply};
 use gi_facts::same_facts_are_equal;
 use gi_pairs::CycleId;
-use gi_processing::{Contract, Notice};
+use gi_processing::{Contract, Notice, Rule};
 
 pub(crate) fn is_same_fact(fact: &Fact, other: &Fact) -> bool
     ensures { IsTrue result ↔ (fact.now ≡ other.now) }
@@ -56,7 +57,23 @@ fn is_same_notice(notice: &Notice, other: &Notice) -> bool
 fn is_same_cycle(id: &CycleId, other: &CycleId) -> bool
     ensures { IsTrue result ↔ (id.now ≡ other.now) }
 {
-    are_equal(Fact::Closed(*id), Fact::Closed(*other))
+    let rule = Rule::One;
+    are_equal(
+        Fact::Closed { id: *id, rule },
+        Fact::Closed { id: *other, rule },
+    )
+}
+
+fn is_same_closing(id: &CycleId, rule: Rule, other: &CycleId, by: Rule) -> bool
+    ensures { IsTrue result ↔ (Close id.now rule ≡ Close other.now by) }
+{
+    are_equal(
+        Fact::Closed { id: *id, rule },
+        Fact::Closed {
+            id: *other,
+            rule: by,
+        },
+    )
 }
 
 fn is_same_call(call: &Call, other: &Call) -> bool
@@ -66,7 +83,9 @@ fn is_same_call(call: &Call, other: &Call) -> bool
         (Call::Contract(a), Call::Contract(b)) => is_same_contract(a, b),
         (Call::Notice(a), Call::Notice(b)) => is_same_notice(a, b),
         (Call::Submit(a), Call::Submit(b)) => a.as_slice() == b.as_slice(),
-        (Call::Close(a), Call::Close(b)) => is_same_cycle(a, b),
+        (Call::Close { id: a, rule }, Call::Close { id: b, rule: by }) => {
+            is_same_closing(a, *rule, b, *by)
+        }
         (Call::Deliver(a), Call::Deliver(b)) => a.as_slice() == b.as_slice(),
         (Call::Resend(a), Call::Resend(b)) => is_same_cycle(a, b),
         (Call::MarkSaved { n: a, fact }, Call::MarkSaved { n: b, fact: other }) => {

@@ -1,7 +1,7 @@
 ghost use Rattle.std.specs.Prelude.{◌≡◌, ◌≢◌, IfSome, ◌<◌, ◌≤◌, ◌↔◌, ◌+◌, [], ◌∷◌, ◌++◌, Err, IfErr, IfOk, OnErr, OnOk, false, length, vec_capacity, vec_len};
-ghost use Rattle.gi_desk.specs.Machine.{after, prepared as prepared_of, reply as reply_of};
+ghost use Rattle.gi_desk.specs.Machine.{after, prepared as prepared_of, reply as reply_of, saved_out as saved_out_of};
 ghost use Rattle.gi_office.specs.Entering.{entered, noted, receipt_of};
-ghost use Rattle.gi_office.specs.Keeping.{IsFull, IsKept};
+ghost use Rattle.gi_office.specs.Keeping.{IsFull, HeldInvariant};
 ghost use Rattle.gi_office.specs.Limits.{most_seats};
 ghost use Rattle.gi_office.specs.Opening.{new_held, new_seats};
 ghost use Rattle.gi_office.specs.Saving.{CanBeWritten, look_of};
@@ -22,7 +22,7 @@ use crate::settled::Settled;
 use crate::settling::{first_fault, merge};
 use crate::unsettled::Unsettled;
 use crate::waited::Waited;
-use gi_desk::{Call, Desk, Prepared, Reply, Role, only_appends};
+use gi_desk::{Call, Desk, Packet, Prepared, Reply, Role, only_appends};
 use std::alloc::{AllocError, Global};
 use std::marker::Model;
 use std::sync::ledger::{Blank, Book, Ledger};
@@ -125,7 +125,7 @@ fn step<R: Role>(
     ensures entry { IfOk result (λ step. step.1.0 ≡ record { seat = number; call = call; reply = reply_of R.SIDE desk.old call }) }
     ensures note { IfOk result (λ step. step.1.1 ≡ record { place = place; call = call; reply = reply_of R.SIDE desk.old call }) }
     ensures next { OnOk result (desk.new ≡ after R.SIDE desk.old call) }
-    ensures kept { OnErr result (desk.new ≡ desk.old) }
+    ensures unchanged { OnErr result (desk.new ≡ desk.old) }
 {
     let (prepared, copies) = prepared(alloc, desk, number, place, call)?;
     let Ok(reply) = desk.make(prepared) else {
@@ -160,7 +160,7 @@ fn taken<R: Role>(
     ensures next { OnOk result (desk.new ≡ after R.SIDE desk.old call) }
     ensures trail { OnOk result (trail.new.items ≡ trail.old.items ++ record { seat = number; call = call; reply = reply_of R.SIDE desk.old call } ∷ []) }
     ensures notes { OnOk result (notes.new.items ≡ notes.old.items ++ record { place = length trail.old.items + 1; call = call; reply = reply_of R.SIDE desk.old call } ∷ []) }
-    ensures kept { OnErr result ((desk.new ≡ desk.old) × (trail.new.items ≡ trail.old.items) × (notes.new.items ≡ notes.old.items)) }
+    ensures unchanged { OnErr result ((desk.new ≡ desk.old) × (trail.new.items ≡ trail.old.items) × (notes.new.items ≡ notes.old.items)) }
 {
     if let Err(refused) = room(trail, notes) {
         drop(call);
@@ -190,13 +190,13 @@ pub struct Held<R: Role, L: Ledger> {
 }
 
 impl<R: Role, L: Ledger> Model for Held<R, L> {
-    ghost use Rattle.gi_office.specs.Keeping.{HeldState, IsKept};
+    ghost use Rattle.gi_office.specs.Keeping.{HeldState, HeldInvariant};
 
     ghost Value = { HeldState };
 
     ghost view = { λ h. record { opening = h.opening; seats = h.seats; desk = h.desk; trail = h.trail.items; total = h.book.total } };
 
-    ghost invariant = { λ h. IsKept R.SIDE (record { opening = h.opening; seats = h.seats; desk = h.desk; trail = h.trail.items; total = h.book.total }) };
+    ghost invariant = { λ h. HeldInvariant R.SIDE (record { opening = h.opening; seats = h.seats; desk = h.desk; trail = h.trail.items; total = h.book.total }) };
 }
 
 /// The office over a desk, and its seats, among which the parts of the ledger are split.
@@ -260,8 +260,8 @@ impl<R: Role, L: Ledger> Held<R, L> {
 
     /// The facts that the desk was opened with and the calls since then are a legal life, of which
     /// the desk is the end; and the ledger counts the calls.
-    pub fn known(&self)
-        ensures { IsKept R.SIDE self.now }
+    pub fn reveal_invariant(&self)
+        ensures { HeldInvariant R.SIDE self.now }
     {
         let _ = self.trail.len();
     }
@@ -275,7 +275,7 @@ impl<R: Role, L: Ledger> Held<R, L> {
         ensures receipt { IfOk result (λ receipt. receipt ≡ receipt_of R.SIDE self.old seat.old call) }
         ensures held { OnOk result (self.new ≡ entered R.SIDE self.old seat.old call) }
         ensures seat { IfOk result (λ receipt. seat.new ≡ noted seat.old call receipt) }
-        ensures kept { OnErr result ((self.new ≡ self.old) × (seat.new ≡ seat.old)) }
+        ensures unchanged { OnErr result ((self.new ≡ self.old) × (seat.new ≡ seat.old)) }
     {
         if seat.notes.len() >= MOST_NOTES {
             drop(call);
@@ -312,6 +312,14 @@ impl<R: Role, L: Ledger> Held<R, L> {
             n: self.desk.saved() + 1,
             facts: Facts::from(facts),
         })
+    }
+
+    /// What fact number `n`, from 1, let out once it was saved; nothing where it is not saved.
+    pub fn saved_out(&self, n: u32) -> Result<Vec<Packet>, AllocError>
+        requires { 1 ≤ n }
+        ensures { IfOk result (λ packets. packets.items ≡ saved_out_of R.SIDE self.now.desk n) }
+    {
+        self.desk.saved_out(n)
     }
 
     /// What became of fact number `n`; nothing while it may still be saved.

@@ -3,7 +3,7 @@ ghost use Rattle.gi_office.specs.Entering.{IsAnswered};
 ghost use Rattle.gi_office.specs.Limits.{most_seats};
 ghost use Rattle.gi_office.specs.Opening.{new_seats};
 ghost use Rattle.gi_office.specs.Settling.{SettlesKept};
-ghost use Rattle.gi_office.specs.Waiting.{IsWaited, number_in};
+ghost use Rattle.gi_office.specs.Waiting.{IsOutOf, IsWaited, number_in};
 ghost use Rattle.gi_desk.specs.declared.call.Call.TheVariants as calls;
 
 mod saving;
@@ -17,10 +17,10 @@ use crate::seat::Seat;
 use crate::settled::Settled;
 use crate::unsettled::Unsettled;
 use crate::waited::Waited;
-use gi_desk::{Answer, Body, Call, Desk, Role};
+use gi_desk::{Answer, Body, Call, Desk, Packet, Role};
 use gi_pairs::CycleId;
-use gi_processing::{Contract, Notice};
-use std::alloc::Global;
+use gi_processing::{Contract, Notice, Rule};
+use std::alloc::{AllocError, Global};
 use std::marker::Model;
 use std::sync::ledger::{Blank, Ledger};
 use std::sync::{Condvar, Mutex, Wait};
@@ -52,7 +52,7 @@ fn number_of(answer: &Answer) -> Option<u32>
     }
 }
 
-/// `known` comes first: of what a lock gives nothing is known before.
+/// `reveal_invariant` comes first: of what a lock gives nothing is known before.
 fn asked<R: Role, L: Ledger>(
     held: &mut Held<R, L>,
     seat: &mut Seat<L>,
@@ -60,7 +60,7 @@ fn asked<R: Role, L: Ledger>(
 ) -> Result<Receipt, OfficeFault>
     ensures { IsAnswered R.SIDE seat.old call result seat.new }
 {
-    held.known();
+    held.reveal_invariant();
     held.enter(seat, call)
 }
 
@@ -69,8 +69,17 @@ fn became_of<R: Role, L: Ledger>(held: &Held<R, L>, n: u32) -> Option<Waited>
     ensures fact { IfSome result (IsWaited R.SIDE n) }
     ensures known { IfSome result (λ waited. waited ≢ Waited.NoFact) }
 {
-    held.known();
+    held.reveal_invariant();
     held.waited(n)
+}
+
+/// As in `asked`.
+fn out_of<R: Role, L: Ledger>(held: &Held<R, L>, n: u32) -> Result<Vec<Packet>, AllocError>
+    requires { 1 ≤ n }
+    ensures { IfOk result (λ packets. IsOutOf R.SIDE n packets.items) }
+{
+    held.reveal_invariant();
+    held.saved_out(n)
 }
 
 impl<R: Role, L: Ledger> Office<R, L> {
@@ -163,16 +172,17 @@ impl<R: Role, L: Ledger> Office<R, L> {
         self.ask(rt, seat, Call::Deliver(body))
     }
 
-    /// Closes a cycle.
+    /// Closes a cycle by a rule.
     pub fn close_cycle<W: Wait>(
         &self,
         rt: &W,
         seat: Seat<L>,
         id: CycleId,
+        rule: Rule,
     ) -> (Seat<L>, Result<Receipt, OfficeFault>)
-        ensures { IsAnswered R.SIDE seat (calls.Close id) result.1 result.0 }
+        ensures { IsAnswered R.SIDE seat (calls.Close id rule) result.1 result.0 }
     {
-        self.ask(rt, seat, Call::Close(id))
+        self.ask(rt, seat, Call::Close { id, rule })
     }
 
     /// Lets out again what a cycle let out.
@@ -248,6 +258,15 @@ impl<R: Role, L: Ledger> Office<R, L> {
         }
     }
 
+    /// What fact number `n`, from 1, let out once it was saved, as its mark did; nothing where it is not saved. No call is made
+    /// and nothing noted.
+    pub fn saved_out<W: Wait>(&self, rt: &W, n: u32) -> Result<Vec<Packet>, AllocError>
+        requires { 1 ≤ n }
+        ensures { IfOk result (λ packets. IsOutOf R.SIDE n packets.items) }
+    {
+        out_of(&*self.held.lock(rt), n)
+    }
+
     /// Takes the office apart, as `Held::settle` says of what the lock kept.
     pub fn settle(self, seats: Vec<Seat<L>>) -> Result<Settled<R>, Unsettled>
         ensures { SettlesKept R.SIDE L.parts self.seats seats.items result }
@@ -268,6 +287,6 @@ fn taken_apart<R: Role, L: Ledger>(
 ) -> Result<Settled<R>, Unsettled>
     ensures { SettlesKept R.SIDE L.parts count seats.items result }
 {
-    held.known();
+    held.reveal_invariant();
     held.settle_seats(count, seats)
 }

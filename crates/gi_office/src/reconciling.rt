@@ -90,8 +90,8 @@ pub fn reconcile(
     ensures first { Reconciles initiating.now matching.now result }
     ensures one_quantity { IfOk result (λ done. AgreeOnOneQuantity initiating.now matching.now) }
 {
-    initiating.known();
-    matching.known();
+    initiating.reveal_invariant();
+    matching.reveal_invariant();
     if initiating.desk().point() != matching.desk().point() {
         return Err(Unreconciled::NotAPair);
     }

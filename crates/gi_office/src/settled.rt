@@ -78,11 +78,11 @@ impl<R: Role> Settled<R> {
     }
 
     /// Does nothing: what it promises is always so, and is known once it is called.
-    pub(crate) fn known(&self)
+    pub(crate) fn reveal_invariant(&self)
         ensures lives { AreLegal R.SIDE self.now.lives self.now.desk }
         ensures legal { bad_fact R.SIDE self.now.desk.point self.now.desk.facts ≡ None }
         ensures fits { FitsDesk R.SIDE self.now.desk.point self.now.desk.facts }
     {
-        self.desk.known();
+        self.desk.reveal_invariant();
     }
 }

@@ -5,7 +5,7 @@ use Rattle.std.proofs.lemmas.Bool.Decides.{nat_tests}
 use Rattle.std.proofs.lemmas.List.{drop-replicate}
 use Rattle.std.proofs.lemmas.Str.Ascii.{IsAscii-from_all}
 use Rattle.std.specs.Str.{IsAscii}
-use Rattle.gi_pairs.specs.Code.{IsCode, IsKept, is_character}
+use Rattle.gi_pairs.specs.Code.{IsCode, CodeInvariant, is_character}
 
 character-ascii : (c : ℕ) → is_character c ≡ true → c < 128
 character-ascii c h = grind (arith, nat_tests)
@@ -15,7 +15,7 @@ pub code-ascii : (text : List ℕ) → IsCode text → IsAscii text
 code-ascii text code = IsAscii-from_all text (λ k x at. character-ascii (get_or text k x) (code.characters k x at))
 
 -- bytes that begin with a code and go on with zeros keep that code
-pub kept_from : (text : List ℕ) → IsCode text → IsKept (text ++ drop (length text) (replicate 16 0)) (length text)
+pub kept_from : (text : List ℕ) → IsCode text → CodeInvariant (text ++ drop (length text) (replicate 16 0)) (length text)
 kept_from text code =
     let first = take-append_seam text (drop (length text) (replicate 16 0)) in
     let rest = drop-replicate {X = ℕ} (length text) 16 0 in

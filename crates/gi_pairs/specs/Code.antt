@@ -17,7 +17,7 @@ abbrev pub padded : List ℕ → List ℕ
 padded text = text ++ replicate (16 - length text) 0
 
 -- bytes and a length that keep a code so
-pub record IsKept (bytes : List ℕ) (len : ℕ) : Type 0 where
+pub record CodeInvariant (bytes : List ℕ) (len : ℕ) : Type 0 where
   pub code : IsCode (take len bytes)
   pub exact : length (take len bytes) ≡ len
   pub rest : bytes ≡ padded (take len bytes)

@@ -1,5 +1,5 @@
 pub mod Code
-pub mod CodeKept
+pub mod CodeRepr
 pub mod CycleId
 pub mod Direction
 pub mod FaultText
@@ -8,7 +8,7 @@ pub mod Limits
 pub mod Pair
 pub mod Quantity
 pub mod Row
-pub mod RowsKept
+pub mod RowsRepr
 pub mod Side
 pub mod Table
-pub mod TableKept
+pub mod TableRepr

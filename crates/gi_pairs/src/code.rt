@@ -36,15 +36,15 @@ pub struct Code {
 
 impl Model for Code {
     ghost use Rattle.std.specs.Prelude.{List, ℕ, take};
-    ghost use Rattle.gi_pairs.specs.Code.{IsKept};
+    ghost use Rattle.gi_pairs.specs.Code.{CodeInvariant};
 
     ghost Value = { List ℕ };
 
-    ghost use Rattle.gi_pairs.specs.CodeKept.{kept_of, kept_is};
+    ghost use Rattle.gi_pairs.specs.CodeRepr.{kept_of, kept_is};
 
     ghost view = { λ c. take c.len c.bytes };
 
-    ghost invariant = { λ c. IsKept c.bytes c.len };
+    ghost invariant = { λ c. CodeInvariant c.bytes c.len };
 
     ghost inverse = { kept_of };
 
@@ -96,7 +96,7 @@ impl Code {
     }
 
     /// Every code is one.
-    pub fn known(&self)
+    pub fn reveal_invariant(&self)
         ensures { IsCode self.now }
     {
         let _ = self.as_bytes();

@@ -29,7 +29,7 @@ impl From<Vec<Quantity>> for Hours {
 
     fn from(quantities: Vec<Quantity>) -> Hours {
         for quantity in &quantities {
-            quantity.known();
+            quantity.reveal_invariant();
         }
         Hours { quantities }
     }
@@ -48,7 +48,7 @@ impl Hours {
     }
 
     /// Every element is a quantity.
-    pub fn known(&self)
+    pub fn reveal_invariant(&self)
         ensures { All IsQuantity self.now }
     {
         let _ = self.as_slice();

@@ -61,7 +61,7 @@ impl Quantity {
     }
 
     /// Every quantity is one.
-    pub fn known(self)
+    pub fn reveal_invariant(self)
         ensures { IsQuantity self }
     {}
 }

@@ -27,12 +27,12 @@ impl Row {
     }
 
     /// Every row has codes and quantities.
-    pub fn known(&self)
+    pub fn reveal_invariant(&self)
         ensures { IsRow self.now }
     {
-        self.pair.initiating.known();
-        self.pair.matching.known();
-        self.hours.known();
+        self.pair.initiating.reveal_invariant();
+        self.pair.matching.reveal_invariant();
+        self.hours.reveal_invariant();
     }
 
     /// An equal row.

@@ -20,7 +20,7 @@ pub(crate) struct Rows {
 impl Model for Rows {
     ghost use Rattle.std.specs.Prelude.{List};
     ghost use Rattle.gi_pairs.specs.declared.row.Row.{Row};
-    ghost use Rattle.gi_pairs.specs.RowsKept.{kept_rows};
+    ghost use Rattle.gi_pairs.specs.RowsRepr.{kept_rows};
 
     ghost Value = { List Row };
 

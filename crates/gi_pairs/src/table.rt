@@ -80,7 +80,7 @@ impl Model for Table {
 
     ghost Value = { TableContents };
 
-    ghost use Rattle.gi_pairs.specs.TableKept.{contents};
+    ghost use Rattle.gi_pairs.specs.TableRepr.{contents};
 
     ghost view = { contents };
 
@@ -98,7 +98,7 @@ fn have_hours(rows: &[Row], hours: usize) -> bool
     ensures known { OnTrue result (All IsRow rows.now) }
 {
     for row in rows {
-        row.known();
+        row.reveal_invariant();
         if row.hours.as_slice().len() != hours {
             return false;
         }
@@ -205,7 +205,7 @@ impl Table {
     }
 
     /// Every table is one.
-    pub fn known(&self)
+    pub fn reveal_invariant(&self)
         ensures { IsTable self.now }
     {
         let _ = self.rows();

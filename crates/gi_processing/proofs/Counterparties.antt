@@ -17,7 +17,7 @@ use Rattle.gi_pairs.specs.Key.{code_cmp}
 use Rattle.gi_pairs.specs.declared.direction.Direction.{Direction}
 use Rattle.gi_pairs.proofs.Building.{In}
 use Rattle.gi_pairs.proofs.Members.{from_filter}
-use Rattle.gi_messages.specs.declared.line.Line.{Line}
+use Rattle.gi_messages.specs.declared.nomination_line.NominationLine.{NominationLine}
 use Rattle.gi_nominations.specs.Lines.{has_twins, is_twin}
 use Rattle.gi_processing.specs.Reduction.{AreOrdered, by_counterparty, counterparties, in_direction, is_in, with_line}
 
@@ -50,15 +50,15 @@ less_from_test Greater e = cc
 
 -- ---- the lines in order are the lines
 
-with_line-permutation : (line : Line) (xs : List Line) → IsPermutation (line ∷ xs) (with_line line xs)
+with_line-permutation : (line : NominationLine) (xs : List NominationLine) → IsPermutation (line ∷ xs) (with_line line xs)
 with_line-permutation line [] = IsPermutation-refl (line ∷ [])
 with_line-permutation line (x ∷ xs) = placed (is_lt (code_cmp line.counterparty x.counterparty)) (with_line line xs) (with_line-permutation line xs)
   where
-    placed : (b : Bool) (with_it : List Line) → IsPermutation (line ∷ xs) with_it → IsPermutation (line ∷ x ∷ xs) (if b then line ∷ x ∷ xs else x ∷ with_it)
+    placed : (b : Bool) (with_it : List NominationLine) → IsPermutation (line ∷ xs) with_it → IsPermutation (line ∷ x ∷ xs) (if b then line ∷ x ∷ xs else x ∷ with_it)
     placed true with_it h = IsPermutation-refl (line ∷ x ∷ xs)
     placed false with_it h = IsPermutation-trans (line ∷ x ∷ xs) (x ∷ line ∷ xs) (x ∷ with_it) (IsPermutation-middle (line ∷ []) x xs) (IsPermutation-cons x (line ∷ xs) with_it h)
 
-pub by_counterparty-permutation : (lines : List Line) → IsPermutation lines (by_counterparty lines)
+pub by_counterparty-permutation : (lines : List NominationLine) → IsPermutation lines (by_counterparty lines)
 by_counterparty-permutation [] = IsPermutation-refl []
 by_counterparty-permutation (line ∷ lines) =
     IsPermutation-trans (line ∷ lines) (line ∷ by_counterparty lines) (with_line line (by_counterparty lines))
@@ -75,16 +75,16 @@ behind (inl e) = inr (inl e)
 behind (inr (inl e)) = inl e
 behind (inr (inr k)) = inr (inr k)
 
-in_with_line : (r line : Line) (xs : List Line) → In r (with_line line xs) → In r (line ∷ xs)
+in_with_line : (r line : NominationLine) (xs : List NominationLine) → In r (with_line line xs) → In r (line ∷ xs)
 in_with_line r line [] h = h
 in_with_line r line (x ∷ xs) h = chosen (is_lt (code_cmp line.counterparty x.counterparty)) (with_line line xs) (in_with_line r line xs) h
   where
-    chosen : (b : Bool) (with_it : List Line) → (In r with_it → In r (line ∷ xs)) → In r (if b then line ∷ x ∷ xs else x ∷ with_it) → In r (line ∷ x ∷ xs)
+    chosen : (b : Bool) (with_it : List NominationLine) → (In r with_it → In r (line ∷ xs)) → In r (if b then line ∷ x ∷ xs else x ∷ with_it) → In r (line ∷ x ∷ xs)
     chosen true with_it f h = h
     chosen false with_it f h = behind (deeper f h)
 
 -- what stands in order stands among the lines
-pub in_by_counterparty : (r : Line) (lines : List Line) → In r (by_counterparty lines) → In r lines
+pub in_by_counterparty : (r : NominationLine) (lines : List NominationLine) → In r (by_counterparty lines) → In r lines
 in_by_counterparty r [] h = h
 in_by_counterparty r (line ∷ lines) h = deeper (in_by_counterparty r lines) (in_with_line r line (by_counterparty lines) h)
 
@@ -92,17 +92,17 @@ all_above : (k l : List ℕ) (ks : List (List ℕ)) → code_cmp k l ≡ Less �
 all_above k l [] less h = tt
 all_above k l (m ∷ ms) less h = (code_total.trans k l m less h.0, all_above k l ms less h.1)
 
-all_above_with : (k : List ℕ) (line : Line) (xs : List Line) → code_cmp k line.counterparty ≡ Less → AllByRecursion (λ y. code_cmp k y ≡ Less) (counterparties xs)
+all_above_with : (k : List ℕ) (line : NominationLine) (xs : List NominationLine) → code_cmp k line.counterparty ≡ Less → AllByRecursion (λ y. code_cmp k y ≡ Less) (counterparties xs)
     → AllByRecursion (λ y. code_cmp k y ≡ Less) (counterparties (with_line line xs))
 all_above_with k line [] less h = (less, tt)
 all_above_with k line (x ∷ xs) less h = chosen (is_lt (code_cmp line.counterparty x.counterparty)) (with_line line xs) (all_above_with k line xs less h.1)
   where
-    chosen : (b : Bool) (with_it : List Line) → AllByRecursion (λ y. code_cmp k y ≡ Less) (counterparties with_it)
+    chosen : (b : Bool) (with_it : List NominationLine) → AllByRecursion (λ y. code_cmp k y ≡ Less) (counterparties with_it)
         → AllByRecursion (λ y. code_cmp k y ≡ Less) (counterparties (if b then line ∷ x ∷ xs else x ∷ with_it))
     chosen true with_it rest = (less, h)
     chosen false with_it rest = (h.0, rest)
 
-ordered_with_line : (line : Line) (xs : List Line) → AreOrdered xs → ((r : Line) → In r xs → is_eq (code_cmp line.counterparty r.counterparty) ≡ false) → AreOrdered (with_line line xs)
+ordered_with_line : (line : NominationLine) (xs : List NominationLine) → AreOrdered xs → ((r : NominationLine) → In r xs → is_eq (code_cmp line.counterparty r.counterparty) ≡ false) → AreOrdered (with_line line xs)
 unfolding IsStrictlySortedBy
 ordered_with_line line [] s apart = (tt, tt)
 ordered_with_line line (x ∷ xs) s apart = placed (is_lt (code_cmp line.counterparty x.counterparty)) refl (ordered_with_line line xs s.1 (λ r h. apart r (inr h)))
@@ -115,7 +115,7 @@ ordered_with_line line (x ∷ xs) s apart = placed (is_lt (code_cmp line.counter
         let above = less_from_not line.counterparty x.counterparty (code_cmp line.counterparty x.counterparty) refl e (apart x (inl refl)) in
         (all_above_with x.counterparty line xs above s.0, rest)
 
-none_in : (line r : Line) (lines : List Line) → list_any (is_twin line) lines ≡ false → In r lines → is_twin line r ≡ false
+none_in : (line r : NominationLine) (lines : List NominationLine) → list_any (is_twin line) lines ≡ false → In r lines → is_twin line r ≡ false
 none_in line r [] e h = absurd h
 none_in line r (x ∷ xs) e (inl is) = ap (is_twin line) (sym is) ∙ (or_parts _ _ e).0
 none_in line r (x ∷ xs) e (inr h) = none_in line r xs ((or_parts _ _ e).1) h
@@ -129,7 +129,7 @@ other_part a true e is = and_true a e
 other_part a false e is = cc
 
 -- lines of one direction that are no twins are for two counterparties
-apart_in : (direction : Direction) (a b : Line) → is_twin a b ≡ false → is_in direction a ≡ true → is_in direction b ≡ true → is_eq (code_cmp a.counterparty b.counterparty) ≡ false
+apart_in : (direction : Direction) (a b : NominationLine) → is_twin a b ≡ false → is_in direction a ≡ true → is_in direction b ≡ true → is_eq (code_cmp a.counterparty b.counterparty) ≡ false
 apart_in direction a b e here there =
     let a_is : place_of a.direction ≡ place_of direction = (Decides-eqb (place_of a.direction) (place_of direction)).0 here in
     let b_is : place_of b.direction ≡ place_of direction = (Decides-eqb (place_of b.direction) (place_of direction)).0 there in
@@ -137,7 +137,7 @@ apart_in direction a b e here there =
     ∙ other_part (bytes_eq a.counterparty b.counterparty) (nat_eq (place_of a.direction) (place_of b.direction)) e ((Decides-eqb (place_of a.direction) (place_of b.direction)).1 (a_is ∙ sym b_is))
 
 -- without twins, the lines of a direction have one order, and ascend in it
-pub are_ordered : (direction : Direction) (lines : List Line) → has_twins lines ≡ false → AreOrdered (by_counterparty (in_direction direction lines))
+pub are_ordered : (direction : Direction) (lines : List NominationLine) → has_twins lines ≡ false → AreOrdered (by_counterparty (in_direction direction lines))
 unfolding IsStrictlySortedBy
 are_ordered direction [] e = tt
 are_ordered direction (x ∷ xs) e = by_test (is_in direction x) refl (are_ordered direction xs ((or_parts _ _ e).1))

@@ -5,6 +5,7 @@ mod KeyLaws
 mod LastRecorded
 mod PassLaws
 mod PortfolioLaws
+pub mod PriorityLaws
 mod ProcessingLaws
 mod ProcessingLemmas
 pub mod ProcessingReadings

@@ -14,7 +14,7 @@ use Rattle.std.proofs.lemmas.List.Sums.{sum_by-append, sum_by-cons}
 use Rattle.std.proofs.lemmas.Map.Keys.{IsDistinct-from_sorted, IsDistinct-IsPermutation, sorted_from_all_adjacent}
 use Rattle.gi_pairs.specs.Key.{code_cmp}
 use Rattle.gi_pairs.specs.declared.direction.Direction.{Direction}
-use Rattle.gi_messages.specs.declared.line.Line.{Line}
+use Rattle.gi_messages.specs.declared.nomination_line.NominationLine.{NominationLine}
 use Rattle.gi_nominations.specs.Lines.{has_twins}
 use Rattle.gi_processing.specs.Reduction.{AreOrdered, by_counterparty, counterparties, in_direction, part, quantity_at, quotient, referred, total}
 use Rattle.gi_processing.proofs.Counterparties.{are_ordered, by_counterparty-permutation, code_total, less_from_not}
@@ -50,7 +50,7 @@ quotient_within a b n s = by_order (cases_lt a s)
         omega (arith, low, high, scaled_within a b n s (omega (arith, short)) (omega (arith, short)))
 
 -- a line's part is by how much it grows there
-part_carried : (available index : ℕ) (all front : List Line) (line : Line) (back : List Line) → all ≡ front ++ line ∷ back → AreOrdered all
+part_carried : (available index : ℕ) (all front : List NominationLine) (line : NominationLine) (back : List NominationLine) → all ≡ front ++ line ∷ back → AreOrdered all
     → part available index all line ≡ quotient available (total index front + quantity_at index line) (total index all) - quotient available (total index front) (total index all)
 part_carried available index all front line back is ordered = by_order (cases_lt available (total index all))
   where
@@ -67,10 +67,10 @@ part_carried available index all front line back is ordered = by_order (cases_lt
 
 -- ---- lines by their places
 
-referred_split : (xs : List (Bor Line)) (i : ℕ) (d : Bor Line) → i < length xs → referred xs ≡ referred (take i xs) ++ (get_or xs i d).now ∷ referred (drop (suc i) xs)
+referred_split : (xs : List (Bor NominationLine)) (i : ℕ) (d : Bor NominationLine) → i < length xs → referred xs ≡ referred (take i xs) ++ (get_or xs i d).now ∷ referred (drop (suc i) xs)
 referred_split [] i d below = absurd (omega arith)
 referred_split (x ∷ xs) zero d below = refl
-referred_split (x ∷ xs) (suc i) d below = ap (λ (l : List Line). x.now ∷ l) (referred_split xs i d (omega arith))
+referred_split (x ∷ xs) (suc i) d below = ap (λ (l : List NominationLine). x.now ∷ l) (referred_split xs i d (omega arith))
 
 -- what holds of all that is made of a list holds at each place
 pub all_mapped : {X Y : Type 0} (P : Y → Type 0) (f : X → Y) (xs : List X) (i : ℕ) (d : X) → i < length xs → All P (map f xs) → P (f (get_or xs i d))
@@ -78,12 +78,12 @@ all_mapped P f [] i d below all = absurd (omega arith)
 all_mapped P f (x ∷ xs) zero d below all = All-head P (f x) (map f xs) all
 all_mapped P f (x ∷ xs) (suc i) d below all = all_mapped P f xs i d (omega arith) (All-tail P (f x) (map f xs) all)
 
-pub total_more : (index : ℕ) (xs : List (Bor Line)) (i : ℕ) (d : Bor Line) → i < length xs
+pub total_more : (index : ℕ) (xs : List (Bor NominationLine)) (i : ℕ) (d : Bor NominationLine) → i < length xs
     → total index (referred (take (i + 1) xs)) ≡ total index (referred (take i xs)) + quantity_at index (get_or xs i d).now
 total_more index xs i d below =
-    ap (total index) (map_more (λ (line : Bor Line). line.now) xs i d below) ∙ total_push index (referred (take i xs)) (get_or xs i d).now
+    ap (total index) (map_more (λ (line : Bor NominationLine). line.now) xs i d below) ∙ total_push index (referred (take i xs)) (get_or xs i d).now
 
-pub total_within : (index : ℕ) (xs : List (Bor Line)) (i : ℕ) (d : Bor Line) → i < length xs
+pub total_within : (index : ℕ) (xs : List (Bor NominationLine)) (i : ℕ) (d : Bor NominationLine) → i < length xs
     → total index (referred (take i xs)) + quantity_at index (get_or xs i d).now ≤ total index (referred xs)
 total_within index xs i d below =
     let front = referred (take i xs) in
@@ -92,7 +92,7 @@ total_within index xs i d below =
     let all = ap (total index) (referred_split xs i d below) in
     omega (arith, all, sum_by-append (quantity_at index) front (line ∷ back), sum_by-cons (quantity_at index) line back)
 
-pub part_at : (available index : ℕ) (xs : List (Bor Line)) (i : ℕ) (d : Bor Line) → i < length xs → AreOrdered (referred xs)
+pub part_at : (available index : ℕ) (xs : List (Bor NominationLine)) (i : ℕ) (d : Bor NominationLine) → i < length xs → AreOrdered (referred xs)
     → part available index (referred xs) (get_or xs i d).now
     ≡ quotient available (total index (referred (take i xs)) + quantity_at index (get_or xs i d).now) (total index (referred xs)) - quotient available (total index (referred (take i xs))) (total index (referred xs))
 part_at available index xs i d below ordered =
@@ -120,35 +120,35 @@ distinct_at (x ∷ y ∷ ys) (suc k) d apart below =
     (λ i. is_eq (code_cmp (get_or (x ∷ y ∷ ys) (suc k) d) (get_or (x ∷ y ∷ ys) (next i) d))) ∙ rest
 
 -- lines that do not fall, of counterparties that differ, ascend
-ascend : (xs : List (Bor Line)) → IsSortedByKey (λ (line : Bor Line). line.now.counterparty) code_cmp xs → IsDistinct (eq_by_cmp code_cmp) (counterparties (referred xs)) → AreOrdered (referred xs)
+ascend : (xs : List (Bor NominationLine)) → IsSortedByKey (λ (line : Bor NominationLine). line.now.counterparty) code_cmp xs → IsDistinct (eq_by_cmp code_cmp) (counterparties (referred xs)) → AreOrdered (referred xs)
 unfolding IsStrictlySortedBy
 ascend [] sorted apart = tt
 ascend (x ∷ xs) sorted apart = sorted_from_all_adjacent code_total (counterparties (referred (x ∷ xs))) x.now.counterparty less
   where
     at : (k : ℕ) → k < length (x ∷ xs) → get_or (counterparties (referred (x ∷ xs))) k x.now.counterparty ≡ (get_or (x ∷ xs) k x).now.counterparty
     at k below =
-        get_or-map (λ (line : Line). line.counterparty) (referred (x ∷ xs)) k x.now x.now.counterparty (omega (arith, length-map (x ∷ xs) (λ (line : Bor Line). line.now), below))
-        ∙ ap (λ (line : Line). line.counterparty) (get_or-map (λ (line : Bor Line). line.now) (x ∷ xs) k x x.now below)
+        get_or-map (λ (line : NominationLine). line.counterparty) (referred (x ∷ xs)) k x.now x.now.counterparty (omega (arith, length-map (x ∷ xs) (λ (line : Bor NominationLine). line.now), below))
+        ∙ ap (λ (line : NominationLine). line.counterparty) (get_or-map (λ (line : Bor NominationLine). line.now) (x ∷ xs) k x x.now below)
 
     less : (k : ℕ) → k + 1 < length (counterparties (referred (x ∷ xs)))
         → code_cmp (get_or (counterparties (referred (x ∷ xs))) k x.now.counterparty) (get_or (counterparties (referred (x ∷ xs))) (k + 1) x.now.counterparty) ≡ Less
     less k below =
-        let here : k + 1 < length (x ∷ xs) = omega (arith, below, length-map (referred (x ∷ xs)) (λ (line : Line). line.counterparty), length-map (x ∷ xs) (λ (line : Bor Line). line.now)) in
+        let here : k + 1 < length (x ∷ xs) = omega (arith, below, length-map (referred (x ∷ xs)) (λ (line : NominationLine). line.counterparty), length-map (x ∷ xs) (λ (line : Bor NominationLine). line.now)) in
         let a = get_or (counterparties (referred (x ∷ xs))) k x.now.counterparty in
         let b = get_or (counterparties (referred (x ∷ xs))) (k + 1) x.now.counterparty in
         let no_fall : is_lt (code_cmp b a) ≡ false = (λ i. is_lt (code_cmp (at (k + 1) here i) (at k (omega (arith, here)) i))) ∙ sorted k x (omega arith) here in
         less_from_not b a (code_cmp b a) refl no_fall (eq_flips b a ∙ distinct_at (counterparties (referred (x ∷ xs))) k x.now.counterparty apart below)
 
-pub sorted_lines : (direction : Direction) (lines : List Line) (kept sorted : List (Bor Line)) → referred kept ≡ in_direction direction lines → IsPermutation kept sorted
+pub sorted_lines : (direction : Direction) (lines : List NominationLine) (kept sorted : List (Bor NominationLine)) → referred kept ≡ in_direction direction lines → IsPermutation kept sorted
     → IsPermutation (in_direction direction lines) (referred sorted)
 sorted_lines direction lines kept sorted is moved =
-    subst (λ (xs : List Line). IsPermutation xs (referred sorted)) is (IsPermutation-map (λ (line : Bor Line). line.now) kept sorted moved)
+    subst (λ (xs : List NominationLine). IsPermutation xs (referred sorted)) is (IsPermutation-map (λ (line : Bor NominationLine). line.now) kept sorted moved)
 
-pub sorted_ascend : (direction : Direction) (lines : List Line) (kept sorted : List (Bor Line)) → has_twins lines ≡ false → referred kept ≡ in_direction direction lines → IsPermutation kept sorted
-    → IsSortedByKey (λ (line : Bor Line). line.now.counterparty) code_cmp sorted → AreOrdered (referred sorted)
+pub sorted_ascend : (direction : Direction) (lines : List NominationLine) (kept sorted : List (Bor NominationLine)) → has_twins lines ≡ false → referred kept ≡ in_direction direction lines → IsPermutation kept sorted
+    → IsSortedByKey (λ (line : Bor NominationLine). line.now.counterparty) code_cmp sorted → AreOrdered (referred sorted)
 sorted_ascend direction lines kept sorted none is moved order =
     let own = in_direction direction lines in
     let moves = IsPermutation-trans (by_counterparty own) own (referred sorted) (IsPermutation-sym own (by_counterparty own) (by_counterparty-permutation own)) (sorted_lines direction lines kept sorted is moved) in
-    let codes = IsPermutation-map (λ (line : Line). line.counterparty) (by_counterparty own) (referred sorted) moves in
+    let codes = IsPermutation-map (λ (line : NominationLine). line.counterparty) (by_counterparty own) (referred sorted) moves in
     let apart = IsDistinct-from_sorted code_cmp (counterparties (by_counterparty own)) (are_ordered direction lines none) in
     ascend sorted order (IsDistinct-IsPermutation (eq_by_cmp code_cmp) eq_flips (counterparties (by_counterparty own)) (counterparties (referred sorted)) codes apart)

@@ -3,7 +3,8 @@ use Rattle.std.proofs.Common.{◌≡◌, ℕ, ◌-◌, ◌<◌, ◌≤◌, ◌&&
 use Rattle.std.specs.Prelude.{◌↔◌}
 use Rattle.std.specs.List.Sorted.{IsPermutation}
 use Rattle.jiff_core.specs.declared.civil.date.Date.{Date}
-use Rattle.std.proofs.lemmas.List.Sorted.{length_permutation}
+use Rattle.std.proofs.lemmas.List.Sorted.{length_permutation, sum_by-IsPermutation}
+use Rattle.std.proofs.lemmas.List.Sums.{sum-map}
 use Rattle.std.proofs.lemmas.List.FromFn.{get_or-map-range_with_len}
 use Rattle.gi_pairs.specs.Row.{key_of}
 use Rattle.gi_pairs.specs.Direction.{place_of}
@@ -15,7 +16,7 @@ use Rattle.gi_pairs.specs.declared.row.Row.{Row}
 use Rattle.gi_pairs.proofs.Building.{In, contains_from_in, in_from_contains, in_in_order, in_order_in}
 use Rattle.gi_pairs.proofs.Members.{find_member, from_filter, from_map, in_filter, in_map}
 use Rattle.gi_pairs.proofs.Reading.{reading-found}
-use Rattle.gi_messages.specs.declared.line.Line.{Line}
+use Rattle.gi_messages.specs.declared.nomination_line.NominationLine.{NominationLine}
 use Rattle.gi_nominations.specs.Book.{in_force}
 use Rattle.gi_nominations.specs.Lines.{has_twins}
 use Rattle.std.proofs.lemmas.Bool.Decides.{Decides-eqb, nat_tests}
@@ -25,13 +26,15 @@ use Rattle.gi_pairs.specs.Table.{TableContents, IsTable, covered, in_order, is_a
 use Rattle.gi_messages.specs.declared.message.Nomint.{Nomint}
 use Rattle.gi_processing.specs.Capacity.{Capacity}
 use Rattle.gi_processing.specs.CapacityLimits.{most_portfolios}
-use Rattle.gi_processing.specs.Processing.{AreSound, CanProcess, IsInForce, IsLineKey, IsProcessed, IsSpan, available_to, line_key, lines_in_force, lines_of, ordered_lines, portfolio_rows, processed_in, processed_row, processed_rows, readings, span_of, span_table}
+use Rattle.gi_processing.specs.Processing.{AreSound, CanProcess, IsInForce, IsLineKey, IsProcessed, IsSpan, available_to, left_to, line_key, lines_in_force, lines_of, ordered_lines, ordered_sharing, portfolio_rows, processed_in, processed_row, processed_rows, readings, span_of, span_table}
 use Rattle.gi_processing.specs.Recording.{portfolios_of}
-use Rattle.gi_processing.specs.Reduction.{IsReduction, in_direction, is_in, part, quantity_at, total}
+use Rattle.gi_processing.specs.Reduction.{IsReduction, by_counterparty, in_direction, is_in, part, part_by, quantity_at, sharing, total}
+use Rattle.gi_processing.specs.declared.rule.Rule.{Rule}
 use Rattle.gi_processing.specs.declared.span.Span.{Span}
-use Rattle.gi_processing.proofs.Counterparties.{in_by_counterparty}
+use Rattle.gi_processing.proofs.Counterparties.{by_counterparty-permutation, in_by_counterparty}
 use Rattle.gi_processing.proofs.PortfolioLaws.{known_in, portfolios_of-distinct}
-use Rattle.gi_processing.proofs.ReductionLaws.{is_reduction, no_part_exceeds, parts_sum}
+use Rattle.gi_processing.proofs.PriorityLaws.{all_given, in_sharing, shares_itself, sharing_is, sharing_ordered}
+use Rattle.gi_processing.proofs.ReductionLaws.{is_reduction, no_part_exceeds}
 use Rattle.gi_processing.proofs.ProcessingRows.{in_flat_map, key_in_rows, key_of-row, lines_sound, rows-few}
 
 pub kept_from : (capacity : Capacity) (documents : List Nomint) (span : Span) (portfolios : List (List ℕ)) → IsPermutation (portfolios_of capacity.contracts) portfolios
@@ -60,7 +63,7 @@ module _ (capacity : Capacity) (documents : List Nomint) (span : Span) (table : 
   rows_are = ap (λ (t : TableContents). t.rows) made.is
 
   -- each key is for a line in force
-  line_of : (key : Key) → In key (keys_of table.rows) → (portfolio : List ℕ) × (In portfolio (portfolios_of capacity.contracts)) × (line : Line)
+  line_of : (key : Key) → In key (keys_of table.rows) → (portfolio : List ℕ) × (In portfolio (portfolios_of capacity.contracts)) × (line : NominationLine)
       × (In line (lines_in_force portfolio span.day documents)) × (line_key span.side portfolio line ≡ key)
   line_of key h =
       let row = from_map key_of key table.rows h in
@@ -69,16 +72,16 @@ module _ (capacity : Capacity) (documents : List Nomint) (span : Span) (table : 
       (subst (λ (k : Key). In k (keys_of (processed_rows capacity span documents))) row.2 (in_map key_of row.0 (processed_rows capacity span documents) there))
 
   -- a line in force is a known portfolio's
-  held_known : (portfolio : List ℕ) (line : Line) (held : Option Nomint) → in_force portfolio span.day documents ≡ held → In line (lines_of held) → In portfolio (portfolios_of capacity.contracts)
+  held_known : (portfolio : List ℕ) (line : NominationLine) (held : Option Nomint) → in_force portfolio span.day documents ≡ held → In line (lines_of held) → In portfolio (portfolios_of capacity.contracts)
   held_known portfolio line None e h = absurd h
   held_known portfolio line (Some document) e h = known_in capacity.contracts span.day portfolio (made.kept.sound portfolio document e).known
 
-  portfolio_known : (portfolio : List ℕ) (line : Line) → In line (lines_in_force portfolio span.day documents) → In portfolio (portfolios_of capacity.contracts)
+  portfolio_known : (portfolio : List ℕ) (line : NominationLine) → In line (lines_in_force portfolio span.day documents) → In portfolio (portfolios_of capacity.contracts)
   unfolding lines_in_force
   portfolio_known portfolio line h = held_known portfolio line (in_force portfolio span.day documents) refl h
 
   -- and has its row
-  row_of_line : (portfolio : List ℕ) (line : Line) → In line (lines_in_force portfolio span.day documents)
+  row_of_line : (portfolio : List ℕ) (line : NominationLine) → In line (lines_in_force portfolio span.day documents)
       → In (processed_row capacity span portfolio (lines_in_force portfolio span.day documents) line) table.rows
   unfolding portfolio_rows
   row_of_line portfolio line h =
@@ -88,21 +91,21 @@ module _ (capacity : Capacity) (documents : List Nomint) (span : Span) (table : 
       let there = in_flat_map (portfolio_rows capacity span documents) portfolio row (portfolios_of capacity.contracts) (portfolio_known portfolio line h) own in
       subst (λ (rows : List Row). In row rows) (sym rows_are) (in_order_in row (processed_rows capacity span documents) there)
 
-  pub key_of_line : (portfolio : List ℕ) (line : Line) → In line (lines_in_force portfolio span.day documents) → In (line_key span.side portfolio line) (keys_of table.rows)
+  pub key_of_line : (portfolio : List ℕ) (line : NominationLine) → In line (lines_in_force portfolio span.day documents) → In (line_key span.side portfolio line) (keys_of table.rows)
   key_of_line portfolio line h =
       let lines = lines_in_force portfolio span.day documents in
       let row = processed_row capacity span portfolio lines line in
       subst (λ (k : Key). In k (keys_of table.rows)) (key_of-row capacity span portfolio lines line) (in_map key_of row table.rows (row_of_line portfolio line h))
 
   -- the row has the hour's quantity
-  hour_of_row : (portfolio : List ℕ) (lines : List Line) (line : Line) (hour : ℕ) → span.first ≤ hour → hour ≤ span.last
-      → slice_index (processed_row capacity span portfolio lines line).hours (hour - span.first) ≡ processed_in capacity portfolio span.day lines line hour
+  hour_of_row : (portfolio : List ℕ) (lines : List NominationLine) (line : NominationLine) (hour : ℕ) → span.first ≤ hour → hour ≤ span.last
+      → slice_index (processed_row capacity span portfolio lines line).hours (hour - span.first) ≡ processed_in span.rule capacity portfolio span.day lines line hour
   unfolding processed_row
   hour_of_row portfolio lines line hour low high =
-      get_or-map-range_with_len (processed_in capacity portfolio span.day lines line) span.first (covered span.first span.last) (hour - span.first) hour 0 (omega arith) (omega arith)
+      get_or-map-range_with_len (processed_in span.rule capacity portfolio span.day lines line) span.first (covered span.first span.last) (hour - span.first) hour 0 (omega arith) (omega arith)
 
-  pub reads : (portfolio : List ℕ) (line : Line) (hour : ℕ) → In line (lines_in_force portfolio span.day documents) → table.first ≤ hour → hour ≤ table.last
-      → reading table (pair_of span.side portfolio line.counterparty) line.direction hour ≡ processed_in capacity portfolio span.day (lines_in_force portfolio span.day documents) line hour
+  pub reads : (portfolio : List ℕ) (line : NominationLine) (hour : ℕ) → In line (lines_in_force portfolio span.day documents) → table.first ≤ hour → hour ≤ table.last
+      → reading table (pair_of span.side portfolio line.counterparty) line.direction hour ≡ processed_in span.rule capacity portfolio span.day (lines_in_force portfolio span.day documents) line hour
   reads portfolio line hour h low high =
       let lines = lines_in_force portfolio span.day documents in
       let row = processed_row capacity span portfolio lines line in
@@ -124,7 +127,7 @@ map_alike f g (x ∷ xs) same =
     let rest = map_alike f g xs (λ y h. same y (inr h)) in
     λ i. here i ∷ rest i
 
-pub direction_is : (direction : Direction) (line : Line) → is_in direction line ≡ true → line.direction ≡ direction
+pub direction_is : (direction : Direction) (line : NominationLine) → is_in direction line ≡ true → line.direction ≡ direction
 direction_is direction line is = same_direction line.direction direction ((Decides-eqb (place_of line.direction) (place_of direction)).0 is)
   where
     same_direction : (a b : Direction) → place_of a ≡ place_of b → a ≡ b
@@ -134,49 +137,68 @@ direction_is direction line is = same_direction line.direction direction ((Decid
     same_direction MI MI e = refl
 
 module _ (capacity : Capacity) (documents : List Nomint) (span : Span) (table : TableContents) (made : IsMade capacity documents span table) where
-  -- what the table reads of a portfolio's lines in a direction are their parts
-  readings_are : (portfolio : List ℕ) (direction : Direction) (hour : ℕ) → table.first ≤ hour → hour ≤ table.last
-      → readings table span.side portfolio hour (ordered_lines documents span.day portfolio direction)
-      ≡ map (part (available_to capacity portfolio span.day direction hour) (hour - 1) (in_direction direction (lines_in_force portfolio span.day documents))) (ordered_lines documents span.day portfolio direction)
+  -- what the table reads of a line of a direction is its part by the rule
+  reads_part : (portfolio : List ℕ) (direction : Direction) (line : NominationLine) (hour : ℕ) → In line (in_direction direction (lines_in_force portfolio span.day documents)) → table.first ≤ hour → hour ≤ table.last
+      → reading table (pair_of span.side portfolio line.counterparty) line.direction hour
+      ≡ part_by span.rule (available_to capacity portfolio span.day direction hour) (hour - 1) (in_direction direction (lines_in_force portfolio span.day documents)) line
   unfolding processed_in
-  readings_are portfolio direction hour low high =
+  reads_part portfolio direction line hour h low high =
       let lines = lines_in_force portfolio span.day documents in
-      map_alike (λ (line : Line). reading table (pair_of span.side portfolio line.counterparty) line.direction hour)
-      (part (available_to capacity portfolio span.day direction hour) (hour - 1) (in_direction direction lines)) (ordered_lines documents span.day portfolio direction)
-      (λ line h.
-      let kept = from_filter (is_in direction) line lines (in_by_counterparty line (in_direction direction lines) h) in
-      let way = direction_is direction line kept.1 in
+      let kept = from_filter (is_in direction) line lines h in
       reads capacity documents span table made portfolio line hour kept.0 low high
-      ∙ ap (λ (d : Direction). part (available_to capacity portfolio span.day d hour) (hour - 1) (in_direction d lines) line) way)
+      ∙ ap (λ (d : Direction). part_by span.rule (available_to capacity portfolio span.day d hour) (hour - 1) (in_direction d lines) line) (direction_is direction line kept.1)
 
   no_twins_in : (portfolio : List ℕ) → has_twins (lines_in_force portfolio span.day documents) ≡ false
   no_twins_in portfolio = (lines_sound capacity documents span.day portfolio made.kept.sound).distinct
 
-  pub table_reduced : (portfolio : List ℕ) (direction : Direction) (hour : ℕ) → table.first ≤ hour → hour ≤ table.last
-      → IsReduction (available_to capacity portfolio span.day direction hour) (map (quantity_at (hour - 1)) (ordered_lines documents span.day portfolio direction))
-      (readings table span.side portfolio hour (ordered_lines documents span.day portfolio direction))
-  table_reduced portfolio direction hour low high =
-      let available = available_to capacity portfolio span.day direction hour in
+  -- and of those that share with a priority their parts of what is left to them
+  readings_are : (portfolio : List ℕ) (direction : Direction) (priority hour : ℕ) → table.first ≤ hour → hour ≤ table.last
+      → readings table span.side portfolio hour (ordered_sharing span.rule priority documents span.day portfolio direction)
+      ≡ map (part (left_to span.rule priority capacity documents span.day portfolio direction hour) (hour - 1) (sharing span.rule priority (in_direction direction (lines_in_force portfolio span.day documents))))
+      (ordered_sharing span.rule priority documents span.day portfolio direction)
+  readings_are portfolio direction priority hour low high =
+      let own = in_direction direction (lines_in_force portfolio span.day documents) in
+      let group = sharing span.rule priority own in
+      map_alike (λ (line : NominationLine). reading table (pair_of span.side portfolio line.counterparty) line.direction hour)
+      (part (left_to span.rule priority capacity documents span.day portfolio direction hour) (hour - 1) group) (by_counterparty group)
+      (λ line h.
+      let there = in_by_counterparty line group h in
+      reads_part portfolio direction line hour (in_sharing span.rule priority own line there) low high
+      ∙ sharing_is span.rule priority (available_to capacity portfolio span.day direction hour) (hour - 1) own line there)
+
+  pub table_reduced : (portfolio : List ℕ) (direction : Direction) (priority hour : ℕ) → table.first ≤ hour → hour ≤ table.last
+      → IsReduction (left_to span.rule priority capacity documents span.day portfolio direction hour)
+      (map (quantity_at (hour - 1)) (ordered_sharing span.rule priority documents span.day portfolio direction))
+      (readings table span.side portfolio hour (ordered_sharing span.rule priority documents span.day portfolio direction))
+  table_reduced portfolio direction priority hour low high =
+      let left = left_to span.rule priority capacity documents span.day portfolio direction hour in
       let lines = lines_in_force portfolio span.day documents in
-      subst (IsReduction available (map (quantity_at (hour - 1)) (ordered_lines documents span.day portfolio direction))) (sym (readings_are portfolio direction hour low high))
-      (is_reduction available (hour - 1) direction lines (no_twins_in portfolio))
+      subst (IsReduction left (map (quantity_at (hour - 1)) (ordered_sharing span.rule priority documents span.day portfolio direction))) (sym (readings_are portfolio direction priority hour low high))
+      (is_reduction left (hour - 1) (sharing span.rule priority (in_direction direction lines)) (sharing_ordered span.rule priority direction lines (no_twins_in portfolio)))
 
   pub table_all : (portfolio : List ℕ) (direction : Direction) (hour : ℕ) → table.first ≤ hour → hour ≤ table.last
       → available_to capacity portfolio span.day direction hour < total (hour - 1) (in_direction direction (lines_in_force portfolio span.day documents))
       → sum (readings table span.side portfolio hour (ordered_lines documents span.day portfolio direction)) ≡ available_to capacity portfolio span.day direction hour
   table_all portfolio direction hour low high less =
-      ap sum (readings_are portfolio direction hour low high)
-      ∙ parts_sum (available_to capacity portfolio span.day direction hour) (hour - 1) direction (lines_in_force portfolio span.day documents) (no_twins_in portfolio) less
+      let available = available_to capacity portfolio span.day direction hour in
+      let lines = lines_in_force portfolio span.day documents in
+      let own = in_direction direction lines in
+      let by_rule = part_by span.rule available (hour - 1) own in
+      ap sum (map_alike (λ (line : NominationLine). reading table (pair_of span.side portfolio line.counterparty) line.direction hour) by_rule (by_counterparty own)
+      (λ line h. reads_part portfolio direction line hour (in_by_counterparty line own h) low high))
+      ∙ sum-map by_rule (by_counterparty own) ∙ sum_by-IsPermutation by_rule own (by_counterparty own) (by_counterparty-permutation own)
+      ∙ all_given span.rule available (hour - 1) direction lines (no_twins_in portfolio) less
 
-  pub table_within : (portfolio : List ℕ) (line : Line) → IsInForce documents span.day portfolio line → (hour : ℕ) → table.first ≤ hour → hour ≤ table.last
+  pub table_within : (portfolio : List ℕ) (line : NominationLine) → IsInForce documents span.day portfolio line → (hour : ℕ) → table.first ≤ hour → hour ≤ table.last
       → reading table (pair_of span.side portfolio line.counterparty) line.direction hour ≤ quantity_at (hour - 1) line
-  unfolding processed_in
   table_within portfolio line stands hour low high =
       let lines = lines_in_force portfolio span.day documents in
-      let h = in_from_contains line lines stands in
-      let kept = contains_from_in line (in_direction line.direction lines) (in_filter (is_in line.direction) line lines h ((Decides-eqb (place_of line.direction) (place_of line.direction)).1 refl)) in
-      let within = no_part_exceeds (available_to capacity portfolio span.day line.direction hour) (hour - 1) line.direction lines line (no_twins_in portfolio) kept in
-      subst (λ n. n ≤ quantity_at (hour - 1) line) (sym (reads capacity documents span table made portfolio line hour h low high)) within
+      let own = in_direction line.direction lines in
+      let h = in_filter (is_in line.direction) line lines (in_from_contains line lines stands) ((Decides-eqb (place_of line.direction) (place_of line.direction)).1 refl) in
+      let group = sharing span.rule line.priority own in
+      let within = no_part_exceeds (left_to span.rule line.priority capacity documents span.day portfolio line.direction hour) (hour - 1) group line
+      (sharing_ordered span.rule line.priority line.direction lines (no_twins_in portfolio)) (contains_from_in line group (shares_itself span.rule own line h)) in
+      subst (λ n. n ≤ quantity_at (hour - 1) line) (sym (reads_part portfolio line.direction line hour h low high)) within
 
   pub table_keys : (key : Key) → Contains (keys_of table.rows) key ↔ IsLineKey documents span.side span.day key
   table_keys key = (
@@ -188,10 +210,10 @@ module _ (capacity : Capacity) (documents : List Nomint) (span : Span) (table : 
         contains_from_in key (keys_of table.rows) (subst (λ (l : Key). In l (keys_of table.rows)) (sym k.is) (key_of_line capacity documents span table made k.portfolio k.line h)),
   )
 
-pub is_processed : (capacity : Capacity) (documents : List Nomint) (side : Side) (day : Date) (cycle : ℕ) (table : TableContents)
-    → IsMade capacity documents (span_of side day cycle) table → IsProcessed capacity documents side day cycle table
-is_processed capacity documents side day cycle table made =
-    let span = span_of side day cycle in
+pub is_processed : (capacity : Capacity) (documents : List Nomint) (side : Side) (day : Date) (cycle : ℕ) (rule : Rule) (table : TableContents)
+    → IsMade capacity documents (span_of side day cycle rule) table → IsProcessed capacity documents side day cycle rule table
+is_processed capacity documents side day cycle rule table made =
+    let span = span_of side day cycle rule in
     record {
       is_table = made.is_table;
       first = ap (λ (t : TableContents). t.first) made.is;

@@ -7,14 +7,15 @@ use Rattle.jiff_core.specs.declared.civil.date.Date.{Date}
 use Rattle.gi_pairs.specs.Pair.{pair_of}
 use Rattle.gi_pairs.specs.Table.{covered, in_order}
 use Rattle.gi_pairs.specs.declared.side.Side.{Side}
-use Rattle.gi_messages.specs.declared.line.Line.{Line}
+use Rattle.gi_messages.specs.declared.nomination_line.NominationLine.{NominationLine}
 use Rattle.gi_messages.specs.declared.message.Nomint.{Nomint}
 use Rattle.gi_nominations.specs.Book.{in_force}
 use Rattle.gi_processing.specs.Capacity.{Capacity}
 use Rattle.gi_processing.specs.Processing.{AreSound, lines_in_force, lines_of, portfolio_rows, processed, processed_in, processed_row, processed_rows, span_of}
 use Rattle.gi_processing.specs.Readings.{ReadsAs}
 use Rattle.gi_processing.specs.Recording.{portfolios_of}
-use Rattle.gi_processing.specs.Reduction.{in_direction, part}
+use Rattle.gi_processing.specs.Reduction.{in_direction, part_by}
+use Rattle.gi_processing.specs.declared.rule.Rule.{Rule}
 use Rattle.gi_processing.specs.declared.span.Span.{Span}
 use Rattle.gi_processing.proofs.PortfolioLaws.{portfolios_of-distinct}
 use Rattle.gi_processing.proofs.RowOrder.{order-moved, rows-apart}
@@ -33,14 +34,14 @@ reads-sound kept recorded documents taken day reads same sound portfolio documen
       lines = here.lines;
     }
 
-row_same : (kept recorded : Capacity) (span : Span) (portfolio : List ℕ) (lines : List Line) (line : Line) → ReadsAs kept recorded
+row_same : (kept recorded : Capacity) (span : Span) (portfolio : List ℕ) (lines : List NominationLine) (line : NominationLine) → ReadsAs kept recorded
     → processed_row kept span portfolio lines line ≡ processed_row recorded span portfolio lines line
 unfolding processed_row processed_in
 row_same kept recorded span portfolio lines line reads =
     λ i. record {
       pair = pair_of span.side portfolio line.counterparty;
       direction = line.direction;
-      hours = map (λ hour. part (reads-available kept recorded reads portfolio span.day line.direction hour i) (hour - 1) (in_direction line.direction lines) line) (range_with_len span.first (covered span.first span.last));
+      hours = map (λ hour. part_by span.rule (reads-available kept recorded reads portfolio span.day line.direction hour i) (hour - 1) (in_direction line.direction lines) line) (range_with_len span.first (covered span.first span.last));
     }
 
 -- the rows of a portfolio are the same
@@ -51,11 +52,11 @@ rows_same kept recorded documents taken span portfolio reads same =
     λ i. map (λ line. row_same kept recorded span portfolio (lines_of (same portfolio i)) line reads i) (lines_of (same portfolio i))
 
 -- So the processed table is the same: the rows are, portfolio by portfolio, and each portfolio has keys of its own.
-pub reads-processed : (kept recorded : Capacity) (documents taken : List Nomint) (side : Side) (day : Date) (cycle : ℕ) → ReadsAs kept recorded → SameInForce documents taken day
-    → processed kept documents side day cycle ≡ processed recorded taken side day cycle
+pub reads-processed : (kept recorded : Capacity) (documents taken : List Nomint) (side : Side) (day : Date) (cycle : ℕ) (rule : Rule) → ReadsAs kept recorded → SameInForce documents taken day
+    → processed kept documents side day cycle rule ≡ processed recorded taken side day cycle rule
 unfolding processed
-reads-processed kept recorded documents taken side day cycle reads same =
-    let span = span_of side day cycle in
+reads-processed kept recorded documents taken side day cycle rule reads same =
+    let span = span_of side day cycle rule in
     let here = portfolios_of kept.contracts in
     let there = portfolios_of recorded.contracts in
     let order = order-moved (portfolio_rows kept span documents) (rows-apart kept span documents) here there (portfolios_of-distinct kept.contracts) (portfolios_of-distinct recorded.contracts)

@@ -22,7 +22,7 @@ use Rattle.gi_pairs.proofs.Building.{In}
 use Rattle.gi_pairs.proofs.KeyOrder.{key_same}
 use Rattle.gi_pairs.proofs.Members.{from_append, from_map, in_append_left, in_append_right, repeats_append, repeats_cons}
 use Rattle.gi_pairs.proofs.Refusals.{are_whole}
-use Rattle.gi_messages.specs.declared.line.Line.{Line}
+use Rattle.gi_messages.specs.declared.nomination_line.NominationLine.{NominationLine}
 use Rattle.gi_messages.specs.declared.message.Nomint.{Nomint}
 use Rattle.gi_nominations.specs.Book.{in_force}
 use Rattle.gi_nominations.specs.Lines.{has_twin, has_twins, is_twin, most_lines}
@@ -51,7 +51,7 @@ lines_sound capacity documents day portfolio sound = lines_by capacity documents
 
 -- ---- the rows of a portfolio
 
-pub key_of-row : (capacity : Capacity) (span : Span) (portfolio : List ℕ) (lines : List Line) (line : Line) → key_of (processed_row capacity span portfolio lines line) ≡ line_key span.side portfolio line
+pub key_of-row : (capacity : Capacity) (span : Span) (portfolio : List ℕ) (lines : List NominationLine) (line : NominationLine) → key_of (processed_row capacity span portfolio lines line) ≡ line_key span.side portfolio line
 unfolding processed_row
 key_of-row capacity span portfolio lines line = refl
 
@@ -64,18 +64,18 @@ abbrev other_of : Side → Key → List ℕ
 other_of I key = key.pair.matching
 other_of M key = key.pair.initiating
 
-own_is : (side : Side) (portfolio : List ℕ) (line : Line) → own_of side (line_key side portfolio line) ≡ portfolio
+own_is : (side : Side) (portfolio : List ℕ) (line : NominationLine) → own_of side (line_key side portfolio line) ≡ portfolio
 own_is I portfolio line = refl
 own_is M portfolio line = refl
 
-other_is : (side : Side) (portfolio : List ℕ) (line : Line) → other_of side (line_key side portfolio line) ≡ line.counterparty
+other_is : (side : Side) (portfolio : List ℕ) (line : NominationLine) → other_of side (line_key side portfolio line) ≡ line.counterparty
 other_is I portfolio line = refl
 other_is M portfolio line = refl
 
-abbrev pub keys_for : Side → List ℕ → List Line → List Key
+abbrev pub keys_for : Side → List ℕ → List NominationLine → List Key
 keys_for side portfolio = map (line_key side portfolio)
 
-keys_of-rows : (capacity : Capacity) (span : Span) (portfolio : List ℕ) (all lines : List Line) → keys_of (map (processed_row capacity span portfolio all) lines) ≡ keys_for span.side portfolio lines
+keys_of-rows : (capacity : Capacity) (span : Span) (portfolio : List ℕ) (all lines : List NominationLine) → keys_of (map (processed_row capacity span portfolio all) lines) ≡ keys_for span.side portfolio lines
 keys_of-rows capacity span portfolio all [] = refl
 keys_of-rows capacity span portfolio all (x ∷ xs) = λ i. key_of-row capacity span portfolio all x i ∷ keys_of-rows capacity span portfolio all xs i
 
@@ -84,7 +84,7 @@ not_both true e f = absurd cc
 not_both false e f = absurd cc
 
 -- lines that are no twins have rows of their own
-no_twins : (side : Side) (portfolio : List ℕ) (a b : Line) (same : Bool) → is_eq (key_cmp (line_key side portfolio a) (line_key side portfolio b)) ≡ same → is_twin a b ≡ false → same ≡ false
+no_twins : (side : Side) (portfolio : List ℕ) (a b : NominationLine) (same : Bool) → is_eq (key_cmp (line_key side portfolio a) (line_key side portfolio b)) ≡ same → is_twin a b ≡ false → same ≡ false
 no_twins side portfolio a b false e apart = refl
 no_twins side portfolio a b true e apart =
     let keys = key_same (line_key side portfolio a) (line_key side portfolio b) e in
@@ -94,12 +94,12 @@ no_twins side portfolio a b true e apart =
     ((Decides-eqb (place_of a.direction) (place_of b.direction)).1 direction) in
     absurd (not_both (is_twin a b) twins apart)
 
-no_twin_in : (line other : Line) (lines : List Line) → has_twin line lines ≡ false → In other lines → is_twin line other ≡ false
+no_twin_in : (line other : NominationLine) (lines : List NominationLine) → has_twin line lines ≡ false → In other lines → is_twin line other ≡ false
 no_twin_in line other [] e h = absurd h
 no_twin_in line other (x ∷ xs) e (inl is) = ap (is_twin line) (sym is) ∙ (or_parts _ _ e).0
 no_twin_in line other (x ∷ xs) e (inr h) = no_twin_in line other xs ((or_parts _ _ e).1) h
 
-keys_for-distinct : (side : Side) (portfolio : List ℕ) (lines : List Line) → has_twins lines ≡ false → repeats (keys_for side portfolio lines) ≡ false
+keys_for-distinct : (side : Side) (portfolio : List ℕ) (lines : List NominationLine) → has_twins lines ≡ false → repeats (keys_for side portfolio lines) ≡ false
 keys_for-distinct side portfolio [] e = refl
 keys_for-distinct side portfolio (x ∷ xs) e =
     repeats_cons (line_key side portfolio x) (keys_for side portfolio xs)
@@ -126,7 +126,7 @@ keys_of-more capacity span documents portfolio portfolios =
 
 -- whose line a key is for
 pub key_in_rows : (capacity : Capacity) (span : Span) (documents : List Nomint) (portfolios : List (List ℕ)) (key : Key) → In key (keys_of (rows_for capacity span documents portfolios))
-    → (portfolio : List ℕ) × (In portfolio portfolios) × (line : Line) × (In line (lines_in_force portfolio span.day documents)) × (line_key span.side portfolio line ≡ key)
+    → (portfolio : List ℕ) × (In portfolio portfolios) × (line : NominationLine) × (In line (lines_in_force portfolio span.day documents)) × (line_key span.side portfolio line ≡ key)
 key_in_rows capacity span documents [] key h = absurd h
 key_in_rows capacity span documents (p ∷ ps) key h =
     let lines = lines_in_force p span.day documents in
@@ -141,7 +141,7 @@ other_portfolio p q (x ∷ xs) h (inl is) = ap (bytes_eq p) (sym is) ∙ h.0
 other_portfolio p q (x ∷ xs) h (inr k) = other_portfolio p q xs h.1 k
 
 -- keys of two portfolios differ
-pub apart : (side : Side) (p q : List ℕ) (a b : Line) (same : Bool) → is_eq (key_cmp (line_key side p a) (line_key side q b)) ≡ same → bytes_eq p q ≡ false → same ≡ false
+pub apart : (side : Side) (p q : List ℕ) (a b : NominationLine) (same : Bool) → is_eq (key_cmp (line_key side p a) (line_key side q b)) ≡ same → bytes_eq p q ≡ false → same ≡ false
 apart side p q a b false e other = refl
 apart side p q a b true e other =
     let keys = key_same (line_key side p a) (line_key side q b) e in
@@ -166,11 +166,11 @@ rows-distinct capacity span documents (p ∷ ps) sound distinct =
 
 -- ---- their hours, and how many they are
 
-hours-row : (capacity : Capacity) (span : Span) (portfolio : List ℕ) (lines : List Line) (line : Line) → length (processed_row capacity span portfolio lines line).hours ≡ covered span.first span.last
+hours-row : (capacity : Capacity) (span : Span) (portfolio : List ℕ) (lines : List NominationLine) (line : NominationLine) → length (processed_row capacity span portfolio lines line).hours ≡ covered span.first span.last
 unfolding processed_row
-hours-row capacity span portfolio lines line = length-map-range_with_len (processed_in capacity portfolio span.day lines line) span.first (covered span.first span.last)
+hours-row capacity span portfolio lines line = length-map-range_with_len (processed_in span.rule capacity portfolio span.day lines line) span.first (covered span.first span.last)
 
-lines-whole : (capacity : Capacity) (span : Span) (portfolio : List ℕ) (all lines : List Line) (rest : List Row) → are_whole span.first span.last rest ≡ true
+lines-whole : (capacity : Capacity) (span : Span) (portfolio : List ℕ) (all lines : List NominationLine) (rest : List Row) → are_whole span.first span.last rest ≡ true
     → are_whole span.first span.last (map (processed_row capacity span portfolio all) lines ++ rest) ≡ true
 lines-whole capacity span portfolio all [] rest e = e
 lines-whole capacity span portfolio all (x ∷ xs) rest e =

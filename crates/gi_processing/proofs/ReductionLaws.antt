@@ -13,32 +13,30 @@ use Rattle.std.proofs.lemmas.List.{length-map, append_assoc}
 use Rattle.std.proofs.lemmas.List.Sorted.{sum_by-IsPermutation, Contains-permutation}
 use Rattle.std.proofs.lemmas.List.Sums.{sum_by-cons, sum_by-append, sum-map}
 use Rattle.gi_pairs.specs.Key.{code_cmp}
-use Rattle.gi_pairs.specs.declared.direction.Direction.{Direction}
 use Rattle.gi_pairs.proofs.Building.{In, in_from_contains}
-use Rattle.gi_messages.specs.declared.line.Line.{Line}
-use Rattle.gi_nominations.specs.Lines.{has_twins}
-use Rattle.gi_processing.specs.Reduction.{AreOrdered, by_counterparty, counterparties, in_direction, is_before, is_up_to, part, quantity_at, sum_before, sum_up_to, total, IsReduction}
-use Rattle.gi_processing.proofs.Counterparties.{are_ordered, by_counterparty-permutation, code_above, code_refl}
+use Rattle.gi_messages.specs.declared.nomination_line.NominationLine.{NominationLine}
+use Rattle.gi_processing.specs.Reduction.{AreOrdered, by_counterparty, counterparties, is_before, is_up_to, part, quantity_at, sum_before, sum_up_to, total, IsReduction}
+use Rattle.gi_processing.proofs.Counterparties.{by_counterparty-permutation, code_above, code_refl}
 
 -- ---- which lines come before one, where lines ascend
 
-none_below : (line : Line) (xs : List Line) → AllByRecursion (λ y. code_cmp line.counterparty y ≡ Less) (counterparties xs) → filter (is_before line.counterparty) xs ≡ []
+none_below : (line : NominationLine) (xs : List NominationLine) → AllByRecursion (λ y. code_cmp line.counterparty y ≡ Less) (counterparties xs) → filter (is_before line.counterparty) xs ≡ []
 none_below line [] h = refl
 none_below line (x ∷ xs) h =
     let here : is_before line.counterparty x ≡ false = ap is_lt (code_above line.counterparty x.counterparty h.0) in
     rw here (none_below line xs h.1)
 
-none_up_to : (line : Line) (xs : List Line) → AllByRecursion (λ y. code_cmp line.counterparty y ≡ Less) (counterparties xs) → filter (is_up_to line.counterparty) xs ≡ []
+none_up_to : (line : NominationLine) (xs : List NominationLine) → AllByRecursion (λ y. code_cmp line.counterparty y ≡ Less) (counterparties xs) → filter (is_up_to line.counterparty) xs ≡ []
 none_up_to line [] h = refl
 none_up_to line (x ∷ xs) h =
     let here : is_up_to line.counterparty x ≡ false = ap is_le (code_above line.counterparty x.counterparty h.0) in
     rw here (none_up_to line xs h.1)
 
-below_middle : (k : List ℕ) (front : List Line) (line : Line) (back : List Line) → AllByRecursion (λ y. code_cmp k y ≡ Less) (counterparties (front ++ line ∷ back)) → code_cmp k line.counterparty ≡ Less
+below_middle : (k : List ℕ) (front : List NominationLine) (line : NominationLine) (back : List NominationLine) → AllByRecursion (λ y. code_cmp k y ≡ Less) (counterparties (front ++ line ∷ back)) → code_cmp k line.counterparty ≡ Less
 below_middle k [] line back h = h.0
 below_middle k (x ∷ xs) line back h = below_middle k xs line back h.1
 
-pub before_middle : (front : List Line) (line : Line) (back : List Line) → AreOrdered (front ++ line ∷ back) → filter (is_before line.counterparty) (front ++ line ∷ back) ≡ front
+pub before_middle : (front : List NominationLine) (line : NominationLine) (back : List NominationLine) → AreOrdered (front ++ line ∷ back) → filter (is_before line.counterparty) (front ++ line ∷ back) ≡ front
 unfolding IsStrictlySortedBy
 before_middle [] line back s =
     let here : is_before line.counterparty line ≡ false = ap is_lt (code_refl line.counterparty) in
@@ -47,7 +45,7 @@ before_middle (x ∷ xs) line back s =
     let here : is_before line.counterparty x ≡ true = ap is_lt (below_middle x.counterparty xs line back s.0) in
     rw here (ap (λ l. x ∷ l) (before_middle xs line back s.1))
 
-pub up_to_middle : (front : List Line) (line : Line) (back : List Line) → AreOrdered (front ++ line ∷ back) → filter (is_up_to line.counterparty) (front ++ line ∷ back) ≡ front ++ line ∷ []
+pub up_to_middle : (front : List NominationLine) (line : NominationLine) (back : List NominationLine) → AreOrdered (front ++ line ∷ back) → filter (is_up_to line.counterparty) (front ++ line ∷ back) ≡ front ++ line ∷ []
 unfolding IsStrictlySortedBy
 up_to_middle [] line back s =
     let here : is_up_to line.counterparty line ≡ true = ap is_le (code_refl line.counterparty) in
@@ -64,24 +62,24 @@ fits_not s a less = grind (arith, nat_tests)
 pub fits : (s a : ℕ) → s ≤ a → nat_le s a ≡ true
 fits s a less = grind (arith, nat_tests)
 
-pub total_push : (index : ℕ) (front : List Line) (line : Line) → total index (front ++ line ∷ []) ≡ total index front + quantity_at index line
+pub total_push : (index : ℕ) (front : List NominationLine) (line : NominationLine) → total index (front ++ line ∷ []) ≡ total index front + quantity_at index line
 total_push index front line = sum_by-append (quantity_at index) front (line ∷ []) ∙ ap (λ n. total index front + n) (sum_by-cons (quantity_at index) line [] ∙ add-zero (quantity_at index line))
 
 -- where all fit, it is the quantity
-pub part_whole : (available index : ℕ) (lines : List Line) (line : Line) → total index lines ≤ available → part available index lines line ≡ quantity_at index line
+pub part_whole : (available index : ℕ) (lines : List NominationLine) (line : NominationLine) → total index lines ≤ available → part available index lines line ≡ quantity_at index line
 unfolding part
 part_whole available index lines line less = let here = fits (total index lines) available less in rw here refl
 
 -- elsewhere the scaled sums differ by it
-pub part_middle : (available index : ℕ) (all front : List Line) (line : Line) (back : List Line) → all ≡ front ++ line ∷ back → AreOrdered all → available < total index all
+pub part_middle : (available index : ℕ) (all front : List NominationLine) (line : NominationLine) (back : List NominationLine) → all ≡ front ++ line ∷ back → AreOrdered all → available < total index all
     → part available index all line ≡ available * (total index front + quantity_at index line) / total index all - available * total index front / total index all
 unfolding part
 part_middle available index all front line back is ordered less =
     let here = fits_not (total index all) available less in
-    let ascend : AreOrdered (front ++ line ∷ back) = subst (λ (l : List Line). AreOrdered l) is ordered in
-    let before : sum_before line.counterparty index all ≡ total index front = ap (λ (l : List Line). sum_before line.counterparty index l) is ∙ ap (total index) (before_middle front line back ascend) in
+    let ascend : AreOrdered (front ++ line ∷ back) = subst (λ (l : List NominationLine). AreOrdered l) is ordered in
+    let before : sum_before line.counterparty index all ≡ total index front = ap (λ (l : List NominationLine). sum_before line.counterparty index l) is ∙ ap (total index) (before_middle front line back ascend) in
     let up_to : sum_up_to line.counterparty index all ≡ total index front + quantity_at index line =
-    ap (λ (l : List Line). sum_up_to line.counterparty index l) is ∙ ap (total index) (up_to_middle front line back ascend) ∙ total_push index front line in
+    ap (λ (l : List NominationLine). sum_up_to line.counterparty index l) is ∙ ap (total index) (up_to_middle front line back ascend) ∙ total_push index front line in
     rw here (λ i. available * up_to i / total index all - available * before i / total index all)
 
 -- ---- sums scaled
@@ -122,7 +120,7 @@ sum-parts_after a s b (n ∷ ns) (suc count) some =
 
 -- ---- the parts of lines that ascend
 
-parts_of_rest : (available index : ℕ) (all front rest : List Line) → all ≡ front ++ rest → AreOrdered all → available < total index all
+parts_of_rest : (available index : ℕ) (all front rest : List NominationLine) → all ≡ front ++ rest → AreOrdered all → available < total index all
     → map (part available index all) rest ≡ parts_after available (total index all) (total index front) (map (quantity_at index) rest)
 parts_of_rest available index all front [] is ordered less = refl
 parts_of_rest available index all front (x ∷ xs) is ordered less =
@@ -133,19 +131,19 @@ parts_of_rest available index all front (x ∷ xs) is ordered less =
     let tail = rest ∙ there in
     λ i. here i ∷ tail i
 
-parts_in_order : (available index : ℕ) (all : List Line) → AreOrdered all → available < total index all
+parts_in_order : (available index : ℕ) (all : List NominationLine) → AreOrdered all → available < total index all
     → map (part available index all) all ≡ parts_after available (total index all) 0 (map (quantity_at index) all)
 parts_in_order available index all ordered less = parts_of_rest available index all [] all refl ordered less
 
-all_fit : (available index : ℕ) (all lines : List Line) → total index all ≤ available → map (part available index all) lines ≡ map (quantity_at index) lines
+pub all_fit : (available index : ℕ) (all lines : List NominationLine) → total index all ≤ available → map (part available index all) lines ≡ map (quantity_at index) lines
 all_fit available index all [] less = refl
 all_fit available index all (x ∷ xs) less = λ i. part_whole available index all x less i ∷ all_fit available index all xs less i
 
-total-map : (index : ℕ) (lines : List Line) → sum (map (quantity_at index) lines) ≡ total index lines
+pub total-map : (index : ℕ) (lines : List NominationLine) → sum (map (quantity_at index) lines) ≡ total index lines
 total-map index lines = sum-map (quantity_at index) lines
 
 -- lines that ascend are reduced
-ordered_reduction : (available index : ℕ) (all : List Line) → AreOrdered all → IsReduction available (map (quantity_at index) all) (map (part available index all) all)
+ordered_reduction : (available index : ℕ) (all : List NominationLine) → AreOrdered all → IsReduction available (map (quantity_at index) all) (map (part available index all) all)
 ordered_reduction available index all ordered = record {
   each = simp length-map;
   whole = λ less. all_fit available index all all (omega (arith, total-map index all));
@@ -173,18 +171,25 @@ sum_by-filter f p (x ∷ xs) = by_test (p x) (sum_by-filter f p xs) ∙ sym (sum
     by_test true e = sum_by-cons f x (filter p xs) ∙ ap (λ n. f x + n) e
     by_test false e = e ∙ sym (zero-add (sum_by (λ y. cond (p y) (f y) 0) xs))
 
-sum_by-filter-permutation : {X : Type 0} (f : X → ℕ) (p : X → Bool) (xs ys : List X) → IsPermutation xs ys → sum_by f (filter p ys) ≡ sum_by f (filter p xs)
+pub sum_by-filter-permutation : {X : Type 0} (f : X → ℕ) (p : X → Bool) (xs ys : List X) → IsPermutation xs ys → sum_by f (filter p ys) ≡ sum_by f (filter p xs)
 sum_by-filter-permutation f p xs ys moved = sum_by-filter f p ys ∙ sum_by-IsPermutation (λ x. cond (p x) (f x) 0) xs ys moved ∙ sym (sum_by-filter f p xs)
 
-pub part-permutation : (available index : ℕ) (xs ys : List Line) → IsPermutation xs ys → part available index ys ≡ part available index xs
+-- a part depends on the sums alone
+pub part_same : (available index : ℕ) (xs ys : List NominationLine) → total index ys ≡ total index xs
+    → ((line : NominationLine) → sum_up_to line.counterparty index ys ≡ sum_up_to line.counterparty index xs)
+    → ((line : NominationLine) → sum_before line.counterparty index ys ≡ sum_before line.counterparty index xs)
+    → part available index ys ≡ part available index xs
 unfolding part
-part-permutation available index xs ys moved =
-    let all : total index ys ≡ total index xs = sum_by-IsPermutation (quantity_at index) xs ys moved in
-    let up_to = λ (line : Line). sum_by-filter-permutation (quantity_at index) (is_up_to line.counterparty) xs ys moved in
-    let before = λ (line : Line). sum_by-filter-permutation (quantity_at index) (is_before line.counterparty) xs ys moved in
+part_same available index xs ys all up_to before =
     λ i line. if nat_le (all i) available then quantity_at index line else available * up_to line i / all i - available * before line i / all i
 
--- ---- the laws of lines of one direction without twins
+pub part-permutation : (available index : ℕ) (xs ys : List NominationLine) → IsPermutation xs ys → part available index ys ≡ part available index xs
+part-permutation available index xs ys moved =
+    part_same available index xs ys (sum_by-IsPermutation (quantity_at index) xs ys moved)
+    (λ line. sum_by-filter-permutation (quantity_at index) (is_up_to line.counterparty) xs ys moved)
+    (λ line. sum_by-filter-permutation (quantity_at index) (is_before line.counterparty) xs ys moved)
+
+-- ---- the laws of lines that can be put into order
 
 -- a line stands somewhere in the list
 split_at : {X : Type 0} (x : X) (xs : List X) → In x xs → (front : List X) × (back : List X) × (xs ≡ front ++ x ∷ back)
@@ -192,7 +197,7 @@ split_at x [] h = absurd h
 split_at x (y ∷ ys) (inl is) = ([], ys, λ i. is i ∷ ys)
 split_at x (y ∷ ys) (inr h) = let found = split_at x ys h in (y ∷ found.0, found.1, λ i. y ∷ found.2 i)
 
-ordered_within : (available index : ℕ) (all : List Line) (line : Line) → AreOrdered all → In line all → part available index all line ≤ quantity_at index line
+ordered_within : (available index : ℕ) (all : List NominationLine) (line : NominationLine) → AreOrdered all → In line all → part available index all line ≤ quantity_at index line
 ordered_within available index all line ordered h = by_order (cases_lt available (total index all))
   where
     by_order : (available < total index all) ⊎ (total index all ≤ available) → part available index all line ≤ quantity_at index line
@@ -204,21 +209,21 @@ ordered_within available index all line ordered h = by_order (cases_lt available
         omega (arith, is, within)
 
 -- no part exceeds its quantity
-pub no_part_exceeds : (available index : ℕ) (direction : Direction) (lines : List Line) (line : Line) → has_twins lines ≡ false → Contains (in_direction direction lines) line
-    → part available index (in_direction direction lines) line ≤ quantity_at index line
-no_part_exceeds available index direction lines line none stands =
-    let moved = by_counterparty-permutation (in_direction direction lines) in
-    let there = in_from_contains line (by_counterparty (in_direction direction lines)) (Contains-permutation (in_direction direction lines) (by_counterparty (in_direction direction lines)) line moved stands) in
-    subst (λ (p : Line → ℕ). p line ≤ quantity_at index line) (part-permutation available index (in_direction direction lines) (by_counterparty (in_direction direction lines)) moved)
-    (ordered_within available index (by_counterparty (in_direction direction lines)) line (are_ordered direction lines none) there)
+pub no_part_exceeds : (available index : ℕ) (lines : List NominationLine) (line : NominationLine) → AreOrdered (by_counterparty lines) → Contains lines line
+    → part available index lines line ≤ quantity_at index line
+no_part_exceeds available index lines line ordered stands =
+    let moved = by_counterparty-permutation lines in
+    let there = in_from_contains line (by_counterparty lines) (Contains-permutation lines (by_counterparty lines) line moved stands) in
+    subst (λ (p : NominationLine → ℕ). p line ≤ quantity_at index line) (part-permutation available index lines (by_counterparty lines) moved)
+    (ordered_within available index (by_counterparty lines) line ordered there)
 
 -- the parts in order of counterparty are the quantities, reduced
-pub is_reduction : (available index : ℕ) (direction : Direction) (lines : List Line) → has_twins lines ≡ false
-    → IsReduction available (map (quantity_at index) (by_counterparty (in_direction direction lines))) (map (part available index (in_direction direction lines)) (by_counterparty (in_direction direction lines)))
-is_reduction available index direction lines none =
-    subst (λ (p : Line → ℕ). IsReduction available (map (quantity_at index) (by_counterparty (in_direction direction lines))) (map p (by_counterparty (in_direction direction lines))))
-    (part-permutation available index (in_direction direction lines) (by_counterparty (in_direction direction lines)) (by_counterparty-permutation (in_direction direction lines)))
-    (ordered_reduction available index (by_counterparty (in_direction direction lines)) (are_ordered direction lines none))
+pub is_reduction : (available index : ℕ) (lines : List NominationLine) → AreOrdered (by_counterparty lines)
+    → IsReduction available (map (quantity_at index) (by_counterparty lines)) (map (part available index lines) (by_counterparty lines))
+is_reduction available index lines ordered =
+    subst (λ (p : NominationLine → ℕ). IsReduction available (map (quantity_at index) (by_counterparty lines)) (map p (by_counterparty lines)))
+    (part-permutation available index lines (by_counterparty lines) (by_counterparty-permutation lines))
+    (ordered_reduction available index (by_counterparty lines) ordered)
 
 -- a reduction gives out all that is available
 sum-reduction : (available : ℕ) (quantities parts : List ℕ) → IsReduction available quantities parts → available < sum quantities → sum parts ≡ available
@@ -229,10 +234,16 @@ sum-reduction available quantities parts r less =
     ap sum (sym all_parts) ∙ scaled ∙ ap (λ (l : List ℕ). available * sum l / sum quantities) (take-length quantities) ∙ mul-div_cancel available some
 
 -- where not all fit, the parts are together what is available
-pub parts_sum : (available index : ℕ) (direction : Direction) (lines : List Line) → has_twins lines ≡ false → available < total index (in_direction direction lines)
-    → sum (map (part available index (in_direction direction lines)) (by_counterparty (in_direction direction lines))) ≡ available
-parts_sum available index direction lines none less =
-    let moved = by_counterparty-permutation (in_direction direction lines) in
-    let quantities : sum (map (quantity_at index) (by_counterparty (in_direction direction lines))) ≡ total index (in_direction direction lines) =
-    total-map index (by_counterparty (in_direction direction lines)) ∙ sum_by-IsPermutation (quantity_at index) (in_direction direction lines) (by_counterparty (in_direction direction lines)) moved in
-    sum-reduction available _ _ (is_reduction available index direction lines none) (omega (arith, quantities))
+pub parts_sum : (available index : ℕ) (lines : List NominationLine) → AreOrdered (by_counterparty lines) → available < total index lines
+    → sum_by (part available index lines) lines ≡ available
+parts_sum available index lines ordered less =
+    let moved = by_counterparty-permutation lines in
+    let quantities : sum (map (quantity_at index) (by_counterparty lines)) ≡ total index lines =
+    total-map index (by_counterparty lines) ∙ sum_by-IsPermutation (quantity_at index) lines (by_counterparty lines) moved in
+    sym (sum_by-IsPermutation (part available index lines) lines (by_counterparty lines) moved) ∙ sym (sum-map (part available index lines) (by_counterparty lines))
+    ∙ sum-reduction available _ _ (is_reduction available index lines ordered) (omega (arith, quantities))
+
+-- and where all fit, they are all that is nominated
+pub parts_whole : (available index : ℕ) (lines : List NominationLine) → total index lines ≤ available → sum_by (part available index lines) lines ≡ total index lines
+parts_whole available index lines fit =
+    sym (sum-map (part available index lines) lines) ∙ ap sum (all_fit available index lines lines fit) ∙ total-map index lines

@@ -1,10 +1,12 @@
 pub mod Capacity
 pub mod CapacityLimits
-pub mod ContractsKept
+pub mod ContractsRepr
 pub mod FaultText
 pub mod HoursLeft
 pub mod Kept
+pub mod Laws
 pub mod Processing
 pub mod Readings
 pub mod Recording
 pub mod Reduction
+pub mod Rule

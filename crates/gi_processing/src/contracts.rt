@@ -1,11 +1,11 @@
-ghost use Rattle.std.specs.Prelude.{◌≡◌, ℕ, ◌↔◌, ◌*◌, ◌+◌, ◌^◌, ◌<◌, ◌≤◌, IsTrue, OnOk, OnErr, IsOk, IsOkUnless, Some, None, Err, [], true, false, length};
+ghost use Rattle.std.specs.Prelude.{◌≡◌, ℕ, ◌↔◌, ◌*◌, ◌+◌, ◌≤◌, IsTrue, OnOk, OnErr, IsOk, IsOkUnless, Some, None, Err, [], true, false, length};
 ghost use Rattle.std.specs.BTreeMap.{IsOrdered, get};
 ghost use Rattle.std.specs.List.{IsDistinct};
 ghost use Rattle.std.specs.List.Sorted.{IsPermutation};
 ghost use Rattle.std.specs.Str.{bytes_eq};
 ghost use Rattle.gi_pairs.specs.Quantity.{most_quantity};
-ghost use Rattle.gi_processing.specs.Capacity.{available as available_of, contract_of, has_contract, has_notice, knows as knows_of, notice_of, part as part_of, parts as parts_of};
-ghost use Rattle.gi_processing.specs.CapacityLimits.{most_permille, most_portfolios};
+ghost use Rattle.gi_processing.specs.Capacity.{available as available_of, contract_of, has_contract, has_notice, knows as knows_of, notice_of};
+ghost use Rattle.gi_processing.specs.CapacityLimits.{most_portfolios};
 ghost use Rattle.gi_processing.specs.HoursLeft.{IsLeft, left_at, left_under};
 ghost use Rattle.gi_processing.specs.Kept.{CutsRows, left_in, notice_cmp, notice_key};
 ghost use Rattle.gi_processing.specs.Readings.{RecordsContract, RecordsNotice};
@@ -18,12 +18,12 @@ use crate::contract_fault::ContractFault;
 use crate::contract_key::ContractKey;
 use crate::contracted::Contracted;
 use crate::hours_left::{HoursLeft, Thousandths};
-use crate::notice::{MOST_PERMILLE, Notice};
+use crate::notice::Notice;
 use crate::notice_fault::NoticeFault;
 use crate::notice_key::NoticeKey;
 use crate::portfolios::Portfolios;
 use gi_day::{DayFrame, GasDay};
-use gi_pairs::{Code, Direction, Quantity};
+use gi_pairs::{Code, Direction};
 use std::alloc::{AllocError, Global};
 use std::collections::BTreeMap;
 use std::marker::Model;
@@ -39,29 +39,13 @@ pub struct Contracts {
 
 impl Model for Contracts {
     ghost use Rattle.gi_processing.specs.Capacity.{Capacity};
-    ghost use Rattle.gi_processing.specs.ContractsKept.{capacity_of, IsKept};
+    ghost use Rattle.gi_processing.specs.ContractsRepr.{capacity_of, ContractsInvariant};
 
     ghost Value = { Capacity };
 
     ghost view = { capacity_of };
 
-    ghost invariant = { IsKept };
-}
-
-fn part(quantity: Quantity, permille: u16) -> u64
-    ensures value { result ≡ part_of quantity permille }
-    ensures whole { permille ≡ most_permille → result ≡ quantity }
-    ensures bound { result < 2 ^ 60 }
-    ensures in_range { permille ≤ most_permille → result ≤ most_quantity }
-{
-    quantity.value() * u64::from(permille) / u64::from(MOST_PERMILLE)
-}
-
-fn parts(contract: Contract, left: Thousandths) -> u64
-    ensures value { result ≡ parts_of contract left.firm left.interruptible }
-    ensures in_range { IsLeft left → result ≤ 2 * most_quantity }
-{
-    part(contract.firm, left.firm) + part(contract.interruptible, left.interruptible)
+    ghost invariant = { ContractsInvariant };
 }
 
 fn hours_of(rows: &BTreeMap<NoticeKey, HoursLeft>, key: &NoticeKey) -> HoursLeft
@@ -78,7 +62,7 @@ fn cut_hours(rows: &mut BTreeMap<NoticeKey, HoursLeft>, notice: &Notice) -> Resu
     ensures cut { OnOk result (CutsRows notice.now rows.old rows.new) }
     ensures ordered { IsOrdered notice_cmp rows.new }
     ensures absent { OnErr result (get notice_cmp rows.old (notice_key notice.now.day notice.now.direction) ≡ None) }
-    ensures kept { OnErr result (rows.new.entries ≡ rows.old.entries) }
+    ensures unchanged { OnErr result (rows.new.entries ≡ rows.old.entries) }
 {
     let key = notice.key();
     let row = hours_of(rows, &key).cut(notice);
@@ -108,7 +92,7 @@ impl Contracts {
         ensures reads { OnOk result (RecordsContract self.old self.new contract) }
         ensures replaces { has_contract contract.portfolio contract.day contract.direction self.old.contracts ≡ true → IsOk result }
         ensures notices { self.new.notices ≡ self.old.notices }
-        ensures kept { OnErr result (self.new ≡ self.old) }
+        ensures unchanged { OnErr result (self.new ≡ self.old) }
     {
         if self.portfolios.is_too_many(contract.portfolio) {
             return Err(ContractFault::TooManyPortfolios);
@@ -140,7 +124,7 @@ impl Contracts {
         // A row has all 25 hours, so the first hour is there exactly where the gas day and direction are.
         ensures covered { notice_refusal notice ≡ None → has_notice notice.day notice.direction notice.first self.old.notices ≡ true → IsOk result }
         ensures contracts { self.new.contracts ≡ self.old.contracts }
-        ensures kept { OnErr result (self.new ≡ self.old) }
+        ensures unchanged { OnErr result (self.new ≡ self.old) }
     {
         if let Some(fault) = notice.fault(frame) {
             return Err(fault);
@@ -197,7 +181,7 @@ impl Contracts {
             → result ≡ contract.firm + contract.interruptible }
     {
         match self.contract(portfolio, day, direction) {
-            Some(contract) => parts(contract, self.left(day, direction, hour)),
+            Some(contract) => contract.parts(self.left(day, direction, hour)),
             None => 0,
         }
     }

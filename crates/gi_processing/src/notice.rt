@@ -1,7 +1,9 @@
 ghost use Rattle.std.specs.Prelude.{◌≡◌, IfNone};
+ghost use Rattle.gi_processing.specs.HoursLeft.{left_by};
 ghost use Rattle.gi_processing.specs.Kept.{notice_key};
 ghost use Rattle.gi_processing.specs.Recording.{IsNotice, has_hours, is_over as is_over_of, notice_refusal};
 
+use crate::hours_left::Thousandths;
 use crate::notice_fault::NoticeFault;
 use crate::notice_key::NoticeKey;
 use gi_day::{DayFrame, GasDay};
@@ -27,6 +29,15 @@ pub struct Notice {
 }
 
 impl Notice {
+    pub(crate) fn left(&self) -> Thousandths
+        ensures { result ≡ left_by self.now }
+    {
+        Thousandths {
+            firm: self.firm,
+            interruptible: self.interruptible,
+        }
+    }
+
     pub(crate) fn key(&self) -> NoticeKey
         ensures { result ≡ notice_key self.now.day self.now.direction }
     {

@@ -1,17 +1,19 @@
-ghost use Rattle.std.specs.Prelude.{◌≡◌, ◌<◌, ◌≤◌, ◌++◌, None, Ok, IfOk, OnOk, All, length, map};
+ghost use Rattle.std.specs.Prelude.{◌≡◌, ◌<◌, ◌≤◌, ◌++◌, None, Ok, IfOk, OnOk, All, filter, length, map};
 ghost use Rattle.std.specs.List.Sorted.{IsPermutation};
 ghost use Rattle.gi_day.specs.Cycles.{hour_count, IsCycle};
 ghost use Rattle.gi_nominations.specs.Lines.{lines_fault, most_lines};
 ghost use Rattle.gi_pairs.specs.Table.{IsTable, built};
 ghost use Rattle.gi_pairs.specs.Limits.{most_processed_rows};
-ghost use Rattle.gi_processing.specs.Processing.{AreSound, CanProcess, IsProcessed, IsSpan, columns, portfolio_rows, processed as processed_table, processed_row, processed_rows, row_at, span_table};
-ghost use Rattle.gi_processing.specs.Reduction.{AreOrdered, in_direction, referred};
+ghost use Rattle.gi_processing.specs.Processing.{AreSound, CanProcess, IsProcessed, IsSpan, columns, group_row, portfolio_rows, processed as processed_table, processed_row, processed_rows, row_at, ruled_row, span_table};
+ghost use Rattle.gi_processing.specs.Reduction.{AreOrdered, has_priority, in_direction, referred};
+ghost use Rattle.gi_processing.specs.declared.rule.Rule.TheVariants.{Two};
 
 use crate::contracts::Contracts;
-use crate::reduction::{ordered_lines, parts_in};
+use crate::reduction::{lines_before, lines_of, next_priority, ordered_lines, parts_in, total_of};
+use crate::rule::Rule;
 use crate::span::Span;
 use gi_day::DayFrame;
-use gi_messages::Line;
+use gi_messages::NominationLine;
 use gi_nominations::Book;
 use gi_pairs::{Code, Direction, Hours, Pair, Quantity, Row, Side, Table};
 use std::alloc::{AllocError, Global};
@@ -21,19 +23,24 @@ fn columns_of(
     contracts: &Contracts,
     span: &Span,
     portfolio: Code,
-    lines: &[&Line],
     direction: Direction,
+    before: &[&NominationLine],
+    lines: &[&NominationLine],
 ) -> Result<Vec<Vec<Quantity>>, AllocError>
     requires span { IsSpan span.now }
+    requires few_before { length before.now ≤ most_lines }
     requires few { length lines.now ≤ most_lines }
+    requires whole_before { All (λ line. length line.hours ≡ hour_count span.now.day) (referred before.now) }
     requires whole { All (λ line. length line.hours ≡ hour_count span.now.day) (referred lines.now) }
     requires ordered { AreOrdered (referred lines.now) }
-    ensures { IfOk result (λ of_hours. map (λ column. column.items) of_hours.items ≡ columns contracts.now span.now portfolio direction (referred lines.now)) }
+    ensures { IfOk result (λ of_hours. map (λ column. column.items) of_hours.items ≡ columns contracts.now span.now portfolio direction (referred before.now) (referred lines.now)) }
 {
     let mut of_hours = Vec::with_capacity(alloc, usize::from(span.last - span.first) + 1)?;
     for hour in span.first..span.last + 1 {
+        let index = usize::from(hour - 1);
         let available = contracts.available(portfolio, span.day, direction, hour);
-        of_hours.push(parts_in(alloc, lines, usize::from(hour - 1), available)?)?;
+        let left = available.saturating_sub(total_of(before, index));
+        of_hours.push(parts_in(alloc, lines, index, left)?)?;
     }
     Ok(of_hours)
 }
@@ -42,7 +49,7 @@ fn row_of(
     alloc: Global,
     span: &Span,
     portfolio: Code,
-    line: &Line,
+    line: &NominationLine,
     of_hours: &[Vec<Quantity>],
     place: usize,
 ) -> Result<Row, AllocError>
@@ -60,12 +67,105 @@ fn row_of(
     })
 }
 
+/// The rows of lines that share what those before them leave.
+fn add_group(
+    rows: &mut Vec<Row>,
+    contracts: &Contracts,
+    span: &Span,
+    portfolio: Code,
+    direction: Direction,
+    before: &[&NominationLine],
+    lines: &[&NominationLine],
+) -> Result<(), AllocError>
+    requires span { IsSpan span.now }
+    requires few_before { length before.now ≤ most_lines }
+    requires few { length lines.now ≤ most_lines }
+    requires whole_before { All (λ line. length line.hours ≡ hour_count span.now.day) (referred before.now) }
+    requires whole { All (λ line. length line.hours ≡ hour_count span.now.day) (referred lines.now) }
+    requires ordered { AreOrdered (referred lines.now) }
+    ensures { OnOk result (rows.new.items ≡ rows.old.items ++ map (group_row contracts.now span.now portfolio direction (referred before.now) (referred lines.now)) (referred lines.now)) }
+{
+    let alloc = *rows.allocator();
+    let of_hours = columns_of(alloc, contracts, span, portfolio, direction, before, lines)?;
+    for place in 0..lines.len() {
+        rows.push(row_of(alloc, span, portfolio, lines[place], &of_hours, place)?)?;
+    }
+    Ok(())
+}
+
+/// The rows of the lines of a priority, which share what those of lower numbers leave.
+fn add_priority(
+    rows: &mut Vec<Row>,
+    contracts: &Contracts,
+    span: &Span,
+    portfolio: Code,
+    direction: Direction,
+    lines: &[&NominationLine],
+    priority: u8,
+) -> Result<(), AllocError>
+    requires span { IsSpan span.now }
+    requires few { length lines.now ≤ most_lines }
+    requires whole { All (λ line. length line.hours ≡ hour_count span.now.day) (referred lines.now) }
+    requires ordered { AreOrdered (referred lines.now) }
+    ensures { OnOk result (rows.new.items ≡ rows.old.items ++ map (ruled_row Two contracts.now span.now portfolio direction (referred lines.now)) (filter (has_priority priority) (referred lines.now))) }
+{
+    let alloc = *rows.allocator();
+    let before = lines_before(alloc, lines, priority)?;
+    let own = lines_of(alloc, lines, priority)?;
+    add_group(rows, contracts, span, portfolio, direction, &before, &own)
+}
+
+/// Lower numbers first.
+fn add_by_priority(
+    rows: &mut Vec<Row>,
+    contracts: &Contracts,
+    span: &Span,
+    portfolio: Code,
+    direction: Direction,
+    lines: &[&NominationLine],
+) -> Result<(), AllocError>
+    requires span { IsSpan span.now }
+    requires few { length lines.now ≤ most_lines }
+    requires whole { All (λ line. length line.hours ≡ hour_count span.now.day) (referred lines.now) }
+    requires ordered { AreOrdered (referred lines.now) }
+    ensures { OnOk result (IsPermutation (rows.old.items ++ map (ruled_row Two contracts.now span.now portfolio direction (referred lines.now)) (referred lines.now)) rows.new.items) }
+{
+    let mut next = next_priority(lines, 0);
+    while next < 256 {
+        add_priority(
+            rows, contracts, span, portfolio, direction, lines, next as u8,
+        )?;
+        next = next_priority(lines, next + 1);
+    }
+    Ok(())
+}
+
+fn add_ordered(
+    rows: &mut Vec<Row>,
+    contracts: &Contracts,
+    span: &Span,
+    portfolio: Code,
+    direction: Direction,
+    lines: &[&NominationLine],
+) -> Result<(), AllocError>
+    requires span { IsSpan span.now }
+    requires few { length lines.now ≤ most_lines }
+    requires whole { All (λ line. length line.hours ≡ hour_count span.now.day) (referred lines.now) }
+    requires ordered { AreOrdered (referred lines.now) }
+    ensures { OnOk result (IsPermutation (rows.old.items ++ map (ruled_row span.now.rule contracts.now span.now portfolio direction (referred lines.now)) (referred lines.now)) rows.new.items) }
+{
+    match span.rule {
+        Rule::One => add_group(rows, contracts, span, portfolio, direction, &[], lines),
+        Rule::Two => add_by_priority(rows, contracts, span, portfolio, direction, lines),
+    }
+}
+
 fn add_direction(
     rows: &mut Vec<Row>,
     contracts: &Contracts,
     span: &Span,
     portfolio: Code,
-    lines: &[Line],
+    lines: &[NominationLine],
     direction: Direction,
 ) -> Result<(), AllocError>
     requires span { IsSpan span.now }
@@ -74,11 +174,7 @@ fn add_direction(
 {
     let alloc = *rows.allocator();
     let ordered = ordered_lines(alloc, lines, direction)?;
-    let of_hours = columns_of(alloc, contracts, span, portfolio, &ordered, direction)?;
-    for place in 0..ordered.len() {
-        rows.push(row_of(alloc, span, portfolio, ordered[place], &of_hours, place)?)?;
-    }
-    Ok(())
+    add_ordered(rows, contracts, span, portfolio, direction, &ordered)
 }
 
 fn add_rows(
@@ -86,7 +182,7 @@ fn add_rows(
     contracts: &Contracts,
     span: &Span,
     portfolio: Code,
-    lines: &[Line],
+    lines: &[NominationLine],
 ) -> Result<(), AllocError>
     requires span { IsSpan span.now }
     requires sound { lines_fault (hour_count span.now.day) lines.now ≡ None }
@@ -153,7 +249,8 @@ fn table_of(
 
 /// The processed table of a cycle at a side: a row for each line in force, zeros too, on the hours
 /// that the cycle covers. In each direction and hour a portfolio's lines are reduced to what is
-/// available to it, in order of counterparty. The gas day, which is the frame's, has the cycle, and
+/// available to it, in order of counterparty: by rule 1 all together, by rule 2 lower
+/// priority numbers first, each to what those before it leave. The gas day, which is the frame's, has the cycle, and
 /// each nomination in force on it is of a portfolio with a contract and has lines without fault.
 pub fn processed(
     alloc: Global,
@@ -162,11 +259,12 @@ pub fn processed(
     side: Side,
     frame: &DayFrame,
     cycle: u8,
+    rule: Rule,
 ) -> Result<Table, AllocError>
     requires cycle { IsCycle frame.now cycle }
     requires sound { AreSound contracts.now book.now.documents frame.now }
-    ensures value { IfOk result (λ table. table ≡ processed_table contracts.now book.now.documents side frame.now cycle) }
-    ensures law { IfOk result (IsProcessed contracts.now book.now.documents side frame.now cycle) }
+    ensures value { IfOk result (λ table. table ≡ processed_table contracts.now book.now.documents side frame.now cycle rule) }
+    ensures law { IfOk result (IsProcessed contracts.now book.now.documents side frame.now cycle rule) }
     ensures few { IfOk result (λ table. length table.rows ≤ most_processed_rows) }
 {
     let frame = *frame;
@@ -175,6 +273,7 @@ pub fn processed(
         day: frame.day(),
         first: frame.first_hour(cycle).unwrap(),
         last: frame.hours(),
+        rule,
     };
     table_of(alloc, contracts, &span, book)
 }

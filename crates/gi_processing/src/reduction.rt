@@ -1,14 +1,18 @@
-ghost use Rattle.std.specs.Prelude.{◌≡◌, ◌*◌, ◌/◌, ◌<◌, ◌≤◌, false, length, All, IfOk};
+ghost use Rattle.std.specs.Prelude.{◌≡◌, ℕ, ◌*◌, ◌/◌, ◌<◌, ◌≤◌, false, filter, length, All, IfNone, IfOk, IfSome};
 ghost use Rattle.std.specs.List.Sorted.{IsPermutation};
 ghost use Rattle.gi_pairs.specs.Quantity.{most_quantity};
 ghost use Rattle.gi_nominations.specs.Lines.{has_twins, most_lines};
-ghost use Rattle.gi_processing.specs.Reduction.{AreOrdered, in_direction, parts, quantity_at, quotient, referred, total};
+ghost use Rattle.gi_processing.specs.Reduction.{AreOrdered, HasNoneBetween, has_priority, in_direction, is_served_before, parts, quantity_at, quotient, referred, total};
 
-use gi_messages::Line;
+use gi_messages::NominationLine;
 use gi_pairs::{Direction, Quantity};
 use std::alloc::{AllocError, Global};
 
-fn lines_in(alloc: Global, lines: &[Line], direction: Direction) -> Result<Vec<&Line>, AllocError>
+fn lines_in(
+    alloc: Global,
+    lines: &[NominationLine],
+    direction: Direction,
+) -> Result<Vec<&NominationLine>, AllocError>
     ensures { IfOk result (λ kept. referred kept.items ≡ in_direction direction lines.now) }
 {
     let mut kept = Vec::with_capacity(alloc, lines.len())?;
@@ -22,9 +26,9 @@ fn lines_in(alloc: Global, lines: &[Line], direction: Direction) -> Result<Vec<&
 
 pub(crate) fn ordered_lines(
     alloc: Global,
-    lines: &[Line],
+    lines: &[NominationLine],
     direction: Direction,
-) -> Result<Vec<&Line>, AllocError>
+) -> Result<Vec<&NominationLine>, AllocError>
     requires { has_twins lines.now ≡ false }
     ensures lines { IfOk result (λ ordered. IsPermutation (in_direction direction lines.now) (referred ordered.items)) }
     ensures ordered { IfOk result (λ ordered. AreOrdered (referred ordered.items)) }
@@ -34,14 +38,67 @@ pub(crate) fn ordered_lines(
     Ok(ordered)
 }
 
-fn quantity_of(line: &Line, index: usize) -> Quantity
+/// The lines of lower numbers, which are served before those of the priority.
+pub(crate) fn lines_before<'a>(
+    alloc: Global,
+    lines: &[&'a NominationLine],
+    priority: u8,
+) -> Result<Vec<&'a NominationLine>, AllocError>
+    ensures { IfOk result (λ kept. referred kept.items ≡ filter (is_served_before priority) (referred lines.now)) }
+{
+    let mut kept = Vec::with_capacity(alloc, lines.len())?;
+    for line in lines {
+        if line.priority < priority {
+            kept.push(*line)?;
+        }
+    }
+    Ok(kept)
+}
+
+/// The lines of the priority.
+pub(crate) fn lines_of<'a>(
+    alloc: Global,
+    lines: &[&'a NominationLine],
+    priority: u8,
+) -> Result<Vec<&'a NominationLine>, AllocError>
+    ensures { IfOk result (λ kept. referred kept.items ≡ filter (has_priority priority) (referred lines.now)) }
+{
+    let mut kept = Vec::with_capacity(alloc, lines.len())?;
+    for line in lines {
+        if line.priority == priority {
+            kept.push(*line)?;
+        }
+    }
+    Ok(kept)
+}
+
+/// A number from the given one on, 256 at most. No line has a priority from the given one to before it.
+pub(crate) fn next_priority(lines: &[&NominationLine], from: u16) -> u16
+    requires { from ≤ 256 }
+    ensures low { from ≤ result }
+    ensures high { result ≤ 256 }
+    ensures next { HasNoneBetween from result (referred lines.now) }
+    ensures bytes { All (λ line. line.priority < 256) (referred lines.now) }
+{
+    let mut next = 256;
+    for line in lines {
+        let own = line.priority;
+        let priority = u16::from(own);
+        if from <= priority && priority < next {
+            next = priority;
+        }
+    }
+    next
+}
+
+fn quantity_of(line: &NominationLine, index: usize) -> Quantity
     requires { index < length line.now.hours }
     ensures { result ≡ quantity_at index line.now }
 {
     line.hours.as_slice()[index]
 }
 
-fn total_of(lines: &[&Line], index: usize) -> u64
+pub(crate) fn total_of(lines: &[&NominationLine], index: usize) -> u64
     requires few { length lines.now ≤ most_lines }
     requires covered { All (λ line. index < length line.hours) (referred lines.now) }
     ensures value { result ≡ total index (referred lines.now) }
@@ -54,7 +111,8 @@ fn total_of(lines: &[&Line], index: usize) -> u64
     sum
 }
 
-fn scaled(available: u64, sum: u64, total: u64) -> u64
+/// A sum scaled by what is available of the total, and rounded down.
+pub fn scaled(available: u64, sum: u64, total: u64) -> u64
     requires some { 0 < total }
     requires within { sum ≤ total }
     ensures { result ≡ available * sum / total }
@@ -75,7 +133,7 @@ fn quotient_of(available: u64, sum: u64, total: u64) -> u64
 /// One pass, which carries along what the lines before got.
 pub(crate) fn parts_in(
     alloc: Global,
-    lines: &[&Line],
+    lines: &[&NominationLine],
     index: usize,
     available: u64,
 ) -> Result<Vec<Quantity>, AllocError>

@@ -1,7 +1,8 @@
+use crate::rule::Rule;
 use gi_day::GasDay;
 use gi_pairs::Side;
 
-/// For which side, gas day and hours quantities are processed.
+/// For which side, gas day and hours quantities are processed, and by which rule.
 #[derive(Clone, Copy)]
 pub(crate) struct Span {
     pub side: Side,
@@ -9,4 +10,5 @@ pub(crate) struct Span {
     /// From 1.
     pub first: u8,
     pub last: u8,
+    pub rule: Rule,
 }

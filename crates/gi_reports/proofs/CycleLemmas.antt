@@ -69,10 +69,10 @@ all_apart id [] fresh = tt
 all_apart id (Contracted contract ∷ later) fresh = all_apart id later fresh
 all_apart id (Noticed notice ∷ later) fresh = all_apart id later fresh
 all_apart id (Nominated document ∷ later) fresh = all_apart id later fresh
-all_apart id (Closed other ∷ later) fresh = by (same_cycle other id) refl (λ e. all_apart id later e)
+all_apart id (Closed other rule ∷ later) fresh = by (same_cycle other id) refl (λ e. all_apart id later e)
   where
     by : (b : Bool) → same_cycle other id ≡ b → (is_closed id later ≡ false → AllByRecursion (λ other. same_cycle other id ≡ false) (closings later))
-        → AllByRecursion (λ other. same_cycle other id ≡ false) (closings (Closed other ∷ later))
+        → AllByRecursion (λ other. same_cycle other id ≡ false) (closings (Closed other rule ∷ later))
     by true e rest = absurd (true≢false (sym (ap (λ b. b || list_any (is_closing id) later) e) ∙ fresh))
     by false e rest = (e, rest (sym (ap (λ b. b || list_any (is_closing id) later) e) ∙ fresh))
 all_apart id (Met other peer ∷ later) fresh = all_apart id later fresh
@@ -91,7 +91,7 @@ distinct_from side point once before (fact ∷ later) legal =
     by (Contracted contract) legal rest = rest
     by (Noticed notice) legal rest = rest
     by (Nominated document) legal rest = rest
-    by (Closed id) legal rest = (all_apart id later (once side point before later id legal).1, rest)
+    by (Closed id rule) legal rest = (all_apart id later (once side point before later id rule legal).1, rest)
     by (Met id peer) legal rest = rest
 
 -- ---- in order, each once

@@ -14,7 +14,7 @@ fn closed_by<R: Role>(desk: &Desk<R>, n: u32) -> Option<CycleId>
     ensures { result ≡ option_and_then closing_in (fact_at desk.now.facts n) }
 {
     match desk.fact(n) {
-        Some(Fact::Closed(id)) => Some(*id),
+        Some(Fact::Closed { id, .. }) => Some(*id),
         _ => None,
     }
 }
@@ -42,7 +42,7 @@ pub(crate) fn closings<R: Role>(alloc: Global, desk: &Desk<R>) -> Result<Vec<Cyc
 pub fn closed_cycles<R: Role>(alloc: Global, desk: &Desk<R>) -> Result<Vec<CycleId>, AllocError>
     ensures { IfOk result (λ ids. AreClosedCycles desk.now.facts ids.items) }
 {
-    desk.known();
+    desk.reveal_invariant();
     closes_once();
     let mut ids = closings(alloc, desk)?;
     ids.sort_unstable();

@@ -1,10 +1,11 @@
 -- A line spells one instruction at most.
-use Rattle.std.proofs.Common.{◌≡◌, ◌⊎◌, inl, inr, ℕ, List, [], ◌∷◌, map, Ok, Result, refl, sym, ap, ◌∙◌, subst, arith, codes}
+use Rattle.std.proofs.Common.{◌≡◌, ◌⊎◌, inl, inr, ℕ, List, [], ◌∷◌, map, Ok, Result, true, false, refl, sym, ap, ◌∙◌, subst, arith, codes}
 use Rattle.std.specs.Str.Parse.{digits_value}
 use Rattle.std.proofs.lemmas.Int.{ints}
 use Rattle.std.proofs.lemmas.List.Splits.{join_with_byte-slice_split}
 use Rattle.std.specs.List.{join_with_byte}
 use Rattle.jiff_core.specs.declared.civil.date.Date.{Date}
+use Rattle.std.proofs.lemmas.Slice.Eq.{bytes_eq-Decides}
 use Rattle.gi_day.specs.Day.{IsDayText}
 use Rattle.gi_day.specs.declared.gas_day.DayFault.{DayFault}
 use Rattle.gi_day.proofs.DayLaws.{read-day_text}
@@ -14,13 +15,16 @@ use Rattle.gi_pairs.specs.declared.direction.Direction.{Direction}
 use Rattle.gi_pairs.specs.declared.side.Side.{Side}
 use Rattle.gi_processing.specs.declared.contract.Contract.{Contract}
 use Rattle.gi_processing.specs.declared.notice.Notice.{Notice}
+use Rattle.gi_processing.specs.declared.rule.Rule.{Rule}
+use Rattle.gi_processing.specs.declared.rule.Rule.TheVariants.{One, Two}
+use Rattle.gi_desk.specs.declared.call.Call.{Call}
 use Rattle.gi_desk.specs.declared.call.Call.TheVariants as calls
 use Rattle.gi_carrier.specs.declared.moves.Move.{Move}
 use Rattle.gi_script.specs.Numbers.{IsNumber}
 use Rattle.gi_carrier.specs.Moves.{move_text}
 use Rattle.gi_script.specs.Verb.{verb_text}
 use Rattle.gi_script.specs.Words.{space, words_of}
-use Rattle.gi_script.specs.Grammar.{IsDayWord, IsDirectionWord, Says, SaysContract, SaysNotice, SaysCycle, SaysCount, SaysNumber, SaysMoves, SaysCommand, SaysPlan, SpellsPoint}
+use Rattle.gi_script.specs.Grammar.{IsDayWord, IsDirectionWord, IsRuleAfter, IsRuleWord, Says, SaysCall, SaysClosing, SaysContract, SaysNotice, SaysCycle, SaysCount, SaysNumber, SaysMoves, SaysCommand, SaysPlan, SpellsPoint}
 use Rattle.gi_script.specs.Laws.{IsOneInstruction}
 use Rattle.gi_script.specs.declared.instruction.Instruction.{Instruction}
 use Rattle.gi_script.specs.declared.instruction.Instruction.TheVariants as instructions
@@ -88,6 +92,31 @@ cycle-one words a b x y =
     let cycle = number-one _ x.cycle y.cycle a.cycle b.cycle cycles x.is_cycle y.is_cycle in
     λ i. record { day = day i; cycle = cycle i }
 
+one_no_two : codes "1" ≡ codes "2" → ⊥
+one_no_two e = let same : false ≡ true = (bytes_eq-Decides (codes "1") (codes "2")).1 e in absurd cc
+
+rule-one : (word other : List ℕ) (a b : Rule) → word ≡ other → IsRuleWord word a → IsRuleWord other b → a ≡ b
+rule-one word other One One same x y = refl
+rule-one word other One Two same x y = absurd (one_no_two (sym x ∙ same ∙ y))
+rule-one word other Two One same x y = absurd (one_no_two (sym (sym x ∙ same ∙ y)))
+rule-one word other Two Two same x y = refl
+
+rule_after-one : (words : List (List ℕ)) (a b : Rule) → IsRuleAfter words a → IsRuleAfter words b → a ≡ b
+rule_after-one [] a b x y = x ∙ sym y
+rule_after-one (word ∷ []) a b x y = rule-one word word a b refl x y
+rule_after-one (word ∷ next ∷ others) a b x y = absurd x
+
+closing-one : (words : List (List ℕ)) (a b : CycleId × Rule) → SaysClosing words a.0 a.1 → SaysClosing words b.0 b.1 → (a.0 ≡ b.0) × (a.1 ≡ b.1)
+closing-one words a b x y =
+    let same = sym x.are ∙ y.are in
+    let days : x.day ≡ y.day = cc in
+    let cycles : x.cycle ≡ y.cycle = cc in
+    let others : x.others ≡ y.others = cc in
+    let day = day-one x.day y.day a.0.day b.0.day days x.is_day y.is_day in
+    let cycle = number-one _ x.cycle y.cycle a.0.cycle b.0.cycle cycles x.is_cycle y.is_cycle in
+    let rule = rule_after-one y.others a.1 b.1 (subst (λ (ws : List (List ℕ)). IsRuleAfter ws a.1) others x.is_rule) y.is_rule in
+    (λ i. record { day = day i; cycle = cycle i }, rule)
+
 count-one : (words : List (List ℕ)) (a b : ℕ) → SaysCount words a → SaysCount words b → a ≡ b
 count-one words a b x y =
     let same = sym x.are ∙ y.are in
@@ -122,17 +151,25 @@ body-one a b e =
 
 -- ---- lines
 
+pub call-one : (verb : Verb) (words : List (List ℕ)) (a b : Call) → SaysCall verb words a → SaysCall verb words b → a ≡ b
+call-one verbs.Contract words a b x y = x.1 ∙ ap calls.Contract (contract-one words x.0 y.0 x.2 y.2) ∙ sym y.1
+call-one verbs.Notice words a b x y = x.1 ∙ ap calls.Notice (notice-one words x.0 y.0 x.2 y.2) ∙ sym y.1
+call-one verbs.Submit words a b x y = x.1 ∙ ap calls.Submit (body-one x.0 y.0 (sym x.2 ∙ y.2)) ∙ sym y.1
+call-one verbs.Close words a b x y =
+    let same = closing-one words x.0 y.0 x.2 y.2 in x.1 ∙ (λ i. calls.Close (same.0 i) (same.1 i)) ∙ sym y.1
+call-one verbs.Resend words a b x y = x.1 ∙ ap calls.Resend (cycle-one words x.0 y.0 x.2 y.2) ∙ sym y.1
+call-one verbs.Halt words a b x y = x.0 ∙ sym y.0
+call-one verbs.Deliver words a b x y = x.1 ∙ ap calls.Deliver (body-one x.0 y.0 (sym x.2 ∙ y.2)) ∙ sym y.1
+call-one verbs.Save words a b x y = absurd x
+call-one verbs.Restart words a b x y = absurd x
+call-one verbs.Carry words a b x y = absurd x
+
 says-one : (verb : Verb) (side : Side) (words : List (List ℕ)) (a b : Instruction) → Says verb side words a → Says verb side words b → a ≡ b
-says-one verbs.Contract side words a b x y = x.1 ∙ ap (λ c. instructions.Call side (calls.Contract c)) (contract-one words x.0 y.0 x.2 y.2) ∙ sym y.1
-says-one verbs.Notice side words a b x y = x.1 ∙ ap (λ c. instructions.Call side (calls.Notice c)) (notice-one words x.0 y.0 x.2 y.2) ∙ sym y.1
-says-one verbs.Submit side words a b x y = x.1 ∙ ap (λ c. instructions.Call side (calls.Submit c)) (body-one x.0 y.0 (sym x.2 ∙ y.2)) ∙ sym y.1
-says-one verbs.Close side words a b x y = x.1 ∙ ap (λ c. instructions.Call side (calls.Close c)) (cycle-one words x.0 y.0 x.2 y.2) ∙ sym y.1
-says-one verbs.Resend side words a b x y = x.1 ∙ ap (λ c. instructions.Call side (calls.Resend c)) (cycle-one words x.0 y.0 x.2 y.2) ∙ sym y.1
-says-one verbs.Halt side words a b x y = x.0 ∙ sym y.0
 says-one verbs.Save side words a b x y = x.1 ∙ ap (instructions.Save side) (count-one words x.0 y.0 x.2 y.2) ∙ sym y.1
 says-one verbs.Deliver side words a b x y = x.1 ∙ ap (instructions.Deliver side) (figure-one words x.0 y.0 x.2 y.2) ∙ sym y.1
 says-one verbs.Restart side words a b x y = x.1 ∙ ap (instructions.Restart side) (figure-one words x.0 y.0 x.2 y.2) ∙ sym y.1
 says-one verbs.Carry side words a b x y = x.0 ∙ sym y.0
+says-one verb side words a b x y = x.1 ∙ ap (instructions.Call side) (call-one verb words x.0 y.0 x.2 y.2) ∙ sym y.1
 
 command-one : (words : List (List ℕ)) (a b : Instruction) → SaysCommand words a → SaysCommand words b → a ≡ b
 command-one words a b x y =

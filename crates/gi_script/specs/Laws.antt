@@ -1,12 +1,17 @@
--- What holds of all scripts.
+-- What holds of all scripts, and of all requests.
 use Rattle.std.specs.Prelude.{◌≡◌, ℕ, List}
-use Rattle.gi_script.specs.Grammar.{Spells}
+use Rattle.gi_desk.specs.declared.call.Call.{Call}
+use Rattle.gi_script.specs.Grammar.{Asks, Spells}
 use Rattle.gi_script.specs.Script.{IsOfficeScript, IsScript, ScriptContents}
 use Rattle.gi_script.specs.declared.instruction.Instruction.{Instruction}
 
 -- a line spells one instruction at most
 abbrev pub IsOneInstruction : Type 0
 IsOneInstruction = (line : List ℕ) (a b : Instruction) → Spells line a → Spells line b → a ≡ b
+
+-- a line asks for one call at most
+abbrev pub IsOneRequest : Type 0
+IsOneRequest = (line : List ℕ) (a b : Call) → Asks line a → Asks line b → a ≡ b
 
 -- bytes are one script at most
 abbrev pub IsOneScript : Type 0

@@ -1,10 +1,11 @@
 pub mod Words
-pub mod WordsKept
+pub mod WordsRepr
 pub mod Numbers
 pub mod Verb
 pub mod Grammar
+pub mod RuleText
 pub mod Script
 pub mod FaultText
 pub mod Reading
-pub mod LinesKept
+pub mod LinesRepr
 pub mod Laws

@@ -1,4 +1,4 @@
--- What the parts of a script are read as.
+-- What the parts of a script, and requests, are read as.
 use Rattle.std.specs.Prelude.{◌≡◌, ℕ, List, ◌∷◌, Option, Some, None, Result, Ok, Err}
 use Rattle.gi_script.specs.declared.fault.LineFault.{LineFault}
 use Rattle.gi_script.specs.declared.fault.LineFault.TheVariants as faults

@@ -1,8 +1,8 @@
-ghost use Rattle.std.specs.Prelude.{◌≡◌, ◌≢◌, Some};
-ghost use Rattle.gi_script.specs.Grammar.{Says, SaysContract, SaysCount, SaysCycle, SaysNotice, SaysNumber};
+ghost use Rattle.std.specs.Prelude.{◌≡◌};
+ghost use Rattle.gi_script.specs.Grammar.{IsRuleAfter, Says, SaysCall, SaysClosing, SaysContract, SaysCount, SaysCycle, SaysNotice, SaysNumber};
 ghost use Rattle.gi_script.specs.Reading.{Finds, Reads};
-ghost use Rattle.gi_script.specs.declared.instruction.Instruction.TheVariants as instructions;
-ghost use Rattle.gi_script.specs.declared.verb.Verb.TheVariants as verbs;
+ghost use Rattle.gi_script.specs.Words.{words_of};
+ghost use Rattle.gi_desk.specs.declared.call.Call.TheVariants as calls;
 
 use crate::fault::LineFault;
 use crate::instruction::Instruction;
@@ -10,7 +10,7 @@ use crate::verb::Verb;
 use crate::words::Words;
 use gi_desk::{Body, Call};
 use gi_pairs::{CycleId, Side};
-use gi_processing::{Contract, Notice};
+use gi_processing::{Contract, Notice, Rule};
 use std::alloc::Global;
 
 fn contract(mut words: Words<'_>) -> Option<Contract>
@@ -66,6 +66,37 @@ fn cycle(mut words: Words<'_>) -> Option<CycleId>
     Some(CycleId { day, cycle })
 }
 
+fn rule(mut words: Words<'_>) -> Option<Rule>
+    ensures { Finds (IsRuleAfter words.entry) result }
+{
+    if words.is_empty() {
+        return Some(Rule::Two);
+    }
+    let rule = words.rule()?;
+    if !words.is_empty() {
+        return None;
+    }
+    Some(rule)
+}
+
+fn closing(mut words: Words<'_>) -> Option<(CycleId, Rule)>
+    ensures { Finds (λ closing. SaysClosing words.entry closing.0 closing.1) result }
+{
+    let day = words.day()?;
+    let cycle = words.byte()?;
+    let rule = rule(words)?;
+    Some((CycleId { day, cycle }, rule))
+}
+
+fn close(closing: (CycleId, Rule)) -> Call
+    ensures { result ≡ calls.Close closing.0 closing.1 }
+{
+    Call::Close {
+        id: closing.0,
+        rule: closing.1,
+    }
+}
+
 fn count(mut words: Words<'_>) -> Option<u32>
     ensures { Finds (SaysCount words.entry) result }
 {
@@ -86,40 +117,8 @@ fn number(mut words: Words<'_>) -> Option<u32>
     Some(number)
 }
 
-fn plain(side: Side, verb: Verb, words: Words<'_>) -> Option<Instruction>
-    ensures { verb ≢ verbs.Submit → Finds (Says verb side words.entry) result }
-{
-    match verb {
-        Verb::Contract => call(side, Call::Contract(contract(words)?)),
-        Verb::Notice => call(side, Call::Notice(notice(words)?)),
-        Verb::Close => call(side, Call::Close(cycle(words)?)),
-        Verb::Resend => call(side, Call::Resend(cycle(words)?)),
-        Verb::Save => Some(Instruction::Save {
-            side,
-            count: count(words)?,
-        }),
-        Verb::Deliver => Some(Instruction::Deliver {
-            side,
-            packet: number(words)?,
-        }),
-        Verb::Restart => Some(Instruction::Restart {
-            side,
-            keep: number(words)?,
-        }),
-        Verb::Halt if words.is_empty() => call(side, Call::Halt),
-        Verb::Carry if words.is_empty() => Some(Instruction::Carry { side }),
-        Verb::Halt | Verb::Carry | Verb::Submit => None,
-    }
-}
-
-fn call(side: Side, call: Call) -> Option<Instruction>
-    ensures { result ≡ Some (instructions.Call side call) }
-{
-    Some(Instruction::Call { side, call })
-}
-
-fn submission(alloc: Global, side: Side, words: Words<'_>) -> Result<Instruction, LineFault>
-    ensures { Reads (Says verbs.Submit side words.entry) result }
+fn body(alloc: Global, words: Words<'_>) -> Result<Body, LineFault>
+    ensures { Reads (λ body. words.entry ≡ words_of body) result }
 {
     let Some(text) = words.text() else {
         return Err(LineFault::Unreadable);
@@ -127,10 +126,23 @@ fn submission(alloc: Global, side: Side, words: Words<'_>) -> Result<Instruction
     let Ok(bytes) = Vec::from_slice(alloc, text.as_bytes()) else {
         return Err(LineFault::OutOfMemory);
     };
-    Ok(Instruction::Call {
-        side,
-        call: Call::Submit(Body::from(bytes)),
-    })
+    Ok(Body::from(bytes))
+}
+
+/// What `VERB` and the words after it ask of a desk.
+pub fn call(alloc: Global, verb: Verb, words: Words<'_>) -> Result<Call, LineFault>
+    ensures { Reads (SaysCall verb words.entry) result }
+{
+    match verb {
+        Verb::Contract => Ok(Call::Contract(contract(words).ok_or(LineFault::Unreadable)?)),
+        Verb::Notice => Ok(Call::Notice(notice(words).ok_or(LineFault::Unreadable)?)),
+        Verb::Submit => Ok(Call::Submit(body(alloc, words)?)),
+        Verb::Close => Ok(close(closing(words).ok_or(LineFault::Unreadable)?)),
+        Verb::Resend => Ok(Call::Resend(cycle(words).ok_or(LineFault::Unreadable)?)),
+        Verb::Deliver => Ok(Call::Deliver(body(alloc, words)?)),
+        Verb::Halt if words.is_empty() => Ok(Call::Halt),
+        Verb::Halt | Verb::Save | Verb::Restart | Verb::Carry => Err(LineFault::Unreadable),
+    }
 }
 
 /// What `SIDE VERB` and the words after it say.
@@ -142,11 +154,24 @@ pub fn command(
 ) -> Result<Instruction, LineFault>
     ensures { Reads (Says verb side words.entry) result }
 {
-    if verb == Verb::Submit {
-        return submission(alloc, side, words);
-    }
-    match plain(side, verb, words) {
-        Some(instruction) => Ok(instruction),
-        None => Err(LineFault::Unreadable),
+    match verb {
+        Verb::Save => Ok(Instruction::Save {
+            side,
+            count: count(words).ok_or(LineFault::Unreadable)?,
+        }),
+        Verb::Deliver => Ok(Instruction::Deliver {
+            side,
+            packet: number(words).ok_or(LineFault::Unreadable)?,
+        }),
+        Verb::Restart => Ok(Instruction::Restart {
+            side,
+            keep: number(words).ok_or(LineFault::Unreadable)?,
+        }),
+        Verb::Carry if words.is_empty() => Ok(Instruction::Carry { side }),
+        Verb::Carry => Err(LineFault::Unreadable),
+        _ => Ok(Instruction::Call {
+            side,
+            call: call(alloc, verb, words)?,
+        }),
     }
 }

@@ -41,9 +41,9 @@ impl fmt::Display for ScriptFault {
 
 impl Error for ScriptFault {}
 
-/// Why a line is no instruction.
+/// Why a line is no instruction, or no request.
 #[derive(Clone, Copy, Debug, PartialEq, Eq)]
-pub(crate) enum LineFault {
+pub enum LineFault {
     /// The line is of no form.
     Unreadable,
     /// Memory ran out.

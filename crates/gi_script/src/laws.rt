@@ -1,10 +1,15 @@
-//! What holds of all scripts. These functions do nothing; their clauses are the laws.
+//! What holds of all scripts, and of all requests. These functions do nothing; their clauses are the laws.
 
-ghost use Rattle.gi_script.specs.Laws.{IsOneInstruction, IsOneOfficeScript, IsOneScript};
+ghost use Rattle.gi_script.specs.Laws.{IsOneInstruction, IsOneOfficeScript, IsOneRequest, IsOneScript};
 
 /// A line spells one instruction at most.
 pub fn one_instruction()
     ensures { IsOneInstruction }
+{}
+
+/// A line asks for one call at most.
+pub fn one_request()
+    ensures { IsOneRequest }
 {}
 
 /// Bytes are one script at most.

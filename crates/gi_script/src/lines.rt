@@ -1,5 +1,5 @@
 ghost use Rattle.std.specs.Prelude.{◌≡◌, ◌<◌, [], ◌∷◌, length, MatchOption, OnSome};
-ghost use Rattle.gi_script.specs.LinesKept.{IsCounted, left};
+ghost use Rattle.gi_script.specs.LinesRepr.{IsCounted, left};
 ghost use Rattle.gi_script.specs.Script.{lines_of};
 
 use gi_text::split_line;

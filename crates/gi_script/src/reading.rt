@@ -1,6 +1,6 @@
 ghost use Rattle.std.specs.Prelude.{◌≡◌, ◌∷◌, codes, Err, Ok, IfOk, IfErr, MatchResult};
 ghost use Rattle.gi_script.specs.Grammar.{SaysCommand, SaysPlan, Spells, SpellsPoint};
-ghost use Rattle.gi_script.specs.LinesKept.{IsCounted, left};
+ghost use Rattle.gi_script.specs.LinesRepr.{IsCounted, left};
 ghost use Rattle.gi_script.specs.Reading.{Finds, Reads};
 ghost use Rattle.gi_script.specs.Script.{HasNoPoint, IsFault, IsFaultBy, IsLineRead, IsOfficeFault, IsOfficeScript, IsScript, IsScriptBy, IsStopped, ScriptContents, SpellAll, spelling};
 ghost use Rattle.gi_script.specs.declared.fault.ScriptFault.TheVariants.{OutOfMemory, Point};
@@ -13,7 +13,6 @@ use crate::line::Line;
 use crate::lines::Lines;
 use crate::plan::plan;
 use crate::script::Script;
-use crate::verb::verb_named;
 use crate::words::Words;
 use gi_pairs::{Code, Side};
 use std::alloc::Global;
@@ -53,10 +52,7 @@ fn side_command(alloc: Global, first: &str, mut words: Words<'_>) -> Result<Inst
     let Ok(side) = first.parse::<Side>() else {
         return Err(LineFault::Unreadable);
     };
-    let Some(second) = words.next() else {
-        return Err(LineFault::Unreadable);
-    };
-    let Some(verb) = verb_named(second) else {
+    let Some(verb) = words.verb() else {
         return Err(LineFault::Unreadable);
     };
     command(alloc, side, verb, words)

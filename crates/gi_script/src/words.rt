@@ -1,13 +1,16 @@
 ghost use Rattle.std.specs.Prelude.{◌≡◌, ◌∷◌, ◌↔◌, [], IsTrue, MatchOption};
 ghost use Rattle.gi_pairs.specs.Quantity.{most_quantity};
-ghost use Rattle.gi_script.specs.Grammar.{IsCodeWord, IsDayWord, IsDirectionWord, IsSideWord};
+ghost use Rattle.gi_script.specs.Grammar.{IsCodeWord, IsDayWord, IsDirectionWord, IsRuleWord, IsSideWord, IsVerbWord};
 ghost use Rattle.gi_script.specs.Numbers.{IsNumber, IsCount, most_byte, most_permille, most_number};
 ghost use Rattle.gi_script.specs.Reading.{Takes};
 ghost use Rattle.gi_script.specs.Words.{words_of};
 
 use crate::number::number;
+use crate::rule_text::rule_named;
+use crate::verb::{Verb, verb_named};
 use gi_day::GasDay;
 use gi_pairs::{Code, Direction, Quantity, Side};
+use gi_processing::Rule;
 use std::marker::Model;
 
 /// The words of a line that are still to be read: the text that has them, or nothing after the last.
@@ -21,7 +24,7 @@ impl<'a> Model for Words<'a> {
 
     ghost Value = { List (List ℕ) };
 
-    ghost use Rattle.gi_script.specs.WordsKept.{words_left};
+    ghost use Rattle.gi_script.specs.WordsRepr.{words_left};
 
     ghost view = { λ w. words_left w.rest };
 }
@@ -86,11 +89,25 @@ impl<'a> Words<'a> {
         self.next()?.parse::<Side>().ok()
     }
 
+    /// A verb.
+    pub fn verb(&mut self) -> Option<Verb>
+        ensures { Takes IsVerbWord self.old result self.new }
+    {
+        verb_named(self.next()?)
+    }
+
     /// A direction.
     pub fn direction(&mut self) -> Option<Direction>
         ensures { Takes IsDirectionWord self.old result self.new }
     {
         self.next()?.parse::<Direction>().ok()
+    }
+
+    /// A rule: `1` or `2`.
+    pub fn rule(&mut self) -> Option<Rule>
+        ensures { Takes IsRuleWord self.old result self.new }
+    {
+        rule_named(self.next()?)
     }
 
     /// A quantity, in kWh/h.

@@ -3,3 +3,4 @@ mod Agreed
 mod Opened
 mod Unasked
 pub mod Told
+mod Begun

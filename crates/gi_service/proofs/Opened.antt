@@ -10,7 +10,7 @@ use Rattle.gi_commands.specs.declared.fault.Fault.{Fault}
 use Rattle.gi_service.specs.Opening.{IsSideFault}
 use Rattle.gi_service.specs.Stations.{IsStationFault}
 
-of_store : (side : Side) (point : List ℕ) (why : StoreFault) → IsStationFault side point (store_fault why)
+pub of_store : (side : Side) (point : List ℕ) (why : StoreFault) → IsStationFault side point (store_fault why)
 of_store side point store.Version = tt
 of_store side point (store.Gap n) = tt
 of_store side point (store.Damaged n) = tt

@@ -5,7 +5,7 @@ use Rattle.std.specs.Io.KnownBytes.{Keeps}
 use Rattle.clap.specs.Words.{HasKind, IsAmong, kind_of}
 use Rattle.clap.specs.declared.error.Error.{Error}
 use Rattle.clap.specs.declared.error.kind.ErrorKind.TheVariants as kind
-use Rattle.gi_command_line.specs.Asked.{Wanted, about_book, at_once, audit, explain, hours, match_tables, mistaken, report, serve, simulate}
+use Rattle.gi_command_line.specs.Asked.{Wanted, about_book, at_once, audit, explain, hours, match_tables, mistaken, office, report, serve, simulate}
 use Rattle.gi_command_line.specs.CommandLine.{IsMistaken, objections}
 use Rattle.gi_table_commands.specs.Match.{IsFirstFault}
 use Rattle.gi_table_commands.specs.declared.fault.Fault.TheVariants as table
@@ -33,6 +33,7 @@ may_want from (at_once (audit initiating matching point)) remaining = tt
 may_want from (at_once (about_book file expected)) remaining = tt
 may_want from (at_once mistaken) remaining = inr refl
 may_want from (serve service) remaining = if_some remaining (λ input. IsFirstServeFault service.sessions input (Command fault.OutOfMemory)) (λ input. inl tt)
+may_want from (office run) remaining = inr tt
 
 -- each command may have read nothing
 pub may_leave : (wanted : Wanted) (remaining : Option (List ℕ)) → MayReadTask wanted remaining remaining
@@ -47,6 +48,7 @@ may_leave (at_once (audit initiating matching point)) remaining = keeps_same rem
 may_leave (at_once (about_book file expected)) remaining = keeps_same remaining
 may_leave (at_once mistaken) remaining = keeps_same remaining
 may_leave (serve service) remaining = tt
+may_leave (office run) remaining = tt
 
 -- and where memory ran out, each command may have written nothing
 pub may_keep : (from : Source) (wanted : Wanted) (remaining old new : Option (List ℕ)) → Keeps old new → LeavesTask from wanted remaining old new (Command fault.OutOfMemory)
@@ -59,6 +61,7 @@ may_keep from (at_once (audit initiating matching point)) remaining old new kept
 may_keep from (at_once (about_book file expected)) remaining old new kept = kept
 may_keep from (at_once mistaken) remaining old new kept = kept
 may_keep from (serve service) remaining old new kept = kept
+may_keep from (office run) remaining old new kept = kept
 
 -- words that ask for no command are told as that, or memory ran out
 abbrev pub IsNoCommand : ProgramFault → Type 0

@@ -1,4 +1,5 @@
 pub mod KeptFrom
+pub mod Living
 pub mod Stations
 pub mod Opening
 pub mod Standing

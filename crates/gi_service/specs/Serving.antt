@@ -12,7 +12,7 @@ use Rattle.gi_commands.specs.declared.fault.Fault.TheVariants as fault
 use Rattle.gi_serving.specs.Ending.{IsOver}
 use Rattle.gi_serving.specs.declared.serve_fault.ServeFault.{ServeFault}
 use Rattle.gi_service.specs.declared.program_fault.ProgramFault.{ProgramFault}
-use Rattle.gi_service.specs.declared.program_fault.ProgramFault.TheVariants.{Closed, Command, Served}
+use Rattle.gi_service.specs.declared.program_fault.ProgramFault.TheVariants.{Closed, Command, Live, Served}
 use Rattle.gi_service.specs.Pasts.{IsPastsFault}
 use Rattle.gi_service.specs.Standing.{IsPrefixFault}
 use Rattle.gi_service.specs.Stations.{IsStationFault}
@@ -67,6 +67,7 @@ abbrev pub IsFirstServeFault : ℕ → List ℕ → ProgramFault → Type 0
 IsFirstServeFault sessions input (Command fault.Write) = (text : List ℕ) × (end : End) × IsServedText sessions input text end
 IsFirstServeFault sessions input (Command why) = IsTextFault input why
 IsFirstServeFault sessions input (Served why) = (text : List ℕ) × IsServedText sessions input text (Err why)
+IsFirstServeFault sessions input (Live why) = ⊥
 IsFirstServeFault sessions input (Closed why) = (text : List ℕ) × IsServedText sessions input text (Ok tt)
 
 -- why a text is not told well: the writer failed; or the text is written and tells of a run that ended by a fault, or of one that ended
@@ -75,6 +76,7 @@ abbrev pub IsToldFault : List ℕ → End → Result (Unit {0}) StoreFault → O
 IsToldFault text end closed old new (Command fault.Write) = Unit {0}
 IsToldFault text end closed old new (Command _) = ⊥
 IsToldFault text end closed old new (Served why) = (end ≡ Err why) × Appends old new text
+IsToldFault text end closed old new (Live why) = ⊥
 IsToldFault text end closed old new (Closed why) = (end ≡ Ok tt) × (closed ≡ Err why) × Appends old new text
 
 -- ---- what is written
@@ -89,5 +91,6 @@ LeavesServed sessions remaining old new (Command fault.Write) = Unit {0}
 LeavesServed sessions remaining old new (Command why) = Keeps old new
 LeavesServed sessions remaining old new (Served why) =
     IfSome remaining (λ input. (text : List ℕ) × IsServedText sessions input text (Err why) × Appends old new text)
+LeavesServed sessions remaining old new (Live why) = ⊥
 LeavesServed sessions remaining old new (Closed why) =
     IfSome remaining (λ input. (text : List ℕ) × IsServedText sessions input text (Ok tt) × Appends old new text)

@@ -1,32 +1,37 @@
 -- What the program does of all that can be asked of it, and its faults.
 use Rattle.std.specs.Prelude.{ℕ, List, Option, IfSome}
-use Rattle.gi_command_line.specs.Asked.{Wanted, at_once, serve}
+use Rattle.gi_command_line.specs.Asked.{Wanted, at_once, office, serve}
+use Rattle.gi_pairs.specs.Code.{IsCode}
 use Rattle.gi_commands.specs.Commands.{Does, HasNoCode, IsFaultOf, Leaves, MayRead}
 use Rattle.gi_commands.specs.Fault.{no_code}
 use Rattle.gi_commands.specs.Leaving.{LeavesNothing}
 use Rattle.gi_store.specs.Source.{Source}
+use Rattle.gi_service.specs.Living.{IsFirstOfficeFault, LeavesOffice, RunsOffice}
 use Rattle.gi_service.specs.Serving.{IsFirstServeFault, LeavesServed, Serves}
 use Rattle.gi_service.specs.declared.program_fault.ProgramFault.{ProgramFault}
 use Rattle.gi_service.specs.declared.program_fault.ProgramFault.TheVariants.{Command}
 
--- `from` says what may come of reading a book, by its file's name; `serve` opens its books by itself.
+-- `from` says what may come of reading a book, by its file's name; `serve` and `office` open their books by themselves.
 
 -- what is asked for is what the output gains; of what the reader has left, where it tells that
 abbrev pub DoesTask : Source → Wanted → Option (List ℕ) → Option (List ℕ) → Option (List ℕ) → Type 0
 DoesTask from (at_once asked) remaining old new = Does from asked remaining old new
 DoesTask from (serve service) remaining old new = IfSome remaining (λ input. Serves service.sessions input old new)
+DoesTask from (office run) remaining old new = RunsOffice run.side remaining old new
 
 -- the first fault
 abbrev pub IsTaskFault : Source → Wanted → Option (List ℕ) → ProgramFault → Type 0
 IsTaskFault from (at_once asked) remaining (Command why) = IsFaultOf from asked remaining why
 IsTaskFault from (at_once asked) remaining _ = ⊥
 IsTaskFault from (serve service) remaining why = IfSome remaining (λ input. IsFirstServeFault service.sessions input why)
+IsTaskFault from (office run) remaining why = IsFirstOfficeFault run.side run.point why
 
 -- what stands on the output after it
 abbrev pub LeavesTask : Source → Wanted → Option (List ℕ) → Option (List ℕ) → Option (List ℕ) → ProgramFault → Type 0
 LeavesTask from (at_once asked) remaining old new (Command why) = Leaves from asked remaining old new why
 LeavesTask from (at_once asked) remaining old new _ = ⊥
 LeavesTask from (serve service) remaining old new why = LeavesServed service.sessions remaining old new why
+LeavesTask from (office run) remaining old new why = LeavesOffice run.side remaining old new why
 
 -- after a fault of a command nothing is written, but where a writer failed
 abbrev pub LeavesNothingBut : Option (List ℕ) → Option (List ℕ) → ProgramFault → Type 0
@@ -37,11 +42,13 @@ LeavesNothingBut old new _ = ⊥
 abbrev pub MayReadTask : Wanted → Option (List ℕ) → Option (List ℕ) → Type 0
 MayReadTask (at_once asked) old new = MayRead asked old new
 MayReadTask (serve service) old new = Unit {0}
+MayReadTask (office run) old new = Unit {0}
 
--- a point is no code, of a report of a book or of an audit, or a portfolio that `explain` names
+-- a point is no code, of a report of a book, of an audit or of an office, or a portfolio that `explain` names
 abbrev pub NamesNoCode : Wanted → Type 0
 NamesNoCode (at_once asked) = HasNoCode asked
 NamesNoCode (serve service) = ⊥
+NamesNoCode (office run) = ¬ (IsCode run.point)
 
 abbrev pub no_task_code : ProgramFault
 no_task_code = Command no_code

@@ -4,6 +4,7 @@
 #![tactic(auto)]
 
 mod dispatching;
+mod living;
 mod places;
 mod program_fault;
 mod progress;
@@ -13,6 +14,7 @@ mod stations;
 mod tasks;
 
 pub use dispatching::dispatch;
+pub use living::run_office;
 pub use program_fault::ProgramFault;
 pub use progress::Progress;
 pub use service::serve_script;

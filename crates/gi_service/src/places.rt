@@ -1,6 +1,10 @@
 //! Where the books of two running offices stand.
 
-ghost use Rattle.std.specs.Prelude.{◌≡◌, IfErr, IfOk, false, string_bytes, true};
+ghost use Rattle.std.specs.Prelude.{◌≡◌, IfErr, IfOk, None, false, string_bytes, true};
+ghost use Rattle.sqlite.specs.Files.{file_state};
+ghost use Rattle.sqlite.specs.State.{HasCleanDisk};
+ghost use Rattle.gi_store.specs.FaultText.{IsOpenRefusal};
+ghost use Rattle.gi_store.specs.Keeping.{IsReady};
 ghost use Rattle.gi_service.specs.Serving.{IsFilesFault};
 ghost use Rattle.gi_service.specs.Standing.{book_name};
 
@@ -128,7 +132,7 @@ fn name_of(rt: &HostRuntime, prefix: &str, side: Side) -> Result<String, AllocEr
 }
 
 /// What is found under the name of a book: by a copy where a file is there, else by the head that is left.
-fn looked_at(rt: &HostRuntime, name: &str, owner: Owner) -> Found {
+pub(crate) fn looked_at(rt: &HostRuntime, name: &str, owner: Owner) -> Found {
     if fs::exists(rt, name).unwrap_or(true) {
         found(FileSource::new(rt).look(name), owner)
     } else {
@@ -214,6 +218,30 @@ impl<'a> InFiles<'a> {
     }
 }
 
+/// Opens a book; where it is in use it is tried for so long.
+fn book_in_time(
+    rt: &HostRuntime,
+    name: &str,
+    side: Side,
+    point: Code,
+    wait: WaitSeconds,
+) -> Result<BookStore<FileStore<File>>, StoreFault>
+    ensures opened { IfOk result (λ book. (book.loaded ≡ None) × (HasCleanDisk (file_state book.connection) → IsReady (record { side = side; point = point }) (file_state book.connection))) }
+    ensures named { IfErr result IsOpenRefusal }
+{
+    let tries = wait.seconds() * TRIES;
+    for tried in 0..=tries {
+        match book_of_file(rt, name, Owner { side, point }) {
+            Err(StoreFault::Busy) if tried < tries => {
+                thread::sleep(rt, Duration::from_millis(100));
+            }
+            Ok(book) => return Ok(book),
+            Err(fault) => return Err(fault),
+        }
+    }
+    Err(StoreFault::Busy)
+}
+
 impl Place for InFiles<'_> {
     ghost use Rattle.std.specs.Prelude.{◌≡◌, ◌⊎◌, None};
     ghost use Rattle.sqlite.specs.Files.{file_state};
@@ -232,19 +260,8 @@ impl Place for InFiles<'_> {
     ghost refuses = { λ _ side fault. IsOpenRefusal fault ⊎ IsKeepingFault fault };
 
     fn book(&self, side: Side) -> Result<BookStore<FileStore<File>>, StoreFault> {
-        let name = self.name(side);
         let point = self.point;
-        let tries = self.wait.seconds() * TRIES;
-        for tried in 0..=tries {
-            match book_of_file(self.rt, name, Owner { side, point }) {
-                Err(StoreFault::Busy) if tried < tries => {
-                    thread::sleep(self.rt, Duration::from_millis(100));
-                }
-                Ok(book) => return Ok(book),
-                Err(fault) => return Err(fault),
-            }
-        }
-        Err(StoreFault::Busy)
+        book_in_time(self.rt, self.name(side), side, point, self.wait)
     }
 
     fn keep(
@@ -254,5 +271,46 @@ impl Place for InFiles<'_> {
         facts: &[Fact],
     ) -> Result<(), StoreFault> {
         head_of_file(self.rt, book, self.name(side), facts)
+    }
+}
+
+/// The book of one side in a file by itself.
+#[derive(Drop)]
+pub(crate) struct InFile<'a> {
+    pub(crate) rt: &'a HostRuntime,
+    pub(crate) file: &'a str,
+    pub(crate) point: Code,
+    /// How long to try where the book is in use.
+    pub(crate) wait: WaitSeconds,
+}
+
+impl Place for InFile<'_> {
+    ghost use Rattle.std.specs.Prelude.{◌≡◌, ◌⊎◌, None};
+    ghost use Rattle.sqlite.specs.Files.{file_state};
+    ghost use Rattle.sqlite.specs.State.{HasCleanDisk};
+    ghost use Rattle.gi_store.specs.FaultText.{IsKeepingFault, IsOpenRefusal};
+    ghost use Rattle.gi_store.specs.Heads.{head_kept};
+    ghost use Rattle.gi_store.specs.Keeping.{IsReady};
+
+    type Store = FileStore<File>;
+
+    ghost opens = { λ place side book. (book.loaded ≡ None) × (HasCleanDisk (file_state book.connection) → IsReady (record { side = side; point = place.point }) (file_state book.connection)) };
+
+    ghost keeps = { λ _ _ facts book. book.head ≡ head_kept book.loaded facts };
+
+    ghost refuses = { λ _ side fault. IsOpenRefusal fault ⊎ IsKeepingFault fault };
+
+    fn book(&self, side: Side) -> Result<BookStore<FileStore<File>>, StoreFault> {
+        let point = self.point;
+        book_in_time(self.rt, self.file, side, point, self.wait)
+    }
+
+    fn keep(
+        &self,
+        _side: Side,
+        book: &mut BookStore<FileStore<File>>,
+        facts: &[Fact],
+    ) -> Result<(), StoreFault> {
+        head_of_file(self.rt, book, self.file, facts)
     }
 }

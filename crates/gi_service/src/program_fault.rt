@@ -1,8 +1,9 @@
 ghost use Rattle.std.specs.Prelude.{◌≡◌};
-ghost use Rattle.gi_service.specs.Status.{program_status, serve_status};
+ghost use Rattle.gi_service.specs.Status.{live_status, program_status, serve_status, turn_status};
 
 use gi_commands::Fault;
 use gi_desk::Refusal;
+use gi_live::LiveFault;
 use gi_office::{OfficeFault, SaveFault, Unreconciled};
 use gi_serving::ServeFault;
 use gi_store::StoreFault;
@@ -18,7 +19,10 @@ pub enum ProgramFault {
     /// Two running offices did not serve their script to its end, or not well.
     #[error(transparent)]
     Served(ServeFault),
-    /// They did, and then one of their books could not be closed.
+    /// One running office came to an end before its lines did, or not well.
+    #[error(transparent)]
+    Live(LiveFault),
+    /// What had a book in a file ended well, and then the book could not be closed.
     #[error(transparent)]
     Closed(StoreFault),
 }
@@ -34,17 +38,33 @@ impl From<TableFault> for ProgramFault {
     }
 }
 
+fn status_of_turn(fault: &SaveFault) -> u8
+    ensures { result ≡ turn_status fault.now }
+{
+    match fault {
+        SaveFault::Store(StoreFault::OutOfMemory) => 4,
+        SaveFault::Store(_) => 3,
+        SaveFault::Office(OfficeFault::OutOfMemory) => 4,
+        SaveFault::Marked(Refusal::OutOfMemory) => 4,
+        _ => 1,
+    }
+}
+
+fn status_of_live(fault: &LiveFault) -> u8
+    ensures { result ≡ live_status fault.now }
+{
+    match fault {
+        LiveFault::Turn(fault) => status_of_turn(fault),
+        LiveFault::OutOfMemory => 4,
+        _ => 1,
+    }
+}
+
 fn status_of_served(fault: &ServeFault) -> u8
     ensures { result ≡ serve_status fault.now }
 {
     match fault {
-        ServeFault::Turn(fault) => match fault {
-            SaveFault::Store(StoreFault::OutOfMemory) => 4,
-            SaveFault::Store(_) => 3,
-            SaveFault::Office(OfficeFault::OutOfMemory) => 4,
-            SaveFault::Marked(Refusal::OutOfMemory) => 4,
-            _ => 1,
-        },
+        ServeFault::Turn(fault) => status_of_turn(fault),
         ServeFault::Unreconciled(Unreconciled::OutOfMemory) => 4,
         ServeFault::OutOfMemory => 4,
         _ => 1,
@@ -60,6 +80,7 @@ impl ProgramFault {
         match self {
             ProgramFault::Command(fault) => fault.status(),
             ProgramFault::Served(fault) => status_of_served(fault),
+            ProgramFault::Live(fault) => status_of_live(fault),
             ProgramFault::Closed(StoreFault::OutOfMemory) => 4,
             ProgramFault::Closed(_) => 3,
         }

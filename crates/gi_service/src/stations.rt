@@ -30,7 +30,7 @@ use std::sync::Wait;
 use std::thread::Threads;
 
 /// The desk of a side, and the book that it is replayed from.
-fn station<R: Role, P: Place>(
+pub(crate) fn station<R: Role, P: Place>(
     alloc: Global,
     point: Code,
     place: &P,

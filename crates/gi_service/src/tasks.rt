@@ -2,6 +2,7 @@ ghost use Rattle.std.specs.Prelude.{◌≡◌, IfErr, OnOk, Err};
 ghost use Rattle.gi_command_line.specs.Asked.{task_meaning};
 ghost use Rattle.gi_service.specs.Tasks.{DoesTask, IsTaskFault, LeavesTask, MayReadTask, NamesNoCode, no_task_code};
 
+use crate::living::run_office;
 use crate::program_fault::ProgramFault;
 use crate::service::serve_script;
 use gi_command_line::Task;
@@ -12,8 +13,8 @@ use std::io::{Read, Write};
 use std::sync::Wait;
 use std::thread::Threads;
 
-/// Does what a command line asks for, and answers the fault, if any: see `perform` and
-/// `serve_script`. All but `serve` read books from `books`.
+/// Does what a command line asks for, and answers the fault, if any: see `perform`,
+/// `serve_script` and `run_office`. All but `serve` and `office` read books from `books`.
 pub fn perform_task<B: BookSource, R: Read, W: Write, T: Threads + Wait + Sync, V: Watch>(
     rt: &HostRuntime,
     threads: &T,
@@ -42,5 +43,6 @@ pub fn perform_task<B: BookSource, R: Read, W: Write, T: Threads + Wait + Sync, 
             Err(fault) => Err(ProgramFault::Command(fault)),
         },
         Task::Serve(service) => serve_script(rt, threads, watch, service, input, output),
+        Task::Office(run) => run_office(rt, threads, run, input, output),
     }
 }

@@ -29,7 +29,7 @@
 //! the order between two. A step is told by its [`Word`], without numbers of facts and packets, which
 //! depend on how the threads came to the lock. [`close_both`] ends it: each office settles as `gi_office`
 //! says, the two are reconciled, and the last lines tell what came of it; [`ServeFault`] is why it did
-//! not end well. A [`Watch`] is told how far a run is.
+//! not end well. A [`Watch`] is told how far a run is. Who drives one office by itself has [`called`] and [`saved_all`].
 #![tactic(auto)]
 
 mod assigning;
@@ -51,7 +51,9 @@ mod word;
 
 pub use assigning::sessions_of;
 pub use closing::{Closed, close_both};
+pub use running::{called, saved_all};
 pub use serve_fault::ServeFault;
 pub use serving::{Served, serve};
+pub use turns::Turns;
 pub use watch::Watch;
 pub use word::Word;

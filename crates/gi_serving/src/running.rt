@@ -39,8 +39,8 @@ pub(crate) struct Running<R: Role, L: Ledger, B: Drop> {
     pub(crate) way: Link,
 }
 
-/// A mark is not made: turns alone make those.
-fn called<R: Role, L: Ledger, W: Wait>(
+/// Makes a call from the seat. A mark is not made: turns alone make those.
+pub fn called<R: Role, L: Ledger, W: Wait>(
     rt: &W,
     office: &Office<R, L>,
     seat: Seat<L>,
@@ -54,7 +54,7 @@ fn called<R: Role, L: Ledger, W: Wait>(
         Call::Contract(contract) => office.contract(rt, seat, contract),
         Call::Notice(notice) => office.notice(rt, seat, notice),
         Call::Submit(body) => office.submit(rt, seat, body),
-        Call::Close(id) => office.close_cycle(rt, seat, id),
+        Call::Close { id, rule } => office.close_cycle(rt, seat, id, rule),
         Call::Deliver(body) => office.deliver(rt, seat, body),
         Call::Resend(id) => office.resend(rt, seat, id),
         Call::Halt => office.halt(rt, seat),
@@ -81,7 +81,7 @@ fn word_of(answer: Option<Result<Receipt, OfficeFault>>) -> Result<Option<Word>,
 }
 
 /// Turns, until one saves nothing, as where all is saved or the desk is halted, or answers a fault.
-fn saved_all<R: Role, L: Ledger, B: Turns, W: Wait>(
+pub fn saved_all<R: Role, L: Ledger, B: Turns, W: Wait>(
     rt: &W,
     office: &Office<R, L>,
     book: &mut B,

@@ -140,7 +140,7 @@ fn step<
     ensures theirs { OnOk result (AreSamePlaces both.old.matching.seats.items both.new.matching.seats.items) }
     ensures made { OnOk result (AddsFirst both.old.sessions lines.now (max batch 1)
         (offices_of both.old.initiating both.old.matching) (string_bytes text.old) (string_bytes text.new) (offices_of both.new.initiating both.new.matching)) }
-    ensures kept { OnErr result (string_bytes text.new ≡ string_bytes text.old) }
+    ensures unchanged { OnErr result (string_bytes text.new ≡ string_bytes text.old) }
     ensures cut { IfErr result (λ fault. IsCut (Err fault)) }
     ensures well { OnOk result (BothGoWell (B.takes I) (C.takes M) both.old.initiating.book both.old.matching.book both.new.initiating.book both.new.matching.book) }
     ensures tells { IfErr result (TellsTurns (B.takes I) (C.takes M) both.old.initiating.book both.old.matching.book both.new.initiating.book both.new.matching.book) }

@@ -18,7 +18,7 @@ fn add_line(
     word: Word,
 ) -> Result<(), AllocError>
     ensures added { OnOk result (string_bytes text.new ≡ string_bytes text.old ++ step_line number side word) }
-    ensures kept { OnErr result (string_bytes text.new ≡ string_bytes text.old) }
+    ensures unchanged { OnErr result (string_bytes text.new ≡ string_bytes text.old) }
 {
     let line = format!(in alloc; "{number} {side} {word}\n")?;
     text.push_str(line.as_str())

@@ -14,7 +14,7 @@ use std::sync::ledger::Ledger;
 /// A book. What it holds once it is loaded, and what a turn makes of it, the ghost members say: no contract
 /// of this crate but those of its impl and of `serve` looks further into it. The books of both offices are
 /// of two types here, so that none stands in the other's place.
-pub(crate) trait Turns {
+pub trait Turns {
     ghost use Rattle.std.specs.Prelude.{◌≡◌, IfErr, List, OnOk, Result};
     ghost use Rattle.gi_facts.specs.declared.fact.Fact.{Fact};
     ghost use Rattle.gi_office.specs.Keeping.{SeatState};

@@ -63,14 +63,14 @@ impl Link {
     /// Sets the plan; the position stays. Where memory runs out it is as it was.
     pub fn set(&mut self, plan: &Plan) -> Result<(), AllocError>
         ensures next { OnOk result (self.new ≡ record { carrier = self.old.carrier; plan = plan.now }) }
-        ensures kept { OnErr result (self.new ≡ self.old) }
+        ensures unchanged { OnErr result (self.new ≡ self.old) }
     {
         self.plan = plan_of(self.alloc, plan.as_slice())?;
         Ok(())
     }
 
     fn send(&mut self, message: Vec<u8>) -> Result<(), AllocError>
-        ensures kept { OnErr result (self.new ≡ self.old) }
+        ensures unchanged { OnErr result (self.new ≡ self.old) }
         ensures sent { OnOk result (self.new ≡ with_message self.old message.items) }
         ensures room { OnErr result (length self.old.carrier.waiting < most_waiting) }
     {
@@ -81,7 +81,7 @@ impl Link {
     }
 
     fn send_packet(&mut self, packet: Packet) -> Result<(), AllocError>
-        ensures kept { OnErr result (self.new ≡ self.old) }
+        ensures unchanged { OnErr result (self.new ≡ self.old) }
         ensures sent { OnOk result (self.new ≡ with_packet self.old packet) }
         ensures room { OnErr result (length self.old.carrier.waiting < most_waiting) }
         ensures for_peer { OnErr result (is_for_peer packet ≡ true) }
@@ -109,7 +109,7 @@ impl Link {
     pub fn next(&mut self) -> Result<Option<Vec<u8>>, AllocError>
         ensures given { IfOk result (λ message. option_map bytes_of message ≡ given self.old.plan self.old.carrier) }
         ensures next { OnOk result (self.new ≡ moved_on self.old) }
-        ensures kept { OnErr result (self.new ≡ self.old) }
+        ensures unchanged { OnErr result (self.new ≡ self.old) }
     {
         self.carrier.next(&self.plan)
     }

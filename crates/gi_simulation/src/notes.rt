@@ -16,5 +16,5 @@ pub(crate) trait Notes {
     /// is noted.
     fn note(&mut self, line: &Line, outcome: Option<Outcome>, lines: &str) -> Result<(), AllocError>
         ensures noted { OnOk result (self.new ≡ noting self.old line.now outcome lines.now) }
-        ensures kept { OnErr result (self.new ≡ self.old) };
+        ensures unchanged { OnErr result (self.new ≡ self.old) };
 }

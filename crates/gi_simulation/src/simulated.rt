@@ -50,7 +50,7 @@ pub fn simulate(alloc: Global, script: Script, trace: bool) -> Result<Simulated,
     };
     let mut text = Text::new(alloc);
     let complete = run(&mut simulation, script.into_lines(), &mut text, trace).is_ok();
-    simulation.known();
+    simulation.reveal_invariant();
     Ok(Simulated {
         simulation,
         text: text.into_string(),

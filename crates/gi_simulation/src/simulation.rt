@@ -121,7 +121,7 @@ impl Simulation {
         &self.world
     }
 
-    pub(crate) fn known(&self)
+    pub(crate) fn reveal_invariant(&self)
         ensures { IsSound self.now × AllIsDelivered self.now }
     {
         let _ = self.world();
@@ -129,7 +129,7 @@ impl Simulation {
 
     fn set(&mut self, side: Side, plan: &Plan) -> Result<(), AllocError>
         ensures next { OnOk result (self.new ≡ with_link side (record { carrier = (link_to side self.old).carrier; plan = plan.now }) self.old) }
-        ensures kept { OnErr result (self.new ≡ self.old) }
+        ensures unchanged { OnErr result (self.new ≡ self.old) }
     {
         match side {
             Side::I => self.to_initiating.set(plan),
@@ -140,7 +140,7 @@ impl Simulation {
     fn next(&mut self, side: Side) -> Result<Option<Vec<u8>>, AllocError>
         ensures given { IfOk result (λ message. option_map bytes_of message ≡ given (link_to side self.old).plan (link_to side self.old).carrier) }
         ensures next { OnOk result (self.new ≡ with_link side (moved_on (link_to side self.old)) self.old) }
-        ensures kept { OnErr result (self.new ≡ self.old) }
+        ensures unchanged { OnErr result (self.new ≡ self.old) }
     {
         match side {
             Side::I => self.to_initiating.next(),
@@ -293,7 +293,7 @@ impl Simulation {
         ensures delivers { AllIsDelivered self.old }
         ensures world { OnErr result ((self.new.world ≡ self.old.world) ⊎ (self.new.world ≡ (after self.old instruction.now).world)) }
     {
-        self.known();
+        self.reveal_invariant();
         let mut lines = self.carried(instruction, trace)?;
         let Some(step) = self.prepare(instruction)? else {
             return Ok((without_step(instruction), lines));

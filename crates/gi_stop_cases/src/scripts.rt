@@ -3,7 +3,7 @@
 use gi_calls::Fault;
 use gi_desk::{Body, Call};
 use gi_pairs::{Code, CycleId, Direction, Quantity};
-use gi_processing::{Contract, Notice};
+use gi_processing::{Contract, Notice, Rule};
 use std::alloc::Global;
 use std::fmt::Write;
 
@@ -79,7 +79,10 @@ impl Script {
         Some(match number {
             0 => Call::Contract(self.contract),
             1 => Call::Submit(self.document.copy().ok()?),
-            2 => Call::Close(self.id),
+            2 => Call::Close {
+                id: self.id,
+                rule: Rule::Two,
+            },
             3 => Call::Resend(self.id),
             4 => Call::Notice(Notice {
                 day: self.id.day,

@@ -22,7 +22,7 @@ use Rattle.gi_store.specs.Tables.{HasOwnerTable, HasTables, book_table, facts_ta
 use Rattle.gi_store.specs.Rows.{facts_in}
 use Rattle.gi_store.specs.Order.{ArePutInOrder}
 use Rattle.gi_store.specs.Facts.{IsReadFault}
-use Rattle.gi_store.specs.Keeping.{IsFirstBook, Keeps}
+use Rattle.gi_store.specs.Keeping.{IsBook, Keeps}
 use Rattle.gi_store.specs.Book.{IsLoadCaused}
 use Rattle.gi_store.specs.Failing.{HasFailed, Endures, IsFirst, HaveOwnTrees, HasOwnTree, FailsToRead, IsCaused, IsCausedAtAll}
 use Rattle.gi_store.proofs.Texts.{read_version, read_name, read_facts, version_query, facts_query, IsQuery, IsWhole}
@@ -73,6 +73,10 @@ at_all_later a b c Store p up same (inl read) = inl (reads_later a b c p up same
 at_all_later a b c Store p up same (inr shared) = inr (subst (λ (d : Database). ¬ HasOwnTree d.schema) same shared)
 at_all_later a b c _ p up same h = tt
 
+pub caused_later : (a b c : State) {X : Type 0} (r : Result X StoreFault) → Endures a b → IsTrue b.is_open → b.now ≡ a.now → IfErr r (IsCausedAtAll b c) → IfErr r (IsCausedAtAll a c)
+caused_later a b c (Ok x) p up same h = tt
+caused_later a b c (Err fault) p up same h = at_all_later a b c fault p up same h
+
 -- ---- a load
 
 pub load_later : (a b c : State) (fault : StoreFault) → Endures a b → Keeps a b → IsTrue b.is_open → IsCaused b c fault → IsLoadCaused a c fault
@@ -83,17 +87,17 @@ pub load_at_once : (a b : State) (fault : StoreFault) → IsCaused a b fault →
 load_at_once a b Store h = inl h
 load_at_once a b _ h = tt
 
-stops : (a c : State) (rows : List Row) (fault : StoreFault) → IsFirstBook a.now → ArePutInOrder (facts_in a.now) rows → IsReadFault rows fault → IsLoadCaused a c fault
+stops : (a c : State) (rows : List Row) (fault : StoreFault) → IsBook a.now → ArePutInOrder (facts_in a.now) rows → IsReadFault rows fault → IsLoadCaused a c fault
 stops a c rows Store book order h = inr (record { book = book; ordered = rows; order = order; stops = h })
 stops a c rows _ book order h = tt
 
-pub read_failed : (a b c : State) (rows : List Row) {X : Type 0} (r : Result X StoreFault) → Keeps a b → Keeps b c → IsTrue c.is_open → IsFirstBook b.now → ArePutInOrder (facts_in c.now) rows
+pub read_failed : (a b c : State) (rows : List Row) {X : Type 0} (r : Result X StoreFault) → Keeps a b → Keeps b c → IsTrue c.is_open → IsBook b.now → ArePutInOrder (facts_in c.now) rows
     → IfErr r (IsReadFault rows) → IfErr r (IsLoadCaused a c)
 read_failed a b c rows (Ok x) first then up book order h = tt
 read_failed a b c rows (Err fault) first then up book order h =
     let one = first.same (then.was_open up) in
     let two = then.same up in
-    stops a c rows fault (subst (λ (d : Database). IsFirstBook d) one book) (subst (λ (d : Database). ArePutInOrder (facts_in d) rows) (two ∙ one) order) h
+    stops a c rows fault (subst (λ (d : Database). IsBook d) one book) (subst (λ (d : Database). ArePutInOrder (facts_in d) rows) (two ∙ one) order) h
 
 -- ---- the causes
 

@@ -9,7 +9,7 @@ use Rattle.sqlite.proofs.StateLemmas.{survives_then}
 use Rattle.sqlite.proofs.Callers.{survives_begin}
 use Rattle.sqlite_trees.specs.Tree.{Trees}
 use Rattle.sqlite_trees.specs.declared.store.Store.{Ghosts}
-use Rattle.gi_store.specs.Keeping.{AddsName, IsFirstBook, IsMade, KeepsCommitted, MakesNamed, MakesThird, MakesTwo, MayLeave}
+use Rattle.gi_store.specs.Keeping.{AddsName, IsBook, IsMade, IsVersion, KeepsCommitted, MakesNamed, MakesThird, MakesTwo, MayLeave, Raises, SetsVersion}
 use Rattle.sqlite.specs.Effect.{Database}
 use Rattle.gi_store.specs.Tables.{IsFree, TakesOwner}
 use Rattle.gi_store.proofs.Meanings.{makes_two, row_given}
@@ -98,6 +98,19 @@ written_all store start mid last name (Ok k) free survives two third clean =
     (made.0, makes_named (state store start).now (state store mid).now (state store last).now name free (two (omega (arith, survives.clean))).1 made.1)
 written_all store start mid last name (Err e) free survives two third clean = tt
 
+-- an older book is of version 2, and says whose it is
+pub written_older : {D : Type 0} (store : Ghosts D) (start mid last : Held D) (name : List ℕ) (r : Result ℕ Error) → TakesOwner start.schema → (HasCleanDisk (state store start) → IsBook (state store start).now)
+    → Survives (state store start) (state store mid) (λ _. ⊥) → Survives (state store mid) (state store last) (λ _. ⊥)
+    → (HasCleanDisk (state store mid) → IsTrue mid.in_transaction × SetsVersion (state store start).now (state store mid).now)
+    → (HasCleanDisk (state store last) → OnOk r (IsTrue last.in_transaction × MakesThird name (state store mid).now (state store last).now))
+    → HasCleanDisk (state store last) → OnOk r (IsTrue last.in_transaction × AddsName name (state store start).now (state store last).now)
+written_older store start mid last name (Ok k) takes book one two sets third clean =
+    let made = third clean in
+    let late : HasCleanDisk (state store mid) = omega (arith, two.clean) in
+    let early : HasCleanDisk (state store start) = omega (arith, one.clean) in
+    (made.0, adds_name (state store start).now (state store mid).now (state store last).now name (record { book = book early; takes = takes }) (sets late).1 made.1)
+written_older store start mid last name (Err e) takes book one two sets third clean = tt
+
 -- nothing is committed by two steps of which neither commits
 pub survives_both : (a b c : State) → Survives a b (λ _. ⊥) → Survives b c (λ _. ⊥) → Survives a c (λ _. ⊥)
 survives_both a b c = survives_then a b c _ _ (λ _. ⊥) (λ _ db none. none) (λ _ db none. none)
@@ -116,11 +129,11 @@ is_written {D} store Makes old start last begun book inside = record {
   survives = survives_begin store old (state store last) _ (rw begun at inside);
 }
 
--- an older book says whose it is
-pub is_named : {D : Type 0} (store : Ghosts D) (name : List ℕ) (old last : Held D) → TakesOwner old.schema → (HasCleanDisk (state store old) → IsFirstBook (state store old).now)
-    → IsWritten store (MakesThird name) old last → IsWritten store (AddsName name) old last
-is_named store name old last takes book written = record {
-  made = λ clean. adds_name (state store old).now (state store last).now name (record { book = book (omega (arith, written.survives.clean)); takes = takes }) (written.made clean);
+-- a book of version 1 is of version 2
+pub is_raised : {D : Type 0} (store : Ghosts D) (old last : Held D) → (HasCleanDisk (state store old) → IsVersion 1 (state store old).now)
+    → IsWritten store SetsVersion old last → IsWritten store Raises old last
+is_raised store old last first written = record {
+  made = λ clean. record { first = first (omega (arith, written.survives.clean)); sets = written.made clean };
   survives = written.survives;
 }
 

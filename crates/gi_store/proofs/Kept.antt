@@ -6,7 +6,7 @@ use Rattle.gi_facts.specs.declared.fact.Fact.{Fact}
 use Rattle.gi_facts.specs.Batch.{batch_text}
 use Rattle.gi_store.specs.declared.head.Head.{Head}
 use Rattle.gi_store.specs.Tables.{HasTables}
-use Rattle.gi_store.specs.Keeping.{IsIdle, Keeps}
+use Rattle.gi_store.specs.Keeping.{IsIdle}
 use Rattle.gi_store.specs.Book.{AddsFacts, AreSaved, IsKnown, IsPut, KeepsOrPuts, KeepsOrSaves, KeepsOrSavesAll}
 use Rattle.gi_store.proofs.Numbering.{saves}
 

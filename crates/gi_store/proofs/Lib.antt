@@ -6,10 +6,10 @@ pub mod Owners
 pub mod FirstBook
 pub mod Whose
 pub mod Readings
+pub mod Raising
 pub mod Causes
 pub mod Walk
 pub mod Numbering
 pub mod Fronts
 pub mod Heads
 pub mod Kept
-pub mod Copied

@@ -42,11 +42,11 @@ use Rattle.gi_store.proofs.Listed.{IsAt, is_at, at_is, tree_is, more, listed_sti
 use Rattle.gi_store.proofs.Texts.{make_book, make_facts, write_version, write_fact, version_terms, fact_terms, Makes, makes_book, makes_facts, makes_as, defines, puts_version, puts_fact, puts_as}
 
 -- a part that gave a value did not stop on the way
-went : {B E R : Type 0} {b : B} {Stops : E → Type 0} → ((stop : E) × Stops stop × (Ok b ≡ Err stop)) ⊎ R → R
+pub went : {B E R : Type 0} {b : B} {Stops : E → Type 0} → ((stop : E) × Stops stop × (Ok b ≡ Err stop)) ⊎ R → R
 went (inl stopped) = absurd (let e = stopped.2 in cc)
 went (inr on) = on
 
-same_value : {B E : Type 0} {a b : B} → ◌≡◌ {A = Result B E} (Ok a) (Ok b) → a ≡ b
+pub same_value : {B E : Type 0} {a b : B} → ◌≡◌ {A = Result B E} (Ok a) (Ok b) → a ≡ b
 same_value e = cc
 
 commits_as : (sql : List ℕ) (params : Row) (old : State) (schema : Schema) → old.now.schema ≡ schema → (command : Command) → command_of (understood schema sql) ≡ command
@@ -101,11 +101,11 @@ either : (b : Bool) (x : Value) → cond b x x ≡ x
 either true x = refl
 either false x = refl
 
-cast_number : (m : ℤ) → cast Integer (Int m) ≡ Int m
+pub cast_number : (m : ℤ) → cast Integer (Int m) ≡ Int m
 unfolding unary
 cast_number m = either _ (Int m)
 
-cast_null : cast Integer Null ≡ Null
+pub cast_null : cast Integer Null ≡ Null
 unfolding unary
 cast_null = either _ Null
 
@@ -119,11 +119,11 @@ no_work depth tree child ref (Some deed) (Some key) = by (key.0 == tree)
     by true = refl
     by false = refl
 
-none_kept : {X Y : Type 0} (f : X → Option Y) (xs : List X) → ((x : X) → f x ≡ None) → filter_map f xs ≡ []
+pub none_kept : {X Y : Type 0} (f : X → Option Y) (xs : List X) → ((x : X) → f x ≡ None) → filter_map f xs ≡ []
 none_kept f [] none = refl
 none_kept f (x ∷ xs) none = rw (none x) (none_kept f xs none)
 
-all_empty : {X Y : Type 0} (f : X → List Y) (xs : List X) → ((x : X) → f x ≡ []) → flat_map f xs ≡ []
+pub all_empty : {X Y : Type 0} (f : X → List Y) (xs : List X) → ((x : X) → f x ≡ []) → flat_map f xs ≡ []
 all_empty f [] none = refl
 all_empty f (x ∷ xs) none = rw (none x) (all_empty f xs none)
 
@@ -163,7 +163,7 @@ does_add_fact limit s db = does_add_text limit s db (codes "facts") (codes "n") 
 
 does_add_version : (limit : Option ℕ) (s : State) (db : Database) (at tree : ℕ) (sql : List ℕ) (tally : Tally) (after : Database) → slice_get db.schema.tables at ≡ Some (book_table tree)
     → Does limit (mode_of s) [] db sql None (Insert at (Values version_terms 3)) (Ok (tally, after))
-    → Adds db after (book_table tree) kept_version
+    → Adds db after (book_table tree) (kept_version 2)
 does_add_version limit s db at tree sql tally after found h =
     let done = went (rw found at h) in
     let now = ap (λ (p : Tally × Database). p.1) (same_value (went (went done.2).2).2) in
@@ -173,7 +173,7 @@ does_add_version limit s db at tree sql tally after found h =
     let trees : done.0.trees ≡ written.0 = ap (λ (it : Written). it.trees) (same_value counted.2) ∙ same_value counted.1 in
     let put : Edit = edit_of db.trees (book_table tree) [] Chosen 0 given.0 in
     let step = one_step db.schema (mode_of s).keys db.trees written.0 put (no_works db.schema (mode_of s).keys tree put.news) written.1 in
-    let edit : edited db.trees put ≡ put_row kept_version (db.trees tree) = ap (λ all. edited db.trees (edit_of db.trees (book_table tree) [] Chosen 0 all)) given.1.1 ∙ rw (cast_number, cast_null) in
+    let edit : edited db.trees put ≡ put_row (kept_version 2) (db.trees tree) = ap (λ all. edited db.trees (edit_of db.trees (book_table tree) [] Chosen 0 all)) given.1.1 ∙ rw (cast_number (pos 1), cast_number (pos 2), cast_null) in
     let is : after.trees ≡ written.0 = ap (λ (d : Database). d.trees) now ∙ trees in
     record {
       schema = ap (λ (d : Database). d.schema) now;
@@ -183,7 +183,7 @@ does_add_version limit s db at tree sql tally after found h =
     }
 
 writes_version : (old new : State) (tree count : ℕ) → IsAt old.now.schema (codes "book") (book_table tree) → Executes write_version [] old new (Ok count)
-    → Adds old.now new.now (book_table tree) kept_version × IsDatabase new.now
+    → Adds old.now new.now (book_table tree) (kept_version 2) × IsDatabase new.now
 writes_version old new tree count it h =
     let known = puts_as old.now.schema write_version (codes "book") (book_table tree) version_terms (puts_version tree) it in
     let plain : IsPlain (understood old.now.schema write_version) = subst IsPlain (sym known) (refl, refl) in
@@ -322,7 +322,7 @@ makes_two start first second third m n k free one two three =
     record {
       listed = e3 ∙ (whole ∙ rw (trees.1, trees.2));
       sound = wrote.1;
-      book = record { tables = trees.0; version = rw trees.1 (ap (map both_columns) (row.rows ∙ ap (put_row kept_version) none)) };
+      book = record { tables = trees.0; version = rw trees.1 (ap (map both_columns) (row.rows ∙ ap (put_row (kept_version 2)) none)) };
       empty = rw trees.2 (ap (map both_columns) empty);
       others = all_from (λ (t : Table). third.now.trees t.tree ≡ start.now.trees t.tree) s0.tables (λ t h.
           let in_first : Has first.now.schema.tables t = subst (λ (s : Schema). Has s.tables t) (sym e1) (has_left s0.tables (book_table b ∷ []) t h) in

@@ -22,7 +22,7 @@ use Rattle.gi_store.specs.Tables.{HasTables, facts_tree}
 use Rattle.gi_store.specs.Keeping.{PutsRow}
 use Rattle.gi_store.specs.Rows.{both_columns, fact_rows, row_of, kept_row}
 use Rattle.gi_store.specs.Facts.{AreFactsFrom, AreFacts, HasBody}
-use Rattle.gi_store.specs.Book.{counted, IsCounted, IsKept, IsKnown, IsRead, AddsFacts, SavesAllOrNone}
+use Rattle.gi_store.specs.Book.{counted, IsCounted, BookInvariant, IsKnown, IsRead, AddsFacts, SavesAllOrNone}
 use Rattle.gi_store.proofs.Walk.{one_more}
 
 int_below : (m n : ℤ) → m <ℤ n → value_cmp (Int m) (Int n) ≡ Less
@@ -130,6 +130,6 @@ saved_known old new n k batch known up same next reads adds = record {
 
 -- ---- where nothing is done
 
-pub leaves_rows : (n : ℕ) (batch : List Fact) (loaded : Option ℕ) (s : State) → IsKept s loaded → ((db : Trees) → IsTrue s.is_open → s.may_leave db → db ≡ s.committed.trees) → SavesAllOrNone n batch loaded s s
+pub leaves_rows : (n : ℕ) (batch : List Fact) (loaded : Option ℕ) (s : State) → BookInvariant s loaded → ((db : Trees) → IsTrue s.is_open → s.may_leave db → db ≡ s.committed.trees) → SavesAllOrNone n batch loaded s s
 leaves_rows n batch None s kept law = tt
 leaves_rows n batch (Some k) s kept law = λ db leaves. inl (law db kept.known.is_open leaves ∙ sym (ap (λ d. d.trees) (kept.idle.settled kept.known.is_open)))

@@ -14,9 +14,9 @@ use Rattle.sqlite.specs.Listing.{understood}
 use Rattle.sqlite.specs.Effect.{Database, IsDatabase}
 use Rattle.sqlite.specs.State.{State, Executes}
 use Rattle.sqlite.proofs.Callers.{IsPlain, command_of, statement_of, runs_as}
-use Rattle.gi_store.specs.Tables.{IsFree, TakesOwner, book_table, facts_table, owner_table, book_tree, facts_tree, owner_tree, with_two, with_tables}
+use Rattle.gi_store.specs.Tables.{IsFree, TakesOwner, book_table, facts_table, owner_table, book_tree, facts_tree, owner_tree, with_two, with_owner, with_tables}
 use Rattle.gi_store.specs.Rows.{both_columns, facts_in, kept_row}
-use Rattle.gi_store.specs.Keeping.{AddsName, IsFirstBook, IsOlderBook, MakesNamed, MakesThird, MakesTwo}
+use Rattle.gi_store.specs.Keeping.{AddsName, IsOlderBook, IsVersion, MakesNamed, MakesThird, MakesTwo, SetsVersion}
 use Rattle.gi_store.proofs.Listed.{IsAt, is_at, at_is, is_listed, tree_is, more, listed_still, listed_next, counts_still}
 use Rattle.gi_store.proofs.Meanings.{Adds, does_add_text, made, row_given, still_free, tables_of}
 use Rattle.gi_store.proofs.Texts.{make_owner, write_name, fact_terms, makes_owner, puts_name, puts_as}
@@ -72,15 +72,15 @@ makes_third start first second m k name takes one two =
 
 -- ---- beside the two tables that every book has
 
--- the book stays one of version 1 with its facts, and its tables keep their trees
-record IsStill (old new : Database) : Type 0 where
-  book : IsFirstBook new
+-- the book stays one of its version with its facts, and its tables keep their trees
+record IsStill (n : ℕ) (old new : Database) : Type 0 where
+  book : IsVersion n new
   facts : facts_in new ≡ facts_in old
   book_same : book_tree new.schema ≡ book_tree old.schema
   facts_same : facts_tree new.schema ≡ facts_tree old.schema
 
-is_still : (old new : Database) (name : List ℕ) → IsFirstBook old → MakesThird name old new → IsStill old new
-is_still old new name book third =
+is_still : (n : ℕ) (old new : Database) (name : List ℕ) → IsVersion n old → MakesThird name old new → IsStill n old new
+is_still n old new name book third =
     let b = book_tree old.schema in
     let f = facts_tree old.schema in
     let more_tables = owner_table (owner_tree new.schema) ∷ [] in
@@ -98,10 +98,21 @@ is_still old new name book third =
       facts_same = after.2;
     }
 
-pub adds_name : (old new : Database) (name : List ℕ) → IsOlderBook old → MakesThird name old new → AddsName name old new
-adds_name old new name older third =
-    let still = is_still old new name older.book third in
-    record { older = older; listed = third.listed; sound = third.sound; book = still.book; named = third.named; facts = still.facts; others = third.others }
+pub adds_name : (old mid new : Database) (name : List ℕ) → IsOlderBook old → SetsVersion old mid → MakesThird name mid new → AddsName name old new
+adds_name old mid new name older sets third =
+    let still = is_still 2 mid new name sets.book third in
+    record {
+      older = older;
+      listed = third.listed ∙ ap (λ (s : Schema). with_owner s (owner_tree new.schema)) sets.schema;
+      sound = third.sound;
+      book = still.book;
+      named = third.named;
+      facts = still.facts ∙ sets.facts;
+      others = all_from (λ (t : Table). t.tree ≢ book_tree old.schema → new.trees t.tree ≡ old.trees t.tree) old.schema.tables (λ t h other.
+          let in_mid : Has mid.schema.tables t = subst (λ (s : Schema). Has s.tables t) (sym sets.schema) h in
+          all_has (λ (u : Table). new.trees u.tree ≡ mid.trees u.tree) mid.schema.tables t third.others in_mid
+          ∙ all_has (λ (u : Table). u.tree ≢ book_tree old.schema → mid.trees u.tree ≡ old.trees u.tree) old.schema.tables t sets.others h other);
+    }
 
 pub takes_still : (old mid : Database) → IsFree old.schema → MakesTwo old mid → TakesOwner mid.schema
 takes_still old mid free two =
@@ -119,7 +130,7 @@ makes_named old mid new name free two third =
     let b = book_tree mid.schema in
     let f = facts_tree mid.schema in
     let o = owner_tree new.schema in
-    let still = is_still mid new name two.book third in
+    let still = is_still 2 mid new name two.book third in
     let joined : more (with_two old.schema b f) (owner_table o ∷ []) ≡ with_tables old.schema b f o = rw (append_assoc old.schema.tables (book_table b ∷ facts_table f ∷ []) (owner_table o ∷ [])) in
     let whole : new.schema ≡ with_tables old.schema b f o = third.listed ∙ (ap (λ (s : Schema). more s (owner_table o ∷ [])) two.listed ∙ joined) in
     record {

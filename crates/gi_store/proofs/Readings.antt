@@ -1,5 +1,5 @@
 -- What the two queries of the book answer.
-use Rattle.std.proofs.Common.{◌≡◌, ℕ, suc, ◌+◌, ◌<◌, ◌≤◌, ◌^◌, nat_le, codes, List, [], ◌∷◌, map, length, get_or, All, false, refl, sym, ap, subst, ◌∙◌, arith, drop, inl, inr, Ok, Err, Result, IfOk, IfErr, OnOk, IsTrue}
+use Rattle.std.proofs.Common.{◌≡◌, ℕ, suc, ◌+◌, ◌<◌, ◌≤◌, ◌^◌, nat_le, codes, List, [], ◌∷◌, map, length, get_or, All, false, refl, sym, ap, subst, ◌∙◌, arith, drop, inl, inr, Ok, Err, Result, IfOk, IfErr, IsTrue}
 use Rattle.std.specs.List.{flat_map, AllByRecursion}
 use Rattle.std.specs.List.Sorted.{IsPermutation, IsSorted}
 use Rattle.std.specs.Ordering.{is_lt}
@@ -23,8 +23,11 @@ use Rattle.sqlite.specs.State.{State, HasCleanDisk, Survives, CommitsShowing, Sh
 use Rattle.sqlite.proofs.Callers.{reads_as, never_commits, one_permutation}
 use Rattle.sqlite_trees.specs.Tree.{Trees}
 use Rattle.gi_store.specs.Tables.{HasOwnerTable, HasTables, book_table, facts_table, owner_table, book_tree, facts_tree, owner_tree}
-use Rattle.gi_store.specs.Rows.{IsOwned, both_columns, facts_in, names_in, versions_in, first_version, row_of}
-use Rattle.gi_store.specs.Keeping.{AddsNoOutcome, IsFirstBook, Keeps}
+use Rattle.gi_store.specs.Rows.{IsOwned, both_columns, facts_in, names_in, versions_in, version_row, row_of}
+use Rattle.gi_store.specs.Version.{version_number}
+use Rattle.gi_store.specs.declared.version.BookVersion.{BookVersion}
+use Rattle.gi_store.specs.declared.version.BookVersion.TheVariants.{One, Two}
+use Rattle.gi_store.specs.Keeping.{AddsNoOutcome, IsBook, IsVersion, Keeps}
 use Rattle.gi_store.proofs.Failures.{MayRun, not_both, shown_same}
 use Rattle.gi_store.specs.Opening.{IsNameFault, IsVersionFault}
 use Rattle.gi_store.specs.Order.{InOrder, ArePutInOrder}
@@ -36,18 +39,18 @@ use Rattle.gi_store.specs.declared.store_fault.StoreFault.TheVariants.{Version}
 use Rattle.gi_store.proofs.Texts.{read_version, read_name, read_facts, facts_query, version_query, IsQuery, MayAsk, version_asked, name_asked, facts_asked}
 use Rattle.gi_store.proofs.Listed.{is_at}
 
-map_twice : {X Y Z : Type 0} (f : Y → Z) (g : X → Y) (xs : List X) → map f (map g xs) ≡ map (λ x. f (g x)) xs
+pub map_twice : {X Y Z : Type 0} (f : Y → Z) (g : X → Y) (xs : List X) → map f (map g xs) ≡ map (λ x. f (g x)) xs
 map_twice f g [] = refl
 map_twice f g (x ∷ xs) = ap (λ ys. f (g x) ∷ ys) (map_twice f g xs)
 
-whole : {X : Type 0} (xs : List X) → drop 0 xs ≡ xs
+pub whole : {X : Type 0} (xs : List X) → drop 0 xs ≡ xs
 whole [] = refl
 whole (x ∷ xs) = refl
 
-staged_rows : (rows : List Row) → flat_map (λ r. ([] ∷ r ∷ []) ∷ []) rows ≡ map (λ r. [] ∷ r ∷ []) rows
+pub staged_rows : (rows : List Row) → flat_map (λ r. ([] ∷ r ∷ []) ∷ []) rows ≡ map (λ r. [] ∷ r ∷ []) rows
 staged_rows = flat_map_single (λ r. [] ∷ r ∷ [])
 
-overlay_of : (db : Trees) (tree : ℕ) → overlay db [] tree ≡ db tree
+pub overlay_of : (db : Trees) (tree : ℕ) → overlay db [] tree ≡ db tree
 overlay_of db tree = elim (cases_Bool (nat_le (2 ^ 31) tree)) [ inl high ↦ rw high refl | inr low ↦ rw low refl ]
 
 not_shown : (sql : List ℕ) (old new : State) (rows : List Row) → understood old.now.schema sql ≡ Err Mismatch → Shown sql [] old new rows → ⊥
@@ -183,22 +186,29 @@ adds_nothing sql params old new plain survives clean db leaves = elim (survives.
 
 -- ---- the one row of the version
 
-pub version_read : {S : Type 0} (g : Ghosts S) (old new : Held S) (rows : List Row) (r : Result (Unit {0}) StoreFault) → Keeps (state g old) (state g new) → IsTrue (state g new).is_open → HasTables old.schema
-    → IsPermutation (versions_in (state g new).now) rows → OnOk r (rows ≡ first_version ∷ []) → OnOk r (IsTrue (state g new).is_open × IsFirstBook (state g new).now)
-version_read g old new rows (Ok done) kept up has same is = (
+pub version_read : {S : Type 0} (g : Ghosts S) (old new : Held S) (rows : List Row) (r : Result BookVersion StoreFault) → Keeps (state g old) (state g new) → IsTrue (state g new).is_open → HasTables old.schema
+    → IsPermutation (versions_in (state g new).now) rows → IfOk r (λ version. rows ≡ version_row (version_number version) ∷ []) → IfOk r (λ version. IsTrue (state g new).is_open × IsVersion (version_number version) (state g new).now)
+version_read g old new rows (Ok version) kept up has same is = (
   up,
   record {
     tables = subst (λ (d : Database). HasTables d.schema) (sym (kept.same up)) has;
-    version = one_permutation first_version (versions_in (state g new).now) (IsPermutation-sym _ _ (subst (λ l. IsPermutation (versions_in (state g new).now) l) is same));
+    version = one_permutation (version_row (version_number version)) (versions_in (state g new).now) (IsPermutation-sym _ _ (subst (λ l. IsPermutation (versions_in (state g new).now) l) is same));
   },
 )
 version_read g old new rows (Err fault) kept up has same is = tt
 
-pub version_missed : {S : Type 0} (g : Ghosts S) (old new : Held S) (rows : List Row) (r : Result (Unit {0}) StoreFault) → Keeps (state g old) (state g new) → IsTrue (state g new).is_open → IsPermutation (versions_in (state g new).now) rows
-    → IfErr r (λ fault. (fault ≡ Version) × ¬ (rows ≡ first_version ∷ [])) → IfErr r (IsVersionFault (state g old))
-version_missed g old new rows (Ok done) kept up same missed = tt
-version_missed g old new rows (Err fault) kept up same missed = subst (IsVersionFault (state g old)) (sym missed.0) (λ book. missed.1
-    (one_permutation first_version rows (subst (λ l. IsPermutation l rows) (ap (λ (d : Database). versions_in d) (kept.same up) ∙ book.version) same)))
+-- the one row is neither version's
+no_version : (rows : List Row) (db : Database) → IsPermutation (versions_in db) rows → ((version : BookVersion) → ¬ (rows ≡ version_row (version_number version) ∷ [])) → ¬ IsBook db
+no_version rows db same missed book = elim book.version [
+  | inl one ↦ missed One (one_permutation (version_row 1) rows (subst (λ l. IsPermutation l rows) one same))
+  | inr two ↦ missed Two (one_permutation (version_row 2) rows (subst (λ l. IsPermutation l rows) two same))
+]
+
+pub version_missed : {S : Type 0} (g : Ghosts S) (old new : Held S) (rows : List Row) (r : Result BookVersion StoreFault) → Keeps (state g old) (state g new) → IsTrue (state g new).is_open → IsPermutation (versions_in (state g new).now) rows
+    → IfErr r (λ fault. (fault ≡ Version) × ((version : BookVersion) → ¬ (rows ≡ version_row (version_number version) ∷ []))) → IfErr r (IsVersionFault (state g old))
+version_missed g old new rows (Ok version) kept up same missed = tt
+version_missed g old new rows (Err fault) kept up same missed = subst (IsVersionFault (state g old)) (sym missed.0)
+    (no_version rows (state g old).now (subst (λ l. IsPermutation l rows) (ap (λ (d : Database). versions_in d) (kept.same up)) same) missed.1)
 
 -- ---- the one row of the owner
 

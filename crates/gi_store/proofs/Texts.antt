@@ -5,6 +5,7 @@ use Rattle.sqlite_value.specs.declared.value.Value.TheVariants.{Null, Int}
 use Rattle.sqlite_value.specs.declared.keys.Collation.{Collation}
 use Rattle.sqlite_value.specs.declared.keys.Collation.TheVariants.{Binary}
 use Rattle.sqlite_ast.specs.declared.Rows.{Rows}
+use Rattle.sqlite_ast.specs.declared.Expr.{Expr}
 use Rattle.sqlite_ast.specs.declared.Select as ast
 use Rattle.sqlite_ast.specs.declared.Core as core
 use Rattle.sqlite_ast.specs.declared.Source as source
@@ -23,7 +24,8 @@ use Rattle.sqlite_typing.specs.Types.{accepts_program}
 use Rattle.sqlite_resolve.specs.declared.compiled.Compiled.{Compiled}
 use Rattle.sqlite_resolve.specs.declared.error.CompileError.{CompileError}
 use Rattle.sqlite_resolve.specs.declared.error.CompileError.TheVariants.{Mismatch}
-use Rattle.sqlite_resolve.specs.Compile.{first, small, planned, meaning, command, returning, shows, timed, insert_or_abort, insert, new_rows, compiled, with_command, read, create_table, creates, is_attached, is_reserved, table_defined_by, table_in}
+use Rattle.sqlite_resolve.specs.Compile.{first, small, planned, meaning, command, returning, shows, timed, insert_or_abort, insert, new_rows, compiled, with_command, read, create_table, creates, update, is_attached, is_reserved, table_defined_by, table_in}
+use Rattle.sqlite_resolve.specs.Write.{updated}
 use Rattle.sqlite_resolve.specs.Define as define
 use Rattle.sqlite_resolve.specs.Program.{query, query_to, level, whole, with, single, alone, sources, source as sourced, viewing, program}
 use Rattle.sqlite_resolve.specs.Select as select
@@ -35,7 +37,7 @@ use Rattle.sqlite.specs.Table.{Table}
 use Rattle.sqlite.specs.Schema.{Schema}
 use Rattle.sqlite.specs.Source.{Source}
 use Rattle.sqlite.specs.Source.TheVariants.{Values}
-use Rattle.sqlite.specs.Command.TheVariants.{Insert, Select, CreateTable}
+use Rattle.sqlite.specs.Command.TheVariants.{Insert, Select, Update, CreateTable}
 use Rattle.sqlite_tied.specs.Compute.{everything}
 use Rattle.sqlite.specs.Listing.{understood, reads_listing}
 use Rattle.sqlite.proofs.Callers.{IsPlain, command_of}
@@ -52,7 +54,10 @@ abbrev pub make_owner : List ℕ
 make_owner = codes "CREATE TABLE owner (id INTEGER PRIMARY KEY, name TEXT NOT NULL)"
 
 abbrev pub write_version : List ℕ
-write_version = codes "INSERT INTO book (id, version) VALUES (1, 1)"
+write_version = codes "INSERT INTO book (id, version) VALUES (1, 2)"
+
+abbrev pub set_version : List ℕ
+set_version = codes "UPDATE book SET version = 2"
 
 abbrev pub write_name : List ℕ
 write_name = codes "INSERT INTO owner (id, name) VALUES (?1, ?2)"
@@ -118,7 +123,7 @@ defines text name table k = rw (k.reads, k.is, k.untimed) k.defined
 -- ---- INSERT
 
 abbrev pub version_terms : List Term
-version_terms = lit (Int (pos 1)) ∷ lit Null ∷ lit (Int (pos 1)) ∷ []
+version_terms = lit (Int (pos 1)) ∷ lit Null ∷ lit (Int (pos 2)) ∷ []
 
 abbrev pub fact_terms : List Term
 fact_terms = col 0 0 ∷ lit Null ∷ col 0 1 ∷ []
@@ -291,3 +296,51 @@ name_asked schema tree it = asks schema read_name (codes "owner") asks_name (ver
 
 pub facts_asked : (schema : Schema) (tree : ℕ) → IsAt schema (codes "facts") (facts_table tree) → MayAsk schema read_facts (facts_query tree) (codes "n" ∷ codes "body" ∷ [])
 facts_asked schema tree it = asks schema read_facts (codes "facts") asks_facts (facts_draft tree) _ _ (facts_named schema it.at tree it.named it.found)
+
+-- ---- UPDATE
+
+-- the rowid of each row, and the row with another version
+abbrev pub set_query : ℕ → Query
+set_query tree = record (version_query tree) { project = col 1 0 ∷ col 1 0 ∷ lit Null ∷ lit (Int (pos 2)) ∷ [] }
+
+abbrev set_draft : ℕ → Draft
+set_draft tree = record (version_draft tree) { project = col 1 0 ∷ col 1 0 ∷ lit Null ∷ lit (Int (pos 2)) ∷ [] }
+
+-- the text changes each row of the one table of this name
+pub record Sets (text name : List ℕ) : Type 0 where
+  pub parsed : Parsed
+  pub given : List (List ℕ × Expr)
+  pub reads : first text ≡ Ok parsed
+  pub is : parsed.statement ≡ written.Update name given None []
+  pub untimed : parsed.formats ≡ []
+
+unfoldable pub sets_version : Sets set_version (codes "book")
+unfolding everything
+sets_version = record { parsed = _; given = _; reads = refl; is = refl; untimed = refl }
+
+version_set : (schema : Schema) (at tree : ℕ) → updated schema at (book_table tree) sets_version.given None ≡ Ok (set_draft tree)
+unfolding everything sets_version
+version_set schema at tree = refl
+
+sets_by : (schema : Schema) (text : List ℕ) (p : Parsed) (name : List ℕ) (given : List (List ℕ × Expr)) (at : ℕ) (table : Table) (d : Draft) (q : Program)
+    → first text ≡ Ok p → p.statement ≡ written.Update name given None [] → p.formats ≡ []
+    → table_named schema name ≡ Some at → slice_get schema.tables at ≡ Some table → updated schema at table given None ≡ Ok d → program schema [] d ≡ Ok q
+    → understood schema text ≡ Ok (with_command p ([], (Update at q, None)))
+unfolding understood compiled planned meaning command returning shows timed update
+sets_by schema text p name given at table d q reads is untimed named found set so = rw (reads, is, untimed, named, found, set, so)
+
+set_refused_by : (schema : Schema) (text : List ℕ) (p : Parsed) (name : List ℕ) (given : List (List ℕ × Expr)) (at : ℕ) (table : Table) (d : Draft)
+    → first text ≡ Ok p → p.statement ≡ written.Update name given None [] → p.formats ≡ []
+    → table_named schema name ≡ Some at → slice_get schema.tables at ≡ Some table → updated schema at table given None ≡ Ok d → program schema [] d ≡ Err Mismatch
+    → understood schema text ≡ Err Mismatch
+unfolding understood compiled planned meaning command returning shows timed update
+set_refused_by schema text p name given at table d reads is untimed named found set so = rw (reads, is, untimed, named, found, set, so)
+
+-- The text is refused where another table has the tree.
+pub set_as : (schema : Schema) (tree : ℕ) (it : IsAt schema (codes "book") (book_table tree))
+    → (understood schema set_version ≡ Err Mismatch) ⊎ (understood schema set_version ≡ Ok (with_command sets_version.parsed ([], (Update it.at (record { lets = []; body = set_query tree }), None))))
+unfolding program
+set_as schema tree it = elim (cases_Bool (accepts_program schema [] (query_of (set_draft tree)) [])) [
+  | inl typed ↦ inr (sets_by schema set_version sets_version.parsed (codes "book") sets_version.given it.at (book_table tree) (set_draft tree) _ sets_version.reads sets_version.is sets_version.untimed it.named it.found (version_set schema it.at tree) (rw typed))
+  | inr mistyped ↦ inl (set_refused_by schema set_version sets_version.parsed (codes "book") sets_version.given it.at (book_table tree) (set_draft tree) sets_version.reads sets_version.is sets_version.untimed it.named it.found (version_set schema it.at tree) (rw mistyped))
+]

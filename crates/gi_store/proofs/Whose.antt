@@ -1,6 +1,5 @@
 -- What follows of a book for its owner.
 use Rattle.std.proofs.Common.{◌≡◌, ◌≢◌, ◌⊎◌, inl, inr, ℕ, List, [], ◌∷◌, ◌++◌, Some, Ok, Err, Result, OnOk, IfErr, IsErrAnd, codes, refl, sym, ap, subst, ◌∙◌, false, IsTrue, arith}
-use Rattle.sqlite_value.specs.declared.value.Value.TheVariants.{Text as Words}
 use Rattle.sqlite_value.specs.Order.{Row}
 use Rattle.sqlite.specs.Schema.{Schema}
 use Rattle.sqlite.specs.Table.{Table}
@@ -15,12 +14,15 @@ use Rattle.gi_pairs.specs.declared.side.Side.TheVariants.{I, M}
 use Rattle.gi_store.specs.declared.owner.Owner.{Owner}
 use Rattle.gi_store.specs.declared.store_fault.StoreFault.{StoreFault}
 use Rattle.gi_store.specs.declared.store_fault.StoreFault.TheVariants.{Version, OtherBook, Store, OutOfMemory}
-use Rattle.gi_store.specs.Owner.{IsOwnerText, owner_text}
+use Rattle.gi_store.specs.Owner.{owner_text}
 use Rattle.gi_store.specs.FaultText.{IsFailure}
 use Rattle.gi_store.specs.Tables.{IsFree, TakesOwner, table_at}
-use Rattle.gi_store.specs.Rows.{HasName, IsOwned, row_of}
-use Rattle.gi_store.specs.Keeping.{AddsNoOutcome, AddsName, AddsOwner, IsBookOf, IsFirstBook, IsMade, IsReady, KeepsOrAdds, KeepsOrMakes, LeavesOr, LeavesOrMakes, MakesNamed, MayLeave}
-use Rattle.gi_store.specs.Opening.{IsOpenFault, IsOwnerFault, IsVersionFault}
+use Rattle.gi_store.specs.Rows.{IsOwned, row_of}
+use Rattle.gi_store.specs.Keeping.{IsBook, IsBookOf, IsReady, IsVersion, KeepsOrMakes, KeepsOrUpgrades, Upgrades}
+use Rattle.gi_store.specs.Version.{version_number}
+use Rattle.gi_store.specs.declared.version.BookVersion.{BookVersion}
+use Rattle.gi_store.specs.declared.version.BookVersion.TheVariants.{One, Two}
+use Rattle.gi_store.specs.Opening.{IsOpenFault, IsOwnerFault}
 use Rattle.gi_store.proofs.Listed.{is_at}
 
 -- ---- one owner
@@ -58,54 +60,29 @@ listed_used schema name table at free =
     let no = sym none ∙ it.named in
     cc
 
--- ---- what was made
+-- ---- its version
 
-pub ready_new : (owner : Owner) (name : List ℕ) (old new : State) → IsOwnerText name owner → IsMade (MakesNamed name) old new → IsReady owner new
-ready_new owner name old new is made = record { idle = made.idle; is_open = made.is_open; book = made.made.book; owned = subst (λ t. HasName t new.now) is.is made.made.named }
+pub book_of : (version : BookVersion) (db : Database) → IsVersion (version_number version) db → IsBook db
+book_of One db is = record { tables = is.tables; version = inl is.version }
+book_of Two db is = record { tables = is.tables; version = inr is.version }
 
-pub ready_added : (owner : Owner) (name : List ℕ) (old new : State) → IsOwnerText name owner → IsMade (AddsName name) old new → IsReady owner new
-ready_added owner name old new is made = record { idle = made.idle; is_open = made.is_open; book = made.made.book; owned = subst (λ t. HasName t new.now) is.is made.made.named }
-
-pub keeps_new : (owner : Owner) (name : List ℕ) (old new : State) → IsOwnerText name owner → IsMade (MakesNamed name) old new → KeepsOrMakes owner old new
-keeps_new owner name old new is made = inr (inl (subst (λ t. MakesNamed t old.now new.now) is.is made.made))
-
-pub keeps_added : (owner : Owner) (name : List ℕ) (old new : State) → IsOwnerText name owner → IsMade (AddsName name) old new → KeepsOrAdds owner old new
-keeps_added owner name old new is made = inr (subst (λ t. AddsName t old.now new.now) is.is made.made)
-
-pub leaves_new : (owner : Owner) (name : List ℕ) (old new : State) → IsOwnerText name owner → LeavesOr (MakesNamed name) old new → LeavesOrMakes owner old new
-leaves_new owner name old new is leaves db left = elim (leaves db left) [
-  | inl was ↦ inl was
-  | inr made ↦ inr (inl (subst (λ t. MayLeave (MakesNamed t) old.now db) is.is made))
-]
-
-pub leaves_added : (owner : Owner) (name : List ℕ) (old new : State) → IsOwnerText name owner → LeavesOr (AddsName name) old new → LeavesOr (AddsOwner owner) old new
-leaves_added owner name old new is leaves = subst (λ t. LeavesOr (AddsName t) old new) is.is leaves
+pub second : (owner : Owner) (version : BookVersion) (db : Database) → ¬ (IsVersion 1 db × IsOwned owner db) → IsVersion (version_number version) db → (version ≡ Two) ⊎ ¬ IsOwned owner db
+second owner One db other is = inr (λ owned. other (is, owned))
+second owner Two db other is = inl refl
 
 -- ---- once the version was read
 
-pub keeps_later : (owner : Owner) (old mid new : State) → mid.now ≡ old.now → KeepsOrAdds owner mid new → KeepsOrMakes owner old new
+pub keeps_later : (owner : Owner) (old mid new : State) → mid.now ≡ old.now → KeepsOrUpgrades owner mid new → KeepsOrMakes owner old new
 keeps_later owner old mid new same (inl still) = inl (still ∙ same)
-keeps_later owner old mid new same (inr added) = inr (inr (subst (λ (d : Database). AddsOwner owner d new.now) same added))
+keeps_later owner old mid new same (inr upgrades) = inr (inr (subst (λ (d : Database). Upgrades owner d new.now) same upgrades))
 
-pub leaves_later : (owner : Owner) (old mid new : State) → AddsNoOutcome old mid → mid.now ≡ old.now → LeavesOr (AddsOwner owner) mid new → LeavesOrMakes owner old new
-leaves_later owner old mid new none same leaves db left = elim (leaves db left) [
-  | inl was ↦ inl (none db was)
-  | inr added ↦ inr (inr (subst (λ (d : Database). MayLeave (AddsOwner owner) d db) same added))
-]
-
-pub version_refused : (owner : Owner) (old : State) (fault : StoreFault) → ¬ IsFree old.now.schema → IsVersionFault old fault → IsOpenFault owner old fault
-version_refused owner old Version free h = (free, (λ older. h older.book), λ theirs code is. h is.book)
-version_refused owner old Store free h = tt
-version_refused owner old OutOfMemory free h = tt
-version_refused owner old _ free h = absurd h
-
-pub owner_refused : (owner : Owner) (old mid : State) (fault : StoreFault) → ¬ IsFree old.now.schema → mid.now ≡ old.now → IsFirstBook mid.now → (TakesOwner mid.now.schema → ¬ (fault ≡ Version)) → IsOwnerFault owner mid fault → IsOpenFault owner old fault
+pub owner_refused : (owner : Owner) (old mid : State) (fault : StoreFault) → ¬ IsFree old.now.schema → mid.now ≡ old.now → IsBook mid.now → (TakesOwner mid.now.schema → ¬ (fault ≡ Version)) → IsOwnerFault owner mid fault → IsOpenFault owner old fault
 owner_refused owner old mid Version free same book takes h = (
   free,
   (λ older. takes (subst (λ (d : Database). TakesOwner d.schema) (sym same) older.takes) refl),
   λ theirs code is. h theirs code (subst (IsOwned theirs) (sym same) is.owned),
 )
-owner_refused owner old mid (OtherBook theirs) free same book takes h = (h.0, record { book = subst IsFirstBook same book; owned = subst (IsOwned theirs) same h.1 }, h.2)
+owner_refused owner old mid (OtherBook theirs) free same book takes h = (h.0, record { book = subst IsBook same book; owned = subst (IsOwned theirs) same h.1 }, h.2)
 owner_refused owner old mid Store free same book takes h = tt
 owner_refused owner old mid OutOfMemory free same book takes h = tt
 owner_refused owner old mid _ free same book takes h = absurd h
@@ -118,7 +95,10 @@ told owner theirs old new (Ok _) ready keeps refused code is other = absurd (eli
   | inl same ↦ other (one_owner old.now theirs owner is.owned (subst (IsOwned owner) same ready.owned))
   | inr made ↦ elim made [
     | inl new_one ↦ listed_used old.now.schema (codes "book") _ is.book.tables.book new_one.free.book
-    | inr added ↦ listed_used old.now.schema (codes "owner") _ is.owned.table added.older.takes.owner
+    | inr upgrades ↦ elim upgrades [
+      | inl added ↦ listed_used old.now.schema (codes "owner") _ is.owned.table added.older.takes.owner
+      | inr raises ↦ other (one_owner old.now theirs owner is.owned raises.owned)
+    ]
   ]
 ])
 told owner theirs old new (Err Version) ready keeps refused code is other = absurd (refused.2 theirs code is)
@@ -127,8 +107,8 @@ told owner theirs old new (Err Store) ready keeps refused code is other = inr (i
 told owner theirs old new (Err OutOfMemory) ready keeps refused code is other = inr (inr refl)
 told owner theirs old new (Err _) ready keeps refused code is other = absurd refused
 
-pub told_later : (owner theirs : Owner) (old mid new : State) (r : Result (Unit {0}) StoreFault) → ¬ IsFree old.now.schema → mid.now ≡ old.now → IsFirstBook mid.now
-    → OnOk r (IsReady owner new) → (IsTrue new.is_open → KeepsOrAdds owner mid new) → (TakesOwner mid.now.schema → IfErr r (λ fault. ¬ (fault ≡ Version))) → IfErr r (IsOwnerFault owner mid)
+pub told_later : (owner theirs : Owner) (old mid new : State) (r : Result (Unit {0}) StoreFault) → ¬ IsFree old.now.schema → mid.now ≡ old.now → IsBook mid.now
+    → OnOk r (IsReady owner new) → (IsTrue new.is_open → KeepsOrUpgrades owner mid new) → (TakesOwner mid.now.schema → IfErr r (λ fault. ¬ (fault ≡ Version))) → IfErr r (IsOwnerFault owner mid)
     → IsCode theirs.point → IsBookOf theirs old.now → theirs ≢ owner → IsErrAnd r (λ fault. (fault ≡ OtherBook theirs) ⊎ IsFailure fault)
 told_later owner theirs old mid new (Ok done) free same book ready keeps takes refused code is other =
     told owner theirs old new (Ok done) ready (λ up. keeps_later owner old mid new same (keeps up)) tt code is other

@@ -20,7 +20,7 @@ use Rattle.gi_store.specs.Order.{ArePutInOrder}
 use Rattle.gi_store.specs.Facts.{AreFacts, StopsIn}
 use Rattle.gi_store.specs.Batches.{is_batch}
 use Rattle.gi_store.specs.Failing.{FailsToRead}
-use Rattle.gi_store.specs.Keeping.{IsFirstBook, IsIdle, Keeps, PutsRow}
+use Rattle.gi_store.specs.Keeping.{IsBook, IsIdle, Keeps, PutsRow}
 
 -- the connection, how many facts are known since the last `load`, and the head that is kept beside the book, as it was written last
 pub record BookState (S : Type 0) : Type 0 where
@@ -44,7 +44,7 @@ pub record IsKnown (s : State) (k : ℕ) : Type 0 where
   pub count : length facts ≡ k
 
 -- A book between its calls: nothing waits to be committed, and where it is loaded, its rows are known.
-pub record IsKept (s : State) (loaded : Option ℕ) : Type 0 where
+pub record BookInvariant (s : State) (loaded : Option ℕ) : Type 0 where
   pub idle : IsIdle s
   pub known : IfSome loaded (IsKnown s)
 
@@ -61,15 +61,15 @@ IsToldOf loaded head = IfSome head (λ h. loaded ≡ Some h.facts)
 
 -- ---- load
 
--- the connection is open at a book of version 1 whose rows are these facts
+-- the connection is open at a book, of version 1 or 2, whose rows are these facts
 pub record IsRead (s : State) (facts : List Fact) : Type 0 where
   pub is_open : IsTrue s.is_open
-  pub book : IsFirstBook s.now
+  pub book : IsBook s.now
   pub rows : AreFacts (facts_in s.now) facts
 
--- A book of version 1 whose rows, in the order of their numbers, cover the numbers from 1 on with facts up to one of them, which is refused.
+-- A book whose rows, in the order of their numbers, cover the numbers from 1 on with facts up to one of them, which is refused.
 pub record Stops (s : State) (fault : StoreFault) : Type 0 where
-  pub book : IsFirstBook s.now
+  pub book : IsBook s.now
   pub ordered : List Row
   pub order : ArePutInOrder (facts_in s.now) ordered
   pub stops : StopsIn ordered fault
@@ -77,7 +77,7 @@ pub record Stops (s : State) (fault : StoreFault) : Type 0 where
 -- Why a book is not loaded; the cause of a failure of the database is told by `IsLoadCaused`. Want of memory has none here: SQLite may tell it
 -- of any statement, for no cause that its clauses name, and it then leaves the connection as an answer would. What rows are refused for tells more (`IsReadFault`).
 abbrev pub IsLoadFault : State → StoreFault → Type 0
-IsLoadFault s Version = ¬ IsFirstBook s.now
+IsLoadFault s Version = ¬ IsBook s.now
 IsLoadFault s (Gap n) = Stops s (Gap n)
 IsLoadFault s (Damaged n) = Stops s (Damaged n)
 IsLoadFault s Store = ⊤

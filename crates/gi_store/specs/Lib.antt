@@ -2,6 +2,7 @@ pub mod Clean
 pub mod Owner
 pub mod Tables
 pub mod Rows
+pub mod Version
 pub mod Order
 pub mod Facts
 pub mod Keeping

@@ -7,11 +7,11 @@ use Rattle.gi_pairs.specs.Code.{IsCode}
 use Rattle.gi_store.specs.declared.owner.Owner.{Owner}
 use Rattle.gi_store.specs.Tables.{IsFree}
 use Rattle.gi_store.specs.Rows.{IsOwned, SaysNone}
-use Rattle.gi_store.specs.Keeping.{IsBookOf, IsFirstBook, IsOlderBook}
+use Rattle.gi_store.specs.Keeping.{IsBook, IsBookOf, IsOlderBook}
 
--- it is no book of version 1
+-- it is no book of version 1 or 2
 abbrev pub IsVersionFault : State → StoreFault → Type 0
-IsVersionFault s Version = ¬ IsFirstBook s.now
+IsVersionFault s Version = ¬ IsBook s.now
 IsVersionFault s Store = ⊤
 IsVersionFault s OutOfMemory = ⊤
 IsVersionFault s _ = ⊥
@@ -31,7 +31,7 @@ IsOwnerFault owner s Store = ⊤
 IsOwnerFault owner s OutOfMemory = ⊤
 IsOwnerFault owner s _ = ⊥
 
--- It is no owner's book of version 1, no older one that can take its owner, and none can be made in it; or it is another owner's.
+-- It is no owner's book of version 1 or 2, no older one that can take its owner, and none can be made in it; or it is another owner's.
 abbrev pub IsOpenFault : Owner → State → StoreFault → Type 0
 IsOpenFault owner s Version = (¬ IsFree s.now.schema) × (¬ IsOlderBook s.now) × ((theirs : Owner) → IsCode theirs.point → ¬ IsBookOf theirs s.now)
 IsOpenFault owner s (OtherBook theirs) = IsCode theirs.point × IsBookOf theirs s.now × (theirs ≢ owner)

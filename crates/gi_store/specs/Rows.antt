@@ -36,15 +36,16 @@ row_of n text = Int (pos n) ∷ Words text ∷ []
 abbrev pub kept_row : ℕ → List ℕ → Row
 kept_row n text = Int (pos n) ∷ Null ∷ Words text ∷ []
 
-abbrev pub kept_version : Row
-kept_version = Int (pos 1) ∷ Null ∷ Int (pos 1) ∷ []
+-- the one row of a book of this version
+abbrev pub version_row : ℕ → Row
+version_row version = Int (pos 1) ∷ Int (pos version) ∷ []
 
--- the one row of a book of version 1
-abbrev pub first_version : Row
-first_version = Int (pos 1) ∷ Int (pos 1) ∷ []
+-- the same as SQLite keeps it
+abbrev pub kept_version : ℕ → Row
+kept_version version = Int (pos 1) ∷ Null ∷ Int (pos version) ∷ []
 
-abbrev pub HasFirstVersion : Database → Type 0
-HasFirstVersion db = versions_in db ≡ first_version ∷ []
+abbrev pub HasVersion : ℕ → Database → Type 0
+HasVersion version db = versions_in db ≡ version_row version ∷ []
 
 -- each row of the table `owner`: its id and its name
 abbrev pub names_in : Database → List Row

@@ -1,5 +1,7 @@
 -- The tables of a book: `book`, whose one row says its version, `facts`, with a row for each batch of facts, and `owner`, whose one row says whose it is.
-use Rattle.std.specs.Prelude.{◌≡◌, ℕ, Bool, true, false, List, [], ◌∷◌, ◌++◌, codes, Option, Some, slice_get, option_map, option_and_then, unwrap_or}
+use Rattle.std.specs.Prelude.{◌≡◌, ◌==◌, ◌&&◌, not, ℕ, Bool, true, false, List, [], ◌∷◌, ◌++◌, codes, Option, Some, slice_get, option_map, option_and_then, unwrap_or}
+use Rattle.std.specs.List.{list_any}
+use Rattle.std.specs.Str.{bytes_eq}
 use Rattle.sqlite_value.specs.declared.keys.Collation.TheVariants.{Binary}
 use Rattle.sqlite_value.specs.declared.value.Value.TheVariants.{Null}
 use Rattle.sqlite_schema.specs.declared.schema.Kind.{Kind}
@@ -7,7 +9,7 @@ use Rattle.sqlite_schema.specs.declared.schema.Kind.TheVariants.{Integer, Text}
 use Rattle.sqlite_schema.specs.declared.schema.Column.{Column}
 use Rattle.sqlite_schema.specs.declared.schema.Table.{Table}
 use Rattle.sqlite_schema.specs.declared.schema.Schema.{Schema}
-use Rattle.sqlite_schema.specs.Names.{table_named}
+use Rattle.sqlite_schema.specs.Names.{same_name, table_named}
 use Rattle.sqlite_catalog.specs.Change.{is_used}
 use Rattle.sqlite.specs.Does.{lacks_sequence}
 
@@ -80,6 +82,19 @@ HasOwnerTable schema = table_at schema (codes "owner") ≡ Some (owner_table (ow
 -- no table, index or view has the third table's name
 abbrev pub LacksOwner : Schema → Type 0
 LacksOwner schema = is_used schema (codes "owner") ≡ false
+
+-- the table has a foreign key to the one of the version
+abbrev pub refers_to_book : Table → Bool
+refers_to_book table = list_any (λ ref. same_name (codes "book") ref.parent) table.references
+
+-- the table has this tree, and another name than the one of the version
+abbrev pub shares_tree : ℕ → Table → Bool
+shares_tree tree table = (table.tree == tree) && not (bytes_eq table.name (codes "book"))
+
+-- No foreign key is to the table of the version, and no other table has its tree: so its row can be changed, and no other row is.
+pub record StandsAlone (schema : Schema) : Type 0 where
+  pub unreferred : list_any refers_to_book schema.tables ≡ false
+  pub sole : list_any (shares_tree (book_tree schema)) schema.tables ≡ false
 
 -- The third table can be made: its name is not used, and a table with AUTOINCREMENT has the table that SQLite counts in.
 pub record TakesOwner (schema : Schema) : Type 0 where

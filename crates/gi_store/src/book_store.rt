@@ -7,13 +7,13 @@ ghost use Rattle.sqlite.specs.Held.{state};
 ghost use Rattle.gi_facts.specs.Grammar.{IsWritable};
 ghost use Rattle.gi_pairs.specs.Code.{IsCode};
 ghost use Rattle.gi_store.specs.Facts.{AreFacts};
-ghost use Rattle.gi_store.specs.Rows.{facts_in};
+ghost use Rattle.gi_store.specs.Rows.{IsOwned, facts_in};
 ghost use Rattle.gi_store.specs.Failing.{Endures, IsCausedAtAll};
 ghost use Rattle.gi_store.specs.FaultText.{IsFailure, IsLoadRefusal, IsPreparingRefusal};
 ghost use Rattle.gi_store.specs.Opening.{IsOpenFault};
 ghost use Rattle.gi_store.specs.Book.{AnswersBatch, AnswersSave, AreSaved, IsLoadCaused, IsLoadFault, IsRead, IsSaved, KeepsOrSaves, KeepsOrSavesAll, SavesAllOrLeaves, SavesAllOrNone, SavesOrLeaves, SavesOrNot, counted};
 ghost use Rattle.gi_store.specs.Heads.{told_after, told_on};
-ghost use Rattle.gi_store.specs.Keeping.{AddsNoOutcome, IsBookOf, IsReady, Keeps, KeepsOrMakes, LeavesOrMakes};
+ghost use Rattle.gi_store.specs.Keeping.{AddsNoOutcome, IsBookOf, IsReady, IsVersion, Keeps, KeepsOrMakes, LeavesOrMakes};
 ghost use Rattle.gi_store.specs.Tables.{HasTables, IsFree, TakesOwner};
 ghost use Rattle.gi_store.specs.declared.store_fault.StoreFault.TheVariants.{OtherBook, Store, Version};
 
@@ -52,7 +52,7 @@ impl<S: Alter + Drop> Drop for BookStore<S> {
 impl<S: Alter> Model for BookStore<S> {
     ghost use Rattle.gi_store.specs.Clean.{IsClean};
     ghost use Rattle.sqlite.specs.Held.{state};
-    ghost use Rattle.gi_store.specs.Book.{BookState, IsCounted, IsKept, IsToldOf, book_code};
+    ghost use Rattle.gi_store.specs.Book.{BookState, IsCounted, BookInvariant, IsToldOf, book_code};
 
     ghost Value = { BookState S };
 
@@ -60,7 +60,7 @@ impl<S: Alter> Model for BookStore<S> {
 
     ghost view = { λ b. record { connection = b.connection; loaded = b.loaded; head = b.head } };
 
-    ghost invariant = { λ b. IsCounted b.loaded × (IsClean S.Store b.connection → IsKept (state S.Store b.connection) b.loaded) × IsToldOf b.loaded b.head };
+    ghost invariant = { λ b. IsCounted b.loaded × (IsClean S.Store b.connection → BookInvariant (state S.Store b.connection) b.loaded) × IsToldOf b.loaded b.head };
 }
 
 fn counted(facts: usize) -> Option<u32>
@@ -74,8 +74,8 @@ fn counted(facts: usize) -> Option<u32>
 }
 
 impl<S: Alter + Drop> BookStore<S> {
-    /// Opens the owner's book that the database has, makes one where its tables are missing, or writes
-    /// the owner of an older one: see `prepare`. It is not loaded. A refusal gives the connection
+    /// Opens the owner's book that the database has, makes one where its tables are missing, writes the
+    /// owner of an older one, or makes one of version 1 one of version 2: see `prepare`. It is not loaded. A refusal gives the connection
     /// back, and leaves what can be read as it was.
     pub fn open(
         alloc: Global,
@@ -102,13 +102,13 @@ impl<S: Alter + Drop> BookStore<S> {
         ensures owned { (state S.Store connection).in_transaction ≡ false → (theirs : _) → IsCode theirs.point → IsBookOf theirs (state S.Store connection).now → theirs ≢ owner
             → MatchResult result (λ book. ¬ (IsClean S.Store book.connection)) (λ back. IsClean S.Store back.0 → (back.1 ≡ OtherBook theirs) ⊎ IsFailure back.1) }
 
-        // Where nothing can be made `Store` is told where the disk failed, the connection was shut,
+        // Where nothing can be made, and there is no book of version 1 that is the owner's, so that none is raised, `Store` is told where the disk failed, the connection was shut,
         // queries have a limit on their steps, or another table has the tree of one of the book's.
-        ensures failed { (state S.Store connection).in_transaction ≡ false → ¬ (IsFree (state S.Store connection).now.schema) → ¬ (TakesOwner (state S.Store connection).now.schema)
+        ensures failed { (state S.Store connection).in_transaction ≡ false → ¬ (IsFree (state S.Store connection).now.schema) → ¬ (TakesOwner (state S.Store connection).now.schema) → ¬ (IsVersion 1 (state S.Store connection).now × IsOwned owner (state S.Store connection).now)
             → IfErr result (λ back. IsClean S.Store back.0 → IsCausedAtAll (state S.Store connection) (state S.Store back.0) back.1) }
 
         // A refusal leaves what can be read as it was, and no crash then leaves anything but that, what
-        // was there with a new book, or an older book with its owner.
+        // was there with a new book, an older book with its owner, or one of version 1 as one of version 2.
         ensures unmade { IfErr result (λ back. IsClean S.Store back.0 → Keeps (state S.Store connection) (state S.Store back.0)) }
         ensures unmade_crash { IfErr result (λ back. IsClean S.Store back.0 → LeavesOrMakes owner (state S.Store connection) (state S.Store back.0)) }
 
@@ -136,7 +136,7 @@ impl<S: Alter> BookStore<S> {
         self.loaded
     }
 
-    /// The facts of the book, from the first on. `Version` where it is no book of version 1. Then
+    /// The facts of the book, from the first on. `Version` where it is no book of version 1 or 2. Then
     /// the first by number of `Gap(n)`, where n comes next and the row has a higher number, and
     /// `Damaged(n)`, where row n is below the number that comes next, or is neither a fact nor an
     /// array of 2 to 64 facts. `Store` and `OutOfMemory` where the database fails or memory runs

@@ -1,13 +1,13 @@
 //! Books read from copies of their files: the files stay as they are, whoever has them open.
 
-ghost use Rattle.std.specs.Prelude.{◌≡◌, Err, IfErr, IfOk, IfSome, IsSome, IsTrue};
+ghost use Rattle.std.specs.Prelude.{◌≡◌, ◌⊎◌, Err, IfErr, IfNone, IfOk, IfSome, IsTrue};
 ghost use Rattle.sqlite_disk.specs.Memory.{memory_bytes, memory_is_usable};
 ghost use Rattle.sqlite.specs.State.{HasCleanDisk};
 ghost use Rattle.sqlite.specs.Files.{Finds, file_state};
 ghost use Rattle.sqlite.specs.Held.{state};
 ghost use Rattle.gi_store.specs.Book.{IsRead};
 ghost use Rattle.gi_store.specs.Clean.{IsClean};
-ghost use Rattle.gi_store.specs.Copies.{IsCopyFault, IsCopyIn};
+ghost use Rattle.gi_store.specs.Copies.{HoldsNone, IsCopyFault, IsCopyIn, IsCopyRefused};
 ghost use Rattle.gi_store.specs.FaultText.{IsFailure, IsLoadRefusal};
 ghost use Rattle.gi_store.specs.Heads.{Tells, none_by};
 ghost use Rattle.gi_store.specs.Keeping.{IsIdle, Keeps};
@@ -105,7 +105,6 @@ fn no_book(head: Option<Head>) -> Result<Option<BookCopy>, StoreFault>
 
 /// What the database has of a book: its facts, then whose it is. The facts have to be those that the head tells.
 /// `None` of one in which a book could be made.
-#[tactic(auto, using(crate::proofs::Copied::read_still, crate::proofs::Copied::of_load, crate::proofs::Copied::of_name, crate::proofs::Copied::of_head))]
 fn read_copy<S: Alter>(
     alloc: Global,
     head: Option<Head>,
@@ -114,7 +113,7 @@ fn read_copy<S: Alter>(
     requires { IsClean S.Store connection.old → IsIdle (state S.Store connection.old) }
     ensures early { IsClean S.Store connection.new → IsClean S.Store connection.old }
     ensures free { IsFree (state S.Store connection.old).now.schema → result ≡ none_by head }
-    ensures some { ¬ (IsFree (state S.Store connection.old).now.schema) → IfOk result IsSome }
+    ensures none { IfOk result (λ found. IfNone found (IsFree (state S.Store connection.old).now.schema)) }
     ensures other { ¬ (IsFree (state S.Store connection.old).now.schema) → ¬ (HasTables (state S.Store connection.old).now.schema) → result ≡ Err Version }
     ensures copy { IsClean S.Store connection.new → IfOk result (λ found. IfSome found (λ copy. IsRead (state S.Store connection.new) copy.facts.items × SaysOwner copy.owner (state S.Store connection.new).now)) }
     ensures whole { IfOk result (λ found. IfSome found (λ copy. IfSome head (λ head. Tells head copy.facts.items))) }
@@ -147,6 +146,12 @@ pub fn book_of_copy(
 ) -> Result<Option<BookCopy>, StoreFault>
     ensures copy { IfOk result (λ found. IfSome found (λ copy. IsCopyIn db.now log.now (record { owner = copy.owner; facts = copy.facts.items; log = copy.log }))) }
     ensures whole { IfOk result (λ found. IfSome found (λ copy. IfSome head (λ head. Tells head copy.facts.items))) }
+
+    // There is none only where one could be made, and the head tells no facts.
+    ensures none { IfOk result (λ found. IfNone found (HoldsNone head db.now log.now)) }
+
+    // Which fault it is: the database failed or is none, memory is wanted, or what the bytes hold is no book for this reason.
+    ensures refused { IfErr result (λ why. IsFailure why ⊎ IsCopyRefused head db.now log.now why) }
     ensures named { IfErr result IsLoadRefusal }
 {
     let mut connection = copied(alloc, db, log)?;

@@ -81,7 +81,7 @@ fn made_private(rt: &HostRuntime, file: &str) -> Result<(), StoreFault>
 
 /// The owner's book in a file, which is not loaded. A file that is not there is made, each of whose
 /// pages ends in its sum, and so are the tables of a book in a database without them; an older book is
-/// given its owner. `Busy` where another process has it open, `Store` where the
+/// given its owner, and one of version 1 becomes one of version 2. `Busy` where another process has it open, `Store` where the
 /// file is no database or fails, and the faults of `BookStore::open`. Nothing is said of what the file
 /// holds: no clause can name it.
 pub fn book_of_file(

@@ -2,7 +2,8 @@
 //!
 //! A [`BookStore`] is handed a connection, to memory or to a file, and the [`Owner`] of the book, and
 //! makes the book's three tables where they are missing ([`prepare`]). Another owner's book it
-//! refuses, and an older one, which says no owner, is given this. It is loaded before it is written,
+//! refuses; an older one, which says no owner, is given this, and one of version 1 becomes one of
+//! version 2. It is loaded before it is written,
 //! and facts are saved as the row that comes next, which covers its number and those after it, one
 //! for each fact:
 //!

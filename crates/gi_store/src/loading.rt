@@ -13,7 +13,7 @@ ghost use Rattle.gi_store.specs.declared.store_fault.StoreFault.TheVariants.{Ver
 use crate::reading::read_facts;
 use crate::statements::fact_rows;
 use crate::store_fault::StoreFault;
-use crate::version::check_version;
+use crate::version::read_version;
 use gi_facts::Fact;
 use sqlite::{Alter, Connection};
 use std::alloc::Global;
@@ -35,7 +35,7 @@ pub fn read_book<S: Alter>(
     ensures endures { IsClean S.Store connection.new → Endures (state S.Store connection.old) (state S.Store connection.new) }
     ensures failed { IsClean S.Store connection.new → IfErr result (IsLoadCaused (state S.Store connection.old) (state S.Store connection.new)) }
 {
-    check_version(connection)?;
+    read_version(connection)?;
     let rows = fact_rows(connection)?;
     read_facts(alloc, rows.as_slice())
 }

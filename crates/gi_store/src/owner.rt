@@ -41,7 +41,7 @@ impl Owner {
     pub(crate) fn text(self, alloc: Global) -> Result<String, AllocError>
         ensures { IfOk result (λ text. IsOwnerText (string_bytes text) self) }
     {
-        self.point.known();
+        self.point.reveal_invariant();
         format!(in alloc; "{self}")
     }
 }

@@ -4,10 +4,11 @@ ghost use Rattle.std.specs.Prelude.{◌≡◌, ◌≢◌, ◌⊎◌, false, Err,
 ghost use Rattle.gi_pairs.specs.Code.{IsCode};
 ghost use Rattle.gi_store.specs.Clean.{IsClean};
 ghost use Rattle.sqlite.specs.Held.{state};
-ghost use Rattle.gi_store.specs.Keeping.{IsBookOf, IsReady, Keeps, KeepsOrMakes, LeavesOrMakes};
+ghost use Rattle.gi_store.specs.Keeping.{IsBookOf, IsReady, IsVersion, Keeps, KeepsOrMakes, LeavesOrMakes};
 ghost use Rattle.gi_store.specs.Failing.{IsCausedAtAll};
 ghost use Rattle.gi_store.specs.FaultText.{IsFailure, IsPreparingRefusal};
 ghost use Rattle.gi_store.specs.Opening.{IsOpenFault};
+ghost use Rattle.gi_store.specs.Rows.{IsOwned};
 ghost use Rattle.gi_store.specs.Tables.{HasTables, IsFree, TakesOwner};
 ghost use Rattle.gi_store.specs.declared.store_fault.StoreFault.TheVariants.{OtherBook, Store, Version};
 
@@ -16,19 +17,20 @@ use crate::owner::Owner;
 use crate::owning::own;
 use crate::store_fault::StoreFault;
 use crate::tables::is_free;
-use crate::version::check_version;
+use crate::version::read_version;
 use sqlite::{Alter, Connection};
 use std::alloc::Global;
 
 /// Makes the three tables of this owner's book, with the rows of its version and of the owner, all in
 /// one transaction, where none of the three is there; other tables stay as they are. Takes a book of
-/// version 1 that is the owner's as it is, with its tables in any order and beside others. Of an older
-/// book, which says no owner, the table and the row of the owner are added, in one transaction.
+/// version 2 that is the owner's as it is, with its tables in any order and beside others; one of
+/// version 1 becomes one of version 2, by one UPDATE of the row of its version. Of an older book, which
+/// says no owner, the table and the row of the owner are added too, in the same transaction.
 /// `Version` where there is one of the first two tables without the other, one of other columns,
 /// another version or none, a table of the owner of other columns or with anything but one owner, or
 /// something else of these names; then `OtherBook` where it is another owner's. `Store` also where a
-/// transaction is under way. No row that was there is changed.
-#[tactic(auto, using(crate::proofs::Whose::ready_new, crate::proofs::Whose::keeps_new, crate::proofs::Whose::leaves_new, crate::proofs::Whose::keeps_later, crate::proofs::Whose::leaves_later, crate::proofs::Whose::version_refused, crate::proofs::Whose::owner_refused, crate::proofs::Causes::at_all, crate::proofs::Causes::at_all_later))]
+/// transaction is under way, or where a version is to be written and a foreign key is to its table. No
+/// row that was there is changed but that of the version.
 pub fn prepare<S: Alter>(
     alloc: Global,
     connection: &mut Connection<S>,
@@ -36,7 +38,7 @@ pub fn prepare<S: Alter>(
 ) -> Result<(), StoreFault>
     ensures early { IsClean S.Store connection.new → IsClean S.Store connection.old }
 
-    // On `Ok` the database is this owner's book of version 1.
+    // On `Ok` the database is this owner's book of version 2.
     ensures ready { IsClean S.Store connection.new → OnOk result (IsReady owner (state S.Store connection.new)) }
 
     // `Version` means that there was no such book, and that none could be made; `OtherBook` that there
@@ -53,9 +55,9 @@ pub fn prepare<S: Alter>(
     ensures busy { IsTrue (state S.Store connection.old).in_transaction → result ≡ Err Store }
     ensures other { (state S.Store connection.old).in_transaction ≡ false → ¬ (IsFree (state S.Store connection.old).now.schema) → ¬ (HasTables (state S.Store connection.old).now.schema) → result ≡ Err Version }
 
-    // Where nothing can be made `Store` is told where the rows of the version or of the owner could not
-    // be read.
-    ensures failed { IsClean S.Store connection.new → (state S.Store connection.old).in_transaction ≡ false → ¬ (IsFree (state S.Store connection.old).now.schema) → ¬ (TakesOwner (state S.Store connection.old).now.schema)
+    // Where nothing can be made, and there is no book of version 1 that is the owner's, so that none is raised, `Store` is told where
+    // the rows of the version or of the owner could not be read.
+    ensures failed { IsClean S.Store connection.new → (state S.Store connection.old).in_transaction ≡ false → ¬ (IsFree (state S.Store connection.old).now.schema) → ¬ (TakesOwner (state S.Store connection.old).now.schema) → ¬ (IsVersion 1 (state S.Store connection.old).now × IsOwned owner (state S.Store connection.old).now)
         → IfErr result (IsCausedAtAll (state S.Store connection.old) (state S.Store connection.new)) }
 
     // A refusal leaves what can be read as it was.
@@ -64,11 +66,12 @@ pub fn prepare<S: Alter>(
     // Its own transaction is over whatever comes of it, and one that was under way before still is.
     ensures mode { (state S.Store connection.new).in_transaction ≡ (state S.Store connection.old).in_transaction }
 
-    // What was there stays, with a new book beside it, with the owner of an older one, or with neither.
+    // What was there stays, with a new book beside it, with the owner of an older one, with a higher
+    // version, or with none of these.
     ensures kept { IsClean S.Store connection.new → IsTrue (state S.Store connection.new).is_open → KeepsOrMakes owner (state S.Store connection.old) (state S.Store connection.new) }
 
-    // A crash at any moment leaves what it could leave before, what was there with a new book, or an
-    // older book with its owner.
+    // A crash at any moment leaves what it could leave before, what was there with a new book, an older
+    // book with its owner, or the book of version 1 as one of version 2.
     ensures crash { IsClean S.Store connection.new → LeavesOrMakes owner (state S.Store connection.old) (state S.Store connection.new) }
 {
     if !connection.is_autocommit() {
@@ -79,6 +82,6 @@ pub fn prepare<S: Alter>(
         make_tables(connection, name.as_str())?;
         return Ok(());
     }
-    check_version(connection)?;
-    own(alloc, connection, owner)
+    let version = read_version(connection)?;
+    own(alloc, connection, owner, version)
 }

@@ -9,7 +9,7 @@ use std::fmt;
 /// Why a call on a book was refused.
 #[derive(Clone, Copy, Debug, PartialEq, Eq)]
 pub enum StoreFault {
-    /// The database is no book of version 1.
+    /// The database is no book of version 1 or 2.
     Version,
     /// The book is of another side or point: of these.
     OtherBook(Owner),

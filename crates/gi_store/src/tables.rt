@@ -2,13 +2,14 @@
 
 ghost use Rattle.std.specs.Prelude.{◌≡◌, ◌↔◌, [], ◌∷◌, true, false, Some, IsTrue, is_some, option_and_then, slice_get};
 ghost use Rattle.std.specs.List.{list_any};
-ghost use Rattle.gi_store.specs.Tables.{IsBare, IsFree, HasOwnerTable, HasTables, LacksOwner, TakesOwner, named_column, plain_table, table_at, tree_of};
+ghost use Rattle.gi_store.specs.Tables.{IsBare, IsFree, HasOwnerTable, HasTables, LacksOwner, StandsAlone, TakesOwner, book_tree, named_column, plain_table, refers_to_book, shares_tree, table_at, tree_of};
 ghost use Rattle.sqlite.specs.Does.{lacks_sequence};
 ghost use Rattle.sqlite_schema.specs.Names.{table_named};
 ghost use Rattle.sqlite_schema.specs.declared.schema.Kind.TheVariants.{Integer};
 
 use sqlite_catalog::layout::is_used;
 use sqlite_schema::code::Terms;
+use sqlite_schema::names::same_name;
 use sqlite_schema::schema::{Column, Kind, Schema, Stamps, Table};
 use sqlite_value::keys::Collation;
 use sqlite_value::value::Value;
@@ -120,6 +121,54 @@ fn lists(schema: &Schema, name: &[u8]) -> bool
         Some(at) => schema.tables.as_slice().get(at).is_some(),
         None => false,
     }
+}
+
+fn refers_to_book(table: &Table) -> bool
+    ensures { result ≡ refers_to_book table.now }
+{
+    table
+        .references
+        .as_slice()
+        .iter()
+        .any(|key| same_name(b"book", key.parent.as_slice()))
+}
+
+fn any_refers(tables: &[Table]) -> bool
+    ensures { result ≡ list_any refers_to_book tables.now }
+{
+    tables.iter().any(refers_to_book)
+}
+
+fn shares_tree(table: &Table, tree: u32) -> bool
+    ensures { result ≡ shares_tree tree table.now }
+{
+    table.tree == tree && table.name.as_slice() != b"book".as_slice()
+}
+
+fn any_shares(tables: &[Table], tree: u32) -> bool
+    ensures { result ≡ list_any (shares_tree tree) tables.now }
+{
+    tables.iter().any(|table| shares_tree(table, tree))
+}
+
+#[tactic(auto, unfolding(crate::specs::Tables::table_at, crate::specs::Tables::tree_of))]
+fn book_tree(schema: &Schema) -> u32
+    ensures { result ≡ book_tree schema.now }
+{
+    let Some(at) = schema.table_named(b"book") else {
+        return 0;
+    };
+    match schema.tables.as_slice().get(at) {
+        Some(table) => table.tree,
+        None => 0,
+    }
+}
+
+pub fn stands_alone(schema: &Schema) -> bool
+    ensures { IsTrue result ↔ StandsAlone schema.now }
+{
+    let tables = schema.tables.as_slice();
+    !any_refers(tables) && !any_shares(tables, book_tree(schema))
 }
 
 pub fn lacks_owner(schema: &Schema) -> bool

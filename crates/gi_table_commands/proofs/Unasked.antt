@@ -5,7 +5,7 @@ use Rattle.std.specs.Io.KnownBytes.{Keeps}
 use Rattle.clap.specs.Words.{HasKind, IsAmong, Kinds, kind_of}
 use Rattle.clap.specs.declared.error.Error.{Error}
 use Rattle.clap.specs.declared.error.kind.ErrorKind.TheVariants as kind
-use Rattle.gi_command_line.specs.Asked.{Wanted, about_book, at_once, audit, explain, hours, match_tables, mistaken, report, serve, simulate}
+use Rattle.gi_command_line.specs.Asked.{Wanted, about_book, at_once, audit, explain, hours, match_tables, mistaken, office, report, serve, simulate}
 use Rattle.gi_command_line.specs.CommandLine.{IsMistaken, objections}
 use Rattle.gi_table_commands.specs.Match.{IsFirstFault}
 use Rattle.gi_table_commands.specs.Tables.{IsTablesFault, MayReadTables}
@@ -36,6 +36,7 @@ may_want (at_once (explain side words book)) remaining = inr refl
 may_want (at_once (audit initiating matching point)) remaining = inr refl
 may_want (at_once (about_book file expected)) remaining = inr refl
 may_want (at_once mistaken) remaining = inr refl
+may_want (office wanted) remaining = inr refl
 may_want (serve wanted) remaining = inr refl
 
 -- each command may have read nothing
@@ -48,6 +49,7 @@ may_leave (at_once (explain side words book)) remaining = keeps_same remaining
 may_leave (at_once (audit initiating matching point)) remaining = keeps_same remaining
 may_leave (at_once (about_book file expected)) remaining = keeps_same remaining
 may_leave (at_once mistaken) remaining = keeps_same remaining
+may_leave (office wanted) remaining = keeps_same remaining
 may_leave (serve wanted) remaining = keeps_same remaining
 
 -- words that ask for no command are told as that, or memory ran out

@@ -49,6 +49,7 @@ fn perform_tables<R: Read, W: Write, E: Write>(
         Task::AtOnce(Request::Hours(day)) => reported(tell_hours(alloc, day, output), errors),
         Task::AtOnce(Request::Mistaken(mistake)) => point_out(mistake, errors),
         Task::AtOnce(_) => refer(errors),
+        Task::Office(_) => refer(errors),
         Task::Serve(_) => refer(errors),
     }
 }

@@ -29,6 +29,7 @@ use Rattle.gi_desk.proofs.ReadableLaws.{order-fits, read_back, response-fits}
 use Rattle.gi_desk.proofs.StateLaws.{state-closed}
 use Rattle.gi_world.specs.Agreement.{FitsWorld, IsLegal, IsOrdered, IsResponded, IsSent, IsSound, saved_facts}
 use Rattle.gi_world.specs.World.{WorldState, delivery, packet_at}
+use Rattle.gi_processing.specs.declared.rule.Rule.{Rule}
 
 -- ---- lists
 
@@ -101,18 +102,18 @@ unanswered_by point cycle None = refl
 unanswered_by point cycle (Some peer) = refl
 
 -- at the initiating side a closing lets out its order
-closing_orders : (point : List ℕ) (facts : List Fact) (n : ℕ) (id : CycleId) → IsFact facts n (Closed id)
+closing_orders : (point : List ℕ) (facts : List Fact) (n : ℕ) (id : CycleId) (rule : Rule) → IsFact facts n (Closed id rule)
     → filter is_for_peer (let_out I point facts n) ≡ to_peer (messages.Delord (order_of point (frozen_cycle I facts id))) ∷ []
-closing_orders point facts n id is =
-    sym (closing_for_peer I point facts n id is)
-    ∙ ap (let_out_on_closing I point) (state-closed I facts id (fact_closes facts n id is))
+closing_orders point facts n id rule is =
+    sym (closing_for_peer I point facts n id rule is)
+    ∙ ap (let_out_on_closing I point) (state-closed I facts id (fact_closes facts n id rule is))
     ∙ ordered_by point (frozen_cycle I facts id) (peer_of id facts)
 
 -- at the matching one nothing
-closing_is_silent : (point : List ℕ) (facts : List Fact) (n : ℕ) (id : CycleId) → IsFact facts n (Closed id) → filter is_for_peer (let_out M point facts n) ≡ []
-closing_is_silent point facts n id is =
-    sym (closing_for_peer M point facts n id is)
-    ∙ ap (let_out_on_closing M point) (state-closed M facts id (fact_closes facts n id is))
+closing_is_silent : (point : List ℕ) (facts : List Fact) (n : ℕ) (id : CycleId) (rule : Rule) → IsFact facts n (Closed id rule) → filter is_for_peer (let_out M point facts n) ≡ []
+closing_is_silent point facts n id rule is =
+    sym (closing_for_peer M point facts n id rule is)
+    ∙ ap (let_out_on_closing M point) (state-closed M facts id (fact_closes facts n id rule is))
     ∙ unanswered_by point (frozen_cycle M facts id) (peer_of id facts)
 
 -- a meeting lets out what the role writes of it
@@ -138,22 +139,22 @@ ToPeer side s n = filter is_for_peer (let_out side s.point s.facts n)
 order_of_fact : (w : WorldState) (n : ℕ) (fact : Fact) (packet : Packet) → let s = w.initiating.desk in IsLegal I s → FitsDesk I s.point s.facts → n ≤ s.saved → IsFact s.facts n fact
     → Contains (ToPeer I s n) packet → IsOrdered w packet
 order_of_fact w n (Contracted contract) packet legal fits below is there =
-    let s = w.initiating.desk in absurd (none_there (ToPeer I s n) packet (sym (other_for_peer I s.point s.facts n (Contracted contract) is (λ id e. cc) (λ id peer e. cc))) there)
+    let s = w.initiating.desk in absurd (none_there (ToPeer I s n) packet (sym (other_for_peer I s.point s.facts n (Contracted contract) is (λ id rule e. cc) (λ id peer e. cc))) there)
 order_of_fact w n (Noticed notice) packet legal fits below is there =
-    let s = w.initiating.desk in absurd (none_there (ToPeer I s n) packet (sym (other_for_peer I s.point s.facts n (Noticed notice) is (λ id e. cc) (λ id peer e. cc))) there)
+    let s = w.initiating.desk in absurd (none_there (ToPeer I s n) packet (sym (other_for_peer I s.point s.facts n (Noticed notice) is (λ id rule e. cc) (λ id peer e. cc))) there)
 order_of_fact w n (Nominated document) packet legal fits below is there =
-    let s = w.initiating.desk in absurd (none_there (ToPeer I s n) packet (sym (other_for_peer I s.point s.facts n (Nominated document) is (λ id e. cc) (λ id peer e. cc))) there)
+    let s = w.initiating.desk in absurd (none_there (ToPeer I s n) packet (sym (other_for_peer I s.point s.facts n (Nominated document) is (λ id rule e. cc) (λ id peer e. cc))) there)
 order_of_fact w n (Met id peer) packet legal fits below is there =
     let s = w.initiating.desk in absurd (none_there (ToPeer I s n) packet (meeting_writes I s.point s.facts n id peer legal.legal is) there)
-order_of_fact w n (Closed id) packet legal fits below is there =
+order_of_fact w n (Closed id rule) packet legal fits below is there =
     let s = w.initiating.desk in
     let cycle = frozen_cycle I s.facts id in
     let message = messages.Delord (order_of s.point cycle) in
-    let same = one_there (ToPeer I s n) (to_peer message) packet (closing_orders s.point s.facts n id is) there in
-    let frozen = frozen_fits cycle (peer_of id s.facts) (closed_fits I s.point s.facts id fits (fact_closes s.facts n id is)) in
+    let same = one_there (ToPeer I s n) (to_peer message) packet (closing_orders s.point s.facts n id rule is) there in
+    let frozen = frozen_fits cycle (peer_of id s.facts) (closed_fits I s.point s.facts id fits (fact_closes s.facts n id rule is)) in
     record {
       id = id;
-      closed = fact_closes (saved_facts s) n id (saved_fact s.facts s.saved n (Closed id) is below);
+      closed = fact_closes (saved_facts s) n id rule (saved_fact s.facts s.saved n (Closed id rule) is below);
       reads = subst (λ (p : Packet). decoded p.body ≡ Ok message) same (order_reads s.point cycle fits.point frozen);
     }
 
@@ -162,13 +163,13 @@ order_of_fact w n (Closed id) packet legal fits below is there =
 response_of_fact : (w : WorldState) (n : ℕ) (fact : Fact) (packet : Packet) → let s = w.matching.desk in IsLegal M s → FitsDesk M s.point s.facts → n ≤ s.saved → IsFact s.facts n fact
     → Contains (ToPeer M s n) packet → IsResponded w packet
 response_of_fact w n (Contracted contract) packet legal fits below is there =
-    let s = w.matching.desk in absurd (none_there (ToPeer M s n) packet (sym (other_for_peer M s.point s.facts n (Contracted contract) is (λ id e. cc) (λ id peer e. cc))) there)
+    let s = w.matching.desk in absurd (none_there (ToPeer M s n) packet (sym (other_for_peer M s.point s.facts n (Contracted contract) is (λ id rule e. cc) (λ id peer e. cc))) there)
 response_of_fact w n (Noticed notice) packet legal fits below is there =
-    let s = w.matching.desk in absurd (none_there (ToPeer M s n) packet (sym (other_for_peer M s.point s.facts n (Noticed notice) is (λ id e. cc) (λ id peer e. cc))) there)
+    let s = w.matching.desk in absurd (none_there (ToPeer M s n) packet (sym (other_for_peer M s.point s.facts n (Noticed notice) is (λ id rule e. cc) (λ id peer e. cc))) there)
 response_of_fact w n (Nominated document) packet legal fits below is there =
-    let s = w.matching.desk in absurd (none_there (ToPeer M s n) packet (sym (other_for_peer M s.point s.facts n (Nominated document) is (λ id e. cc) (λ id peer e. cc))) there)
-response_of_fact w n (Closed id) packet legal fits below is there =
-    let s = w.matching.desk in absurd (none_there (ToPeer M s n) packet (closing_is_silent s.point s.facts n id is) there)
+    let s = w.matching.desk in absurd (none_there (ToPeer M s n) packet (sym (other_for_peer M s.point s.facts n (Nominated document) is (λ id rule e. cc) (λ id peer e. cc))) there)
+response_of_fact w n (Closed id rule) packet legal fits below is there =
+    let s = w.matching.desk in absurd (none_there (ToPeer M s n) packet (closing_is_silent s.point s.facts n id rule is) there)
 response_of_fact w n (Met id peer) packet legal fits below is there =
     let s = w.matching.desk in
     let cycle = matched_of (frozen_cycle M s.facts id) peer in

@@ -22,6 +22,7 @@ use Rattle.gi_world.specs.Histories.{History, held, held_by, history_of}
 use Rattle.gi_world.specs.World.{StationState, WorldState, station_of}
 use Rattle.gi_world.proofs.ConfirmedLaws.{HaveMetFrozen, confirms-at-both, confirms-lower, sound-met}
 use Rattle.gi_world.proofs.Meetings.{some_in}
+use Rattle.gi_processing.specs.declared.rule.Rule.{Rule}
 
 -- ---- a closed cycle is closed exactly once
 
@@ -53,11 +54,11 @@ none_pass test [] any = refl
 none_pass test (x ∷ xs) any = none_by (test x) x (filter test xs) (list_any test xs) (none_pass test xs) any
 
 -- a fact that closes the cycle is its closing
-closing_is : (id : CycleId) (fact : Fact) → is_closing id fact ≡ true → fact ≡ Closed id
+closing_is : (id : CycleId) (fact : Fact) → is_closing id fact ≡ true → (rule : Rule) × (fact ≡ Closed id rule)
 closing_is id (Contracted contract) e = absurd cc
 closing_is id (Noticed notice) e = absurd cc
 closing_is id (Nominated document) e = absurd cc
-closing_is id (Closed other) e = ap Closed (same_cycle-is other id e)
+closing_is id (Closed other rule) e = (rule, ap (λ (c : CycleId). Closed c rule) (same_cycle-is other id e))
 closing_is id (Met other peer) e = absurd cc
 
 one_passes : {X : Type 0} (test : X → Bool) (before later : List X) (x : X) → test x ≡ true → list_any test before ≡ false → list_any test later ≡ false
@@ -73,8 +74,8 @@ unfolding is_closed
 closed_once side point facts id legal closed =
     let found = passed (is_closing id) facts closed in
     let closing = closing_is id found.one found.passes in
-    let is : facts ≡ found.before ++ Closed id ∷ found.later = found.is ∙ ap (λ (fact : Fact). found.before ++ fact ∷ found.later) closing in
-    let once = closes-once side point found.before found.later id (ap (bad_fact side point) (sym is) ∙ legal) in
+    let is : facts ≡ found.before ++ Closed id closing.0 ∷ found.later = found.is ∙ ap (λ (fact : Fact). found.before ++ fact ∷ found.later) closing.1 in
+    let once = closes-once side point found.before found.later id closing.0 (ap (bad_fact side point) (sym is) ∙ legal) in
     ap (closing_count id) found.is ∙ one_passes (is_closing id) found.before found.later found.one found.passes once.0 once.1
 
 -- ---- a table is confirmed where a saved fact met one
@@ -89,7 +90,7 @@ any_met id [] = refl
 any_met id (Contracted contract ∷ facts) = any_met id facts
 any_met id (Noticed notice ∷ facts) = any_met id facts
 any_met id (Nominated document ∷ facts) = any_met id facts
-any_met id (Closed other ∷ facts) = any_met id facts
+any_met id (Closed other rule ∷ facts) = any_met id facts
 any_met id (Met other peer ∷ facts) = first_met (same_cycle other id) peer (filter_map (peer_in id) facts) (list_any (is_meeting id) facts) (any_met id facts)
 
 some_mapped : {X Y : Type 0} (f : X → Y) (o : Option X) → is_some (option_map f o) ≡ is_some o

@@ -50,7 +50,7 @@ meeting_is : (id : CycleId) (fact : Fact) (table : TableContents) → peer_in id
 meeting_is id (Contracted contract) table e = absurd cc
 meeting_is id (Noticed notice) table e = absurd cc
 meeting_is id (Nominated document) table e = absurd cc
-meeting_is id (Closed other) table e = absurd cc
+meeting_is id (Closed other rule) table e = absurd cc
 meeting_is id (Met other peer) table e = same_meeting (same_cycle other id) id other peer table refl e
 
 one_more : (facts : List Fact) (fact : Fact) (id : CycleId) (table : TableContents) → peer_of id (facts ++ fact ∷ []) ≡ Some table
@@ -184,7 +184,7 @@ pub meets_none : (call : Call) (id : CycleId) (table : TableContents) → is_del
 meets_none (calls.Contract contract) id table local e = absurd cc
 meets_none (calls.Notice notice) id table local e = absurd cc
 meets_none (calls.Submit body) id table local e = nominates (decoded body) id table e
-meets_none (calls.Close other) id table local e = absurd cc
+meets_none (calls.Close other rule) id table local e = absurd cc
 meets_none (calls.Deliver body) id table local e = absurd cc
 meets_none (calls.Resend other) id table local e = absurd cc
 meets_none (calls.MarkSaved n fact) id table local e = absurd cc

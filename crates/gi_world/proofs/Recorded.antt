@@ -18,6 +18,7 @@ use Rattle.gi_nominations.specs.declared.verdict.Verdict.{Verdict}
 use Rattle.gi_nominations.specs.declared.verdict.Verdict.TheVariants as verdicts
 use Rattle.gi_processing.specs.declared.notice_fault.NoticeFault.{NoticeFault}
 use Rattle.gi_processing.specs.declared.notice_fault.NoticeFault.TheVariants as notices
+use Rattle.gi_processing.specs.declared.rule.Rule.{Rule}
 use Rattle.gi_cycles.specs.declared.cycle_state.CycleState.{CycleState}
 use Rattle.gi_cycles.specs.declared.cycle_state.CycleState.TheVariants.{Collecting, Frozen, Matched}
 use Rattle.gi_desk.specs.Deciding.{by_order, by_response, compared, cycle_of, difference, met_again, unless_differs}
@@ -159,14 +160,14 @@ mark_if : (saved n : ℕ) (fact : Fact) (next : Option Fact) (b : Bool) → nat_
 mark_if saved n fact next true is = same_if saved n fact next (grind (is, arith, nat_tests))
 mark_if saved n fact next false is = refuses None saved (refusals.NotNext (saved + 1))
 
-closing : (saved : ℕ) (history : List Fact) (id : CycleId) → Names (Some (Closed id)) saved (closed history id)
-closing saved history id =
+closing : (saved : ℕ) (history : List Fact) (id : CycleId) (rule : Rule) → Names (Some (Closed id rule)) saved (closed history id rule)
+closing saved history id rule =
     let last = last_closed id.day history in
-    let then = unless_later id.cycle last (Records (Closed id)) in
-    either (Some (Closed id)) saved (not (nat_lt id.cycle (cycle_count id.day))) (Refuses refusals.NoSuchCycle) (cond (is_closed id history) (Refuses refusals.AlreadyClosed) then)
-    (refuses (Some (Closed id)) saved refusals.NoSuchCycle)
-    (either (Some (Closed id)) saved (is_closed id history) (Refuses refusals.AlreadyClosed) then (refuses (Some (Closed id)) saved refusals.AlreadyClosed)
-    (later saved id.cycle last (Closed id)))
+    let then = unless_later id.cycle last (Records (Closed id rule)) in
+    either (Some (Closed id rule)) saved (not (nat_lt id.cycle (cycle_count id.day))) (Refuses refusals.NoSuchCycle) (cond (is_closed id history) (Refuses refusals.AlreadyClosed) then)
+    (refuses (Some (Closed id rule)) saved refusals.NoSuchCycle)
+    (either (Some (Closed id rule)) saved (is_closed id history) (Refuses refusals.AlreadyClosed) then (refuses (Some (Closed id rule)) saved refusals.AlreadyClosed)
+    (later saved id.cycle last (Closed id rule)))
 
 own_call : (side : Side) (s : DeskState) (call : Call) → Names (fact_named_by call) s.saved (comes_to side s call)
 own_call side s (calls.Contract contract) =
@@ -174,7 +175,7 @@ own_call side s (calls.Contract contract) =
     (refuses (Some (Contracted contract)) s.saved refusals.TooManyPortfolios) (records_it s.saved (Contracted contract))
 own_call side s (calls.Notice it) = notice s.saved (notice_refusal it) (Noticed it)
 own_call side s (calls.Submit body) = submission s.saved s.point s.facts (decoded body)
-own_call side s (calls.Close id) = closing s.saved s.facts id
+own_call side s (calls.Close id rule) = closing s.saved s.facts id rule
 own_call side s (calls.Deliver body) = delivery side s.saved s.point s.facts (decoded body)
 own_call side s (calls.Resend id) =
     either None s.saved (nat_le (number_of (is_closing id) s.facts) s.saved) (Resends id) (Refuses refusals.NotClosed) (λ fact e. absurd cc, λ n e. absurd cc)

@@ -39,6 +39,7 @@ use Rattle.gi_world.specs.Telling.{IsRead}
 use Rattle.gi_world.specs.World.{IsTextForPortfolio, is_telling, tells}
 use Rattle.gi_world.proofs.DeliveredPackets.{closed_fits, frozen_fits, none_there, one_there, order_reads, ordered_by, response_reads, saved_fact, some_fact, unanswered_by}
 use Rattle.gi_world.proofs.SentPackets.{all_kept}
+use Rattle.gi_processing.specs.declared.rule.Rule.{Rule}
 
 -- ---- what a portfolio is told can be read
 
@@ -101,15 +102,15 @@ silent packet other message same reads is telling =
     let never : true ≡ false = sym telling ∙ ap tells (sym same) ∙ ap is_telling reads ∙ is in absurd cc
 
 -- a closing writes to the peer alone
-closing_tells : (side : Side) (s : DeskState) (n : ℕ) (id : CycleId) (packet : Packet) → FitsDesk side s.point s.facts → IsFact s.facts n (Closed id)
+closing_tells : (side : Side) (s : DeskState) (n : ℕ) (id : CycleId) (rule : Rule) (packet : Packet) → FitsDesk side s.point s.facts → IsFact s.facts n (Closed id rule)
     → Contains (let_out side s.point s.facts n) packet → tells packet ≡ true → ⊥
-closing_tells side s n id packet fits is there telling = by_side side fits there
+closing_tells side s n id rule packet fits is there telling = by_side side fits there
   where
     closed : is_closed id s.facts ≡ true
-    closed = fact_closes s.facts n id is
+    closed = fact_closes s.facts n id rule is
 
     out : (side : Side) → let_out side s.point s.facts n ≡ let_out_on_closing side s.point (met_by (frozen_cycle side s.facts id) (peer_of id s.facts))
-    out side = sym (closing_lets_out side s.point s.facts n id is) ∙ ap (let_out_on_closing side s.point) (state-closed side s.facts id closed)
+    out side = sym (closing_lets_out side s.point s.facts n id rule is) ∙ ap (let_out_on_closing side s.point) (state-closed side s.facts id closed)
 
     by_side : (side : Side) → FitsDesk side s.point s.facts → Contains (let_out side s.point s.facts n) packet → ⊥
     by_side I fits there =
@@ -154,7 +155,7 @@ telling_of_fact side s n (Nominated document) packet legal fits below is there t
     let packet_is = to_user document.portfolio message in
     let same = one_there (let_out side s.point s.facts n) packet_is packet (let_out-is side s.point s.facts n (Nominated document) is) there in
     absurd (silent packet packet_is message same (read_back message (acknow-fits document (fact-fits side s.point s.facts n (Nominated document) fits is)) tt) refl telling)
-telling_of_fact side s n (Closed id) packet legal fits below is there telling = absurd (closing_tells side s n id packet fits is there telling)
+telling_of_fact side s n (Closed id rule) packet legal fits below is there telling = absurd (closing_tells side s n id rule packet fits is there telling)
 telling_of_fact side s n (Met id peer) packet legal fits below is there telling =
     let cycle = matched_of (frozen_cycle side s.facts id) peer in
     let all = fact_meets side s.point s.facts n id peer legal.legal is in
@@ -182,15 +183,15 @@ not_for_peer : (packet other : Packet) → other ≡ packet → is_for_peer othe
 not_for_peer packet other same inwards outwards = let never : true ≡ false = sym inwards ∙ ap is_for_peer same ∙ outwards in absurd cc
 
 -- a closing writes to the peer alone
-text_on_closing : (side : Side) (s : DeskState) (n : ℕ) (id : CycleId) (packet : Packet) → IsFact s.facts n (Closed id)
+text_on_closing : (side : Side) (s : DeskState) (n : ℕ) (id : CycleId) (rule : Rule) (packet : Packet) → IsFact s.facts n (Closed id rule)
     → Contains (let_out side s.point s.facts n) packet → is_for_peer packet ≡ false → ⊥
-text_on_closing side s n id packet is there outwards = by_side side there
+text_on_closing side s n id rule packet is there outwards = by_side side there
   where
     closed : is_closed id s.facts ≡ true
-    closed = fact_closes s.facts n id is
+    closed = fact_closes s.facts n id rule is
 
     out : (side : Side) → let_out side s.point s.facts n ≡ let_out_on_closing side s.point (met_by (frozen_cycle side s.facts id) (peer_of id s.facts))
-    out side = sym (closing_lets_out side s.point s.facts n id is) ∙ ap (let_out_on_closing side s.point) (state-closed side s.facts id closed)
+    out side = sym (closing_lets_out side s.point s.facts n id rule is) ∙ ap (let_out_on_closing side s.point) (state-closed side s.facts id closed)
 
     by_side : (side : Side) → Contains (let_out side s.point s.facts n) packet → ⊥
     by_side I there =
@@ -226,7 +227,7 @@ text_of_fact side s n (Nominated document) packet legal fits is there outwards =
     let same = one_there (let_out side s.point s.facts n) packet_is packet (let_out-is side s.point s.facts n (Nominated document) is) there in
     let reads = read_back message (acknow-fits document (fact-fits side s.point s.facts n (Nominated document) fits is)) tt in
     subst IsTextForPortfolio same (record { message = message; for_portfolio = tt; written = refl; reads = reads })
-text_of_fact side s n (Closed id) packet legal fits is there outwards = absurd (text_on_closing side s n id packet is there outwards)
+text_of_fact side s n (Closed id rule) packet legal fits is there outwards = absurd (text_on_closing side s n id rule packet is there outwards)
 text_of_fact side s n (Met id peer) packet legal fits is there outwards =
     let cycle = matched_of (frozen_cycle side s.facts id) peer in
     let all = fact_meets side s.point s.facts n id peer legal.legal is in

@@ -63,7 +63,7 @@ abbrev pub fact_named_by : Call → Option Fact
 fact_named_by (calls.Contract contract) = Some (Contracted contract)
 fact_named_by (calls.Notice notice) = Some (Noticed notice)
 fact_named_by (calls.Submit body) = nomination_in (decoded body)
-fact_named_by (calls.Close id) = Some (Closed id)
+fact_named_by (calls.Close id rule) = Some (Closed id rule)
 fact_named_by (calls.Deliver body) = meeting_in (decoded body)
 fact_named_by (calls.Resend id) = None
 fact_named_by (calls.MarkSaved n fact) = None

@@ -15,7 +15,7 @@
 //!
 //! ```text
 //! let mut world = World::new(alloc, point)?;
-//! world.step(&Step::Local { side: Side::I, call: Call::Close(id) })?;
+//! world.step(&Step::Local { side: Side::I, call: Call::Close { id, rule: Rule::Two } })?;
 //! let n = world.initiating().len();
 //! ```
 //!

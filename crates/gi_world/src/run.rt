@@ -40,7 +40,7 @@ fn make(
     ensures outcome { OnOk result (outcomes.new.items ≡ outcomes.old.items ++ outcome_of world.old step.now ∷ []) }
     ensures next { OnOk result (world.new ≡ after world.old step.now) }
     ensures agrees { OnOk result (Agrees step.now (outcome_of world.old step.now)) }
-    ensures kept { OnErr result (outcomes.new.items ≡ outcomes.old.items) }
+    ensures unchanged { OnErr result (outcomes.new.items ≡ outcomes.old.items) }
     ensures same { OnErr result (world.new ≡ world.old) }
     ensures short { OnErr result (may_want world.old step.now ≡ true) }
     ensures len { OnOk result (vec_len outcomes.new ≡ vec_len outcomes.old + 1) }
@@ -100,7 +100,7 @@ pub fn run_world(alloc: Global, point: Code, steps: &[Step]) -> Result<Run, Star
         Ok(()) => steps.len(),
         Err(_) => outcomes.len(),
     };
-    world.known();
+    world.reveal_invariant();
     Ok(Run {
         world,
         outcomes: Outcomes::from(outcomes),

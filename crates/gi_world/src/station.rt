@@ -34,11 +34,11 @@ impl<R: Role> Model for Station<R> {
 
 /// Does nothing: what it promises of a desk is always so, and is known once it is called; `saved`
 /// tells that no more facts are saved than there are.
-fn known<R: Role>(desk: &Desk<R>)
+fn reveal_invariant<R: Role>(desk: &Desk<R>)
     ensures legal { IsLegal R.SIDE desk.now }
     ensures fits { FitsDesk R.SIDE desk.now.point desk.now.facts }
 {
-    desk.known();
+    desk.reveal_invariant();
     let _ = desk.saved();
 }
 
@@ -77,10 +77,10 @@ impl<R: Role> Station<R> {
     pub(crate) fn take(&mut self, call: &Call) -> Result<Reply, AllocError>
         ensures reply { IfOk result (λ reply. reply ≡ reply_of R.SIDE self.old.desk call.now) }
         ensures next { OnOk result (self.new ≡ after_call R.SIDE self.old call.now) }
-        ensures kept { OnErr result (self.new ≡ self.old) }
+        ensures unchanged { OnErr result (self.new ≡ self.old) }
         ensures short { OnErr result (IsTrue (may_want R.SIDE self.old.desk call.now)) }
     {
-        known(&self.desk);
+        reveal_invariant(&self.desk);
         let prepared = self.desk.prepare(call)?;
         let out = prepared.reply().out.as_slice();
         let Ok((mut sent, mut told)) = kept(self.alloc, out) else {
@@ -135,11 +135,11 @@ impl<R: Role> Station<R> {
     pub(crate) fn restart(&mut self, keep: u32) -> Result<(), AllocError>
         requires { keep ≤ length self.now.desk.facts }
         ensures next { OnOk result (self.new ≡ after_restart self.old keep) }
-        ensures kept { OnErr result (self.new ≡ self.old) }
+        ensures unchanged { OnErr result (self.new ≡ self.old) }
         ensures short { OnErr result (0 < keep) }
     {
         fronts_are_legal();
-        self.desk.known();
+        self.desk.reveal_invariant();
         let facts = self.front(keep)?;
         let desk = self.replay(facts)?;
         drop(mem::replace(&mut self.desk, desk));

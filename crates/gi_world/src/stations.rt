@@ -63,11 +63,11 @@ impl Stations {
         self.matching.desk()
     }
 
-    pub(crate) fn known(&self)
+    pub(crate) fn reveal_invariant(&self)
         ensures { FitsWorld self.now }
     {
-        self.initiating.desk().known();
-        self.matching.desk().known();
+        self.initiating.desk().reveal_invariant();
+        self.matching.desk().reveal_invariant();
     }
 
     pub(crate) fn sent(&self, side: Side) -> &[Packet]
@@ -91,7 +91,7 @@ impl Stations {
     fn take(&mut self, side: Side, call: &Call) -> Result<Reply, AllocError>
         ensures reply { IfOk result (λ reply. reply ≡ reply_of side (station_of side self.old).desk call.now) }
         ensures next { OnOk result (self.new ≡ with_station side (after_call side (station_of side self.old) call.now) self.old) }
-        ensures kept { OnErr result (self.new ≡ self.old) }
+        ensures unchanged { OnErr result (self.new ≡ self.old) }
         ensures short { OnErr result (IsTrue (may_want side (station_of side self.old).desk call.now)) }
     {
         match side {
@@ -103,7 +103,7 @@ impl Stations {
     fn start_again(&mut self, side: Side, keep: u32) -> Result<(), AllocError>
         requires { keep ≤ length (station_of side self.now).desk.facts }
         ensures next { OnOk result (self.new ≡ with_station side (after_restart (station_of side self.old) keep) self.old) }
-        ensures kept { OnErr result (self.new ≡ self.old) }
+        ensures unchanged { OnErr result (self.new ≡ self.old) }
         ensures short { OnErr result (0 < keep) }
     {
         match side {

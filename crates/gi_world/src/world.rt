@@ -72,7 +72,7 @@ impl World {
         ensures value { result.now ≡ (station_of side self.now).sent }
         ensures carries { All (Carries side self.now) result.now }
     {
-        self.stations.known();
+        self.stations.reveal_invariant();
         self.stations.sent(side)
     }
 
@@ -82,7 +82,7 @@ impl World {
         ensures value { result.now ≡ (station_of side self.now).told }
         ensures lower { All (TellsTheLower (held self.now) side) result.now }
     {
-        self.stations.known();
+        self.stations.reveal_invariant();
         self.stations.told(side)
     }
 
@@ -116,17 +116,17 @@ impl World {
         ensures one_quantity { OneConfirmedQuantity (held self.new) }
     {
         lessens_both_ways();
-        self.stations.known();
+        self.stations.reveal_invariant();
         let outcome = self.stations.step(step);
-        self.stations.known();
+        self.stations.reveal_invariant();
         outcome
     }
 
-    pub(crate) fn known(&self)
+    pub(crate) fn reveal_invariant(&self)
         ensures lower { ConfirmsTheLower self.now }
         ensures both { ConfirmsAtBoth self.now }
         ensures one_quantity { OneConfirmedQuantity (held self.now) }
     {
-        self.stations.known();
+        self.stations.reveal_invariant();
     }
 }

@@ -12,7 +12,8 @@ use crate::call::Call;
 use crate::decision::Decision;
 use crate::desk::Desk;
 use crate::judging::{
-    addressed, can_meet, contracted, is_short, marked, noticed, records, unless_full,
+    addressed, can_meet, contracted, have_priorities, is_short, marked, noticed, records,
+    unless_full,
 };
 use crate::outcome::Outcome;
 use crate::refusal::Refusal;
@@ -22,6 +23,7 @@ use gi_facts::Fact;
 use gi_messages::{LAST_VERSION, Message, MessageFault, Nomint, decode};
 use gi_nominations::{Setting, Verdict};
 use gi_pairs::{CycleId, Table};
+use gi_processing::Rule;
 use std::alloc::AllocError;
 
 impl<R: Role> Desk<R> {
@@ -64,8 +66,8 @@ impl<R: Role> Desk<R> {
         }
     }
 
-    fn closed(&self, id: &CycleId) -> Outcome
-        ensures { result ≡ closed_of self.now.facts id.now }
+    fn closed(&self, id: &CycleId, rule: Rule) -> Outcome
+        ensures { result ≡ closed_of self.now.facts id.now rule }
     {
         let frame = self.calendar.frame(id.day).unwrap();
         if id.cycle >= frame.cycle_count() {
@@ -79,7 +81,7 @@ impl<R: Role> Desk<R> {
                 return Outcome::Refuses(Refusal::OutOfOrder { last });
             }
         }
-        Outcome::Records(Fact::Closed(*id))
+        Outcome::Records(Fact::Closed { id: *id, rule })
     }
 
     fn by_decision(&self, id: CycleId, decision: Decision) -> Outcome
@@ -155,7 +157,7 @@ impl<R: Role> Desk<R> {
             Call::Contract(contract) => Ok(contracted(self.contracts(), contract)),
             Call::Notice(notice) => Ok(noticed(&self.calendar, notice)),
             Call::Submit(body) => self.submitted(body.as_slice()),
-            Call::Close(id) => Ok(self.closed(id)),
+            Call::Close { id, rule } => Ok(self.closed(id, *rule)),
             Call::Deliver(body) => self.delivered(body.as_slice()),
             Call::Resend(id) => Ok(self.resending(id)),
             Call::MarkSaved { n, fact } => Ok(marked(&self.facts, self.saved, *n, fact)),
@@ -180,7 +182,7 @@ impl<R: Role> Desk<R> {
             Fact::Contracted(contract) => records(contracted(self.contracts(), contract)),
             Fact::Noticed(notice) => records(noticed(&self.calendar, notice)),
             Fact::Nominated(document) => self.would_take(document),
-            Fact::Closed(id) => records(self.closed(id)),
+            Fact::Closed { id, rule } => records(self.closed(id, *rule)),
             Fact::Met { id, peer } => self.would_meet(id, peer),
         }
     }
@@ -191,6 +193,7 @@ impl<R: Role> Desk<R> {
         self.verdict(document) == Verdict::Recordable
             && 1 <= document.version
             && document.version <= LAST_VERSION
+            && have_priorities(document.lines.as_slice())
     }
 
     fn would_meet(&self, id: &CycleId, peer: &Table) -> bool

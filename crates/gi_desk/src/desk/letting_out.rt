@@ -3,7 +3,7 @@
 ghost use Rattle.std.specs.Prelude.{◌≡◌, ◌≤◌, ◌++◌, IfErr, IfOk, IsTrue, filter, is_some, length, true};
 ghost use Rattle.gi_cycles.specs.declared.cycle_state.CycleState.TheVariants as states;
 ghost use Rattle.gi_desk.specs.History.{is_closed, is_closing, is_meeting, number_of, peer_of, state_of};
-ghost use Rattle.gi_desk.specs.Kept.{CanFollow};
+ghost use Rattle.gi_desk.specs.Caches.{CanFollow};
 ghost use Rattle.gi_desk.specs.LetOut.{IsFact, let_out as let_out_of, sent};
 ghost use Rattle.gi_desk.specs.Machine.{is_for_peer, out_of, saved_out as saved_out_of, some_leave};
 ghost use Rattle.gi_desk.specs.Messages.{on_met, told_packets as told_packets_of};
@@ -63,7 +63,11 @@ impl<R: Role> Desk<R> {
         ensures short { IfErr result (λ _. IsTrue (some_leave (filter is_for_peer (let_out_of R.SIDE self.now.point self.now.facts n)))) }
     {
         match self.numbered(n) {
-            Fact::Closed(id) => on_closing::<R>(self.alloc, self.point, self.closed_state(id)),
+            Fact::Closed { id, .. } => on_closing::<R>(
+                self.alloc,
+                self.point,
+                self.closed_state(id),
+            ),
             Fact::Met { id, .. } => on_meeting::<R>(self.alloc, self.point, self.matched(id)),
             _ => Ok(Vec::new(self.alloc)),
         }
@@ -77,13 +81,19 @@ impl<R: Role> Desk<R> {
     {
         match self.numbered(n) {
             Fact::Nominated(document) => on_taking(self.alloc, document),
-            Fact::Closed(id) => on_closing::<R>(self.alloc, self.point, self.closed_state(id)),
+            Fact::Closed { id, .. } => on_closing::<R>(
+                self.alloc,
+                self.point,
+                self.closed_state(id),
+            ),
             Fact::Met { id, .. } => self.let_out_on_meeting(self.matched(id)),
             _ => Ok(Vec::new(self.alloc)),
         }
     }
 
-    fn saved_out(&self, n: u32) -> Result<Vec<Packet>, AllocError>
+    /// What fact number `n`, from 1, let out once it was saved; nothing where it is not saved. Want of
+    /// memory comes only where there is such a packet.
+    pub fn saved_out(&self, n: u32) -> Result<Vec<Packet>, AllocError>
         requires { 1 ≤ n }
         ensures value { IfOk result (λ packets. packets.items ≡ saved_out_of R.SIDE self.now n) }
         ensures short { IfErr result (λ _. IsTrue (some_leave (saved_out_of R.SIDE self.now n))) }

@@ -5,7 +5,7 @@ ghost use Rattle.std.specs.Option.{option_copied, option_map};
 ghost use Rattle.gi_facts.specs.Grammar.{IsWritable};
 ghost use Rattle.gi_desk.specs.History.{is_meeting, number_of, state_of};
 ghost use Rattle.gi_desk.specs.Machine.{some_leave};
-ghost use Rattle.gi_desk.specs.Queries.{acknowledged as is_acknowledged, confirmed as confirmed_of, fact_at, matched_in as matched_in_state, met_saved as met_saved_of, outgoing as outgoing_of, stage_of, told as told_in, unsaved as next_unsaved};
+ghost use Rattle.gi_desk.specs.Queries.{acknowledged as is_acknowledged, closing as closing_of, confirmed as confirmed_of, fact_at, frozen as frozen_of, matched_in as matched_in_state, meeting as meeting_of, met_saved as met_saved_of, outgoing as outgoing_of, own_in as own_in_state, peer_in as peer_in_state, stage_of, told as told_in, unsaved as next_unsaved};
 
 use crate::desk::Desk;
 use crate::packet::Packets;
@@ -24,6 +24,25 @@ fn matched_in(state: &CycleState) -> Option<&Matched>
 {
     match state {
         CycleState::Matched(cycle) => Some(cycle),
+        _ => None,
+    }
+}
+
+fn own_in(state: &CycleState) -> Option<&Table>
+    ensures { option_copied result ≡ own_in_state state.now }
+{
+    match state {
+        CycleState::Collecting(_) => None,
+        CycleState::Frozen(cycle) => Some(cycle.own()),
+        CycleState::Matched(cycle) => Some(cycle.own()),
+    }
+}
+
+fn peer_in(state: &CycleState) -> Option<&Table>
+    ensures { option_copied result ≡ peer_in_state state.now }
+{
+    match state {
+        CycleState::Matched(cycle) => Some(cycle.peer()),
         _ => None,
     }
 }
@@ -65,6 +84,33 @@ impl<R: Role> Desk<R> {
         }
     }
 
+    /// The number of the fact that closed the cycle, saved or not.
+    pub fn closing(&self, id: CycleId) -> Option<u32>
+        ensures { result ≡ closing_of self.now.facts id }
+    {
+        if !self.is_closed(&id) {
+            return None;
+        }
+        Some(self.number_of_closing(&id))
+    }
+
+    /// The frozen table of the cycle, whether its closing is saved or not.
+    pub fn frozen(&self, id: CycleId) -> Option<&Table>
+        ensures { option_copied result ≡ frozen_of R.SIDE self.now.facts id }
+    {
+        own_in(self.find(&id)?)
+    }
+
+    /// The number of the fact by which the cycle met the peer's table, saved or not, and that table.
+    pub fn meeting(&self, id: CycleId) -> Option<(u32, &Table)>
+        ensures { option_map (λ it. (it.0, it.1.now)) result ≡ meeting_of self.now.facts id }
+    {
+        // Of legal facts a cycle that met is closed.
+        self.reveal_invariant();
+        let peer = peer_in(self.find(&id)?)?;
+        Some((self.number_of_meeting(&id), peer))
+    }
+
     /// What is confirmed of the cycle: the lesser of its frozen table and the peer's, once a saved
     /// fact met the latter.
     pub fn confirmed(&self, id: CycleId) -> Option<&Table>
@@ -79,7 +125,7 @@ impl<R: Role> Desk<R> {
         ensures { option_copied result ≡ met_saved_of R.SIDE self.now id.now }
     {
         // Of legal facts a cycle that met is matched.
-        self.known();
+        self.reveal_invariant();
         if self.lacks_saved_meeting(id) {
             return None;
         }

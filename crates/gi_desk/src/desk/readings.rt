@@ -6,7 +6,7 @@ ghost use Rattle.gi_processing.specs.Readings.{ReadsAs};
 ghost use Rattle.gi_desk.specs.History.{capacity_of, documents_of, is_closed as is_closed_in, is_closing, is_meeting, is_taking, last_closed as last_closed_of, number_of};
 ghost use Rattle.gi_nominations.specs.declared.verdict.Verdict.TheVariants.{Repeat};
 ghost use Rattle.gi_desk.specs.Judging.{verdict_on};
-ghost use Rattle.gi_desk.specs.Kept.{HasInForce, closed_state};
+ghost use Rattle.gi_desk.specs.Caches.{HasInForce, closed_state};
 
 use crate::desk::Desk;
 use crate::role::Role;
@@ -65,7 +65,7 @@ impl<R: Role> Desk<R> {
         ensures { result ≡ length self.now.facts + 1 }
     {
         // There are so few facts that one more has a number.
-        self.known();
+        self.reveal_invariant();
         self.len() + 1
     }
 

@@ -13,20 +13,20 @@ ghost use Rattle.gi_facts.specs.declared.fact.Fact.TheVariants.{Closed, Contract
 
 use crate::capacity::{record_contract, record_notice};
 use crate::desk::Desk;
-use crate::ranges::fact_known;
+use crate::ranges::reveal_fact;
 use crate::role::Role;
 use crate::stages::{close, meet};
 use gi_facts::Fact;
 use gi_messages::Nomint;
 use gi_nominations::PortfolioDay;
 use gi_pairs::{CycleId, Table};
-use gi_processing::{Contract, Notice, processed};
+use gi_processing::{Contract, Notice, Rule, processed};
 use std::alloc::AllocError;
 
 impl<R: Role> Desk<R> {
-    fn processed(&self, id: &CycleId) -> Result<Table, AllocError>
+    fn processed(&self, id: &CycleId, rule: Rule) -> Result<Table, AllocError>
         requires { IsCycle id.now.day id.now.cycle }
-        ensures value { IfOk result (λ table. table ≡ processed_of (capacity_of self.now.facts) (documents_of self.now.facts) R.SIDE id.now.day id.now.cycle) }
+        ensures value { IfOk result (λ table. table ≡ processed_of (capacity_of self.now.facts) (documents_of self.now.facts) R.SIDE id.now.day id.now.cycle rule) }
         ensures few { IfOk result (λ table. length table.rows ≤ most_processed_rows) }
         ensures table { IfOk result IsTable }
     {
@@ -38,17 +38,18 @@ impl<R: Role> Desk<R> {
             R::SIDE,
             &frame,
             id.cycle,
+            rule,
         )
     }
 
-    fn freeze(&mut self, id: &CycleId) -> Result<(), AllocError>
-        requires recorded { would_record R.SIDE self.now.point self.now.facts (Closed id.now) ≡ true }
+    fn freeze(&mut self, id: &CycleId, rule: Rule) -> Result<(), AllocError>
+        requires recorded { would_record R.SIDE self.now.point self.now.facts (Closed id.now rule) ≡ true }
         requires room { length self.now.facts < most_facts }
-        requires fits { FitsFact (Closed id.now) }
-        ensures next { OnOk result (self.new ≡ record self.old { facts = self.old.facts ++ Closed id.now ∷ [] }) }
-        ensures kept { OnErr result (self.new ≡ self.old) }
+        requires fits { FitsFact (Closed id.now rule) }
+        ensures next { OnOk result (self.new ≡ record self.old { facts = self.old.facts ++ Closed id.now rule ∷ [] }) }
+        ensures unchanged { OnErr result (self.new ≡ self.old) }
     {
-        let own = self.processed(id)?;
+        let own = self.processed(id, rule)?;
         let number = self.next_number();
         let Ok(()) = self.facts.reserve(1) else {
             // (handed to drop, by one call: going out of scope here would be checked field by field on each way out)
@@ -56,7 +57,7 @@ impl<R: Role> Desk<R> {
             return Err(AllocError);
         };
         close(&mut self.stages, id, own, number)?;
-        self.facts.push_reserved(Fact::Closed(*id));
+        self.facts.push_reserved(Fact::Closed { id: *id, rule });
         Ok(())
     }
 
@@ -65,7 +66,7 @@ impl<R: Role> Desk<R> {
         requires room { length self.now.facts < most_facts }
         requires fits { FitsFact (Met id.now peer) }
         ensures next { OnOk result (self.new ≡ record self.old { facts = self.old.facts ++ Met id.now peer ∷ [] }) }
-        ensures kept { OnErr result (self.new ≡ self.old) }
+        ensures unchanged { OnErr result (self.new ≡ self.old) }
     {
         // The fact and the cycle hold the peer's table in the same memory.
         let peer = peer.share()?;
@@ -94,7 +95,7 @@ impl<R: Role> Desk<R> {
         requires room { length self.now.facts < most_facts }
         requires fits { FitsFact (Contracted contract.now) }
         ensures next { OnOk result (self.new ≡ record self.old { facts = self.old.facts ++ Contracted contract.now ∷ [] }) }
-        ensures kept { OnErr result (self.new ≡ self.old) }
+        ensures unchanged { OnErr result (self.new ≡ self.old) }
     {
         self.facts.reserve(1)?;
         record_contract(&mut self.contracts, *contract)?;
@@ -107,7 +108,7 @@ impl<R: Role> Desk<R> {
         requires room { length self.now.facts < most_facts }
         requires fits { FitsFact (Noticed notice.now) }
         ensures next { OnOk result (self.new ≡ record self.old { facts = self.old.facts ++ Noticed notice.now ∷ [] }) }
-        ensures kept { OnErr result (self.new ≡ self.old) }
+        ensures unchanged { OnErr result (self.new ≡ self.old) }
     {
         self.facts.reserve(1)?;
         record_notice(&mut self.contracts, &self.calendar, *notice)?;
@@ -120,7 +121,7 @@ impl<R: Role> Desk<R> {
         requires room { length self.now.facts < most_facts }
         requires fits { FitsFact (Nominated document) }
         ensures next { OnOk result (self.new ≡ record self.old { facts = self.old.facts ++ Nominated document ∷ [] }) }
-        ensures kept { OnErr result (self.new ≡ self.old) }
+        ensures unchanged { OnErr result (self.new ≡ self.old) }
     {
         let Ok(taken) = document.copy() else {
             drop(document);
@@ -151,10 +152,10 @@ impl<R: Role> Desk<R> {
         requires room { length self.now.facts < most_facts }
         requires fits { FitsFact fact }
         ensures next { OnOk result (self.new ≡ record self.old { facts = self.old.facts ++ fact ∷ [] }) }
-        ensures kept { OnErr result (self.new ≡ self.old) }
+        ensures unchanged { OnErr result (self.new ≡ self.old) }
     {
         match fact {
-            Fact::Closed(id) => self.freeze(&id),
+            Fact::Closed { id, rule } => self.freeze(&id, rule),
             Fact::Met { id, peer } => self.meet(&id, peer),
             Fact::Contracted(contract) => self.contract(&contract),
             Fact::Noticed(notice) => self.notice(&notice),
@@ -166,11 +167,11 @@ impl<R: Role> Desk<R> {
         requires recorded { would_record R.SIDE self.now.point self.now.facts fact ≡ true }
         requires room { length self.now.facts < most_facts }
         ensures next { OnOk result (self.new ≡ record self.old { facts = self.old.facts ++ fact ∷ [] }) }
-        ensures kept { OnErr result (self.new ≡ self.old) }
+        ensures unchanged { OnErr result (self.new ≡ self.old) }
     {
         // All that is recorded can be written, and so the fact that comes next.
-        self.known();
-        fact_known(&fact);
+        self.reveal_invariant();
+        reveal_fact(&fact);
         self.put(fact)
     }
 }

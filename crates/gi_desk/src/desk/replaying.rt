@@ -21,7 +21,7 @@ impl<R: Role> Desk<R> {
     fn empty(alloc: Global, calendar: Calendar, point: Code) -> Desk<R>
         ensures { result ≡ record { point = point; facts = []; saved = 0; halted = false } }
     {
-        point.known();
+        point.reveal_invariant();
         Desk {
             alloc,
             calendar,

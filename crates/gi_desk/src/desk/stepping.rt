@@ -1,7 +1,7 @@
 //! One step: what the call comes to, what that lets out, and then the change.
 
 ghost use Rattle.std.specs.Prelude.{◌≡◌, IfErr, IfOk, IsTrue, OnErr, OnOk};
-ghost use Rattle.gi_desk.specs.Kept.{CanFollow};
+ghost use Rattle.gi_desk.specs.Caches.{CanFollow};
 ghost use Rattle.gi_desk.specs.declared.call.Call.{Call};
 ghost use Rattle.gi_desk.specs.Machine.{IsForeseen, IsPrepared, IsStep, after, answer_of, is_record, may_want, may_want_to_prepare, next_of, out_of_memory, prepared as prepared_of, reply as reply_of};
 
@@ -44,7 +44,7 @@ impl<R: Role> Desk<R> {
     fn apply(&mut self, outcome: Outcome) -> Result<(), AllocError>
         requires { CanFollow R.SIDE self.now outcome }
         ensures next { OnOk result (self.new ≡ next_of self.old outcome) }
-        ensures kept { OnErr result (self.new ≡ self.old) }
+        ensures unchanged { OnErr result (self.new ≡ self.old) }
         ensures short { IfErr result (λ _. IsTrue (is_record outcome)) }
     {
         match outcome {
@@ -81,7 +81,7 @@ impl<R: Role> Desk<R> {
         requires { IsPrepared R.SIDE self.now prepared }
         ensures reply { IfOk result (λ reply. reply ≡ prepared.reply) }
         ensures next { OnOk result ((call : Call) → prepared ≡ prepared_of R.SIDE self.old call → self.new ≡ after R.SIDE self.old call) }
-        ensures kept { OnErr result (self.new ≡ self.old) }
+        ensures unchanged { OnErr result (self.new ≡ self.old) }
         ensures short { IfErr result (λ _. IsTrue (is_record prepared.outcome)) }
     {
         let Prepared { outcome, reply } = prepared;
@@ -92,7 +92,7 @@ impl<R: Role> Desk<R> {
     fn try_step(&mut self, call: &Call) -> Result<Reply, AllocError>
         ensures reply { IfOk result (λ reply. reply ≡ reply_of R.SIDE self.old call.now) }
         ensures next { OnOk result (self.new ≡ after R.SIDE self.old call.now) }
-        ensures kept { OnErr result (self.new ≡ self.old) }
+        ensures unchanged { OnErr result (self.new ≡ self.old) }
         ensures short { IfErr result (λ _. IsTrue (may_want R.SIDE self.old call.now)) }
     {
         let prepared = self.prepare(call)?;

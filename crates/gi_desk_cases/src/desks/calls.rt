@@ -45,7 +45,7 @@ fn named(alloc: Global, word: &str, mut words: Words<'_>) -> Result<Option<Call>
         "contract" => words.contract().map(|contract| Call::Contract(contract)),
         "notice" => words.notice().map(|notice| Call::Notice(notice)),
         "submit" => Some(Call::Submit(body(alloc, words.rest())?)),
-        "close" => words.cycle().map(|id| Call::Close(id)),
+        "close" => words.closing().map(|(id, rule)| Call::Close { id, rule }),
         "deliver" => Some(Call::Deliver(body(alloc, words.rest())?)),
         "resend" => words.cycle().map(|id| Call::Resend(id)),
         "mark" => mark(alloc, words),

@@ -16,7 +16,7 @@ fn on_closed(
     state: &CycleState,
     side: Side,
     point: Code,
-) -> Result<Option<Option<Message>>, AllocError> {
+) -> Result<Option<Vec<Message>>, AllocError> {
     let CycleState::Frozen(cycle) = state else {
         return Ok(None);
     };
@@ -32,7 +32,7 @@ fn on_met(
     state: &CycleState,
     side: Side,
     point: Code,
-) -> Result<Option<Option<Message>>, AllocError> {
+) -> Result<Option<Vec<Message>>, AllocError> {
     let CycleState::Matched(cycle) = state else {
         return Ok(None);
     };
@@ -48,7 +48,7 @@ fn by_role(
     state: &CycleState,
     method: &str,
     words: Words<'_>,
-) -> Result<Option<Option<Message>>, AllocError> {
+) -> Result<Option<Vec<Message>>, AllocError> {
     let mut words = words;
     let (Some(side), Some(point)) = (words.side(), words.code()) else {
         return Ok(None);
@@ -61,23 +61,31 @@ fn by_role(
 }
 
 /// The order of the closed cycle.
-fn order(state: &CycleState, words: Words<'_>) -> Result<Option<Option<Message>>, AllocError> {
+fn order(
+    alloc: Global,
+    state: &CycleState,
+    words: Words<'_>,
+) -> Result<Option<Vec<Message>>, AllocError> {
     let mut words = words;
     let (CycleState::Frozen(cycle), Some(point)) = (state, words.code()) else {
         return Ok(None);
     };
     let order = order_for(point, cycle)?;
-    Ok(Some(Some(Message::Delord(order))))
+    Ok(Some(vec![in alloc; Message::Delord(order)]?))
 }
 
 /// The response of the matched cycle.
-fn response(state: &CycleState, words: Words<'_>) -> Result<Option<Option<Message>>, AllocError> {
+fn response(
+    alloc: Global,
+    state: &CycleState,
+    words: Words<'_>,
+) -> Result<Option<Vec<Message>>, AllocError> {
     let mut words = words;
     let (CycleState::Matched(cycle), Some(point)) = (state, words.code()) else {
         return Ok(None);
     };
     let response = response_for(point, cycle)?;
-    Ok(Some(Some(Message::Delres(response))))
+    Ok(Some(vec![in alloc; Message::Delres(response)]?))
 }
 
 /// Adds what the line's call sends in that state.
@@ -89,12 +97,18 @@ pub(crate) fn sent(
 ) -> Result<bool, Fault> {
     let mut words = Words::of(line);
     let sent = match words.next() {
-        "order_for" => order(state, words),
-        "response_for" => response(state, words),
+        "order_for" => order(alloc, state, words),
+        "response_for" => response(alloc, state, words),
         method => by_role(alloc, state, method, words),
     };
-    let Some(message) = sent? else {
+    let Some(messages) = sent? else {
         return Ok(false);
     };
-    add_message(alloc, message, text)
+    if messages.is_empty() {
+        return add_message(alloc, None, text);
+    }
+    for message in messages {
+        add_message(alloc, Some(message), text)?;
+    }
+    Ok(true)
 }

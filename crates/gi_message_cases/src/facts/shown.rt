@@ -3,7 +3,8 @@
 use crate::messages::shown::{add_cycle, add_field, add_nomint};
 use gi_calls::{Answer, add_table};
 use gi_facts::Fact;
-use gi_processing::{Contract, Notice};
+use gi_pairs::CycleId;
+use gi_processing::{Contract, Notice, Rule};
 
 /// Adds the fields of a contract.
 fn add_contract(contract: &Contract, text: &mut Answer) {
@@ -26,6 +27,15 @@ fn add_notice(notice: &Notice, text: &mut Answer) {
     text.end_line();
 }
 
+/// Adds a cycle that was closed; the rule where it is rule 2.
+fn add_closed(id: CycleId, rule: Rule, text: &mut Answer) {
+    add_cycle(id.day, id.cycle, text);
+    if rule == Rule::Two {
+        add_field("rule", &rule.number(), text);
+    }
+    text.end_line();
+}
+
 /// Adds the kind and the fields of a fact.
 pub(crate) fn add_fact(fact: &Fact, text: &mut Answer) {
     match fact {
@@ -41,10 +51,9 @@ pub(crate) fn add_fact(fact: &Fact, text: &mut Answer) {
             text.add("nomination");
             add_nomint(nomination, text);
         }
-        Fact::Closed(id) => {
+        Fact::Closed { id, rule } => {
             text.add("closed");
-            add_cycle(id.day, id.cycle, text);
-            text.end_line();
+            add_closed(*id, *rule, text);
         }
         Fact::Met { id, peer } => {
             text.add("met");

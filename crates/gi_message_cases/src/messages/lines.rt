@@ -21,7 +21,7 @@ pub(crate) fn line_of(alloc: Global, words: &str) -> Result<Option<Line>, Fault>
 }
 
 /// The lines `LINE / LINE / ..`.
-pub(crate) fn lines_of(alloc: Global, words: Words) -> Result<Option<Lines>, Fault> {
+pub(crate) fn lines_of(alloc: Global, words: Words) -> Result<Option<Lines<Line>>, Fault> {
     if words.is_empty() {
         return Ok(Some(Lines::from(Vec::new(alloc))));
     }

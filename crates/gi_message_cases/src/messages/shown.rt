@@ -2,7 +2,9 @@
 
 use gi_calls::{Answer, add_hours, add_table};
 use gi_day::GasDay;
-use gi_messages::{Acknow, Delord, Delres, Line, Lines, Message, Nomint, Nomres};
+use gi_messages::{
+    Acknow, Delord, Delres, Line, Lines, Message, NominationLine, Nomint, Nomres, USUAL_PRIORITY,
+};
 use gi_pairs::Code;
 use std::fmt::Display;
 
@@ -34,12 +36,39 @@ pub(crate) fn add_line(line: &Line, text: &mut Answer) {
 }
 
 /// Adds the lines of a message, in their order.
-pub(crate) fn add_lines(lines: &Lines, text: &mut Answer) {
+pub(crate) fn add_lines(lines: &Lines<Line>, text: &mut Answer) {
     if lines.as_slice().is_empty() {
         text.add("no lines\n");
     }
     for line in lines.as_slice() {
         add_line(line, text);
+    }
+}
+
+/// Adds the priority of a line, where it is not the usual one.
+pub(crate) fn add_priority(line: &NominationLine, text: &mut Answer) {
+    if line.priority != USUAL_PRIORITY {
+        add_field("priority", &line.priority, text);
+    }
+}
+
+/// Adds a line of a nomination.
+pub(crate) fn add_nomination_line(line: &NominationLine, text: &mut Answer) {
+    text.add(line.counterparty.as_str());
+    text.add(" ");
+    text.add(line.direction.as_str());
+    add_priority(line, text);
+    add_hours(&line.hours, text);
+    text.end_line();
+}
+
+/// Adds the lines of a nomination, in their order.
+pub(crate) fn add_nomination_lines(lines: &Lines<NominationLine>, text: &mut Answer) {
+    if lines.as_slice().is_empty() {
+        text.add("no lines\n");
+    }
+    for line in lines.as_slice() {
+        add_nomination_line(line, text);
     }
 }
 
@@ -49,7 +78,7 @@ pub(crate) fn add_nomint(message: &Nomint, text: &mut Answer) {
     add_field("day", &message.day, text);
     add_field("version", &message.version, text);
     text.end_line();
-    add_lines(&message.lines, text);
+    add_nomination_lines(&message.lines, text);
 }
 
 /// Adds the fields of an ACKNOW.

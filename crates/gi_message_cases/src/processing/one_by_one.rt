@@ -6,6 +6,7 @@ ghost use Rattle.std.specs.Prelude.{◌<◌};
 use crate::processing::reducing::{OTHERS, add_line, processed_lines};
 use gi_calls::{Answer, Fault, Words};
 use gi_pairs::Table;
+use gi_processing::Rule;
 use std::alloc::{AllocError, Global};
 use std::fmt::Write;
 
@@ -78,7 +79,7 @@ fn add_day(
     requires place { place < 3 }
 {
     let hours = hours_of(alloc, values, day, place)?;
-    add_line(OTHERS[place], "IM", hours.as_str(), lines)
+    add_line(OTHERS[place], "IM", hours.as_str(), "", lines)
 }
 
 /// The lines of a day, which are not in order of counterparty.
@@ -99,10 +100,13 @@ fn part_at(table: &Table, place: usize, hour: usize) -> Option<u64> {
     Some(part.value())
 }
 
-/// Whether the table has these parts in an hour, counted from 0.
-fn has_parts(table: &Table, hour: usize, parts: [u64; 3]) -> bool {
-    for place in 0..3 {
-        if part_at(table, place, hour) != Some(parts[place]) {
+/// Whether the rows of the table have these parts in an hour, counted from 0.
+pub(crate) fn has_parts(table: &Table, hour: usize, parts: &[u64]) -> bool {
+    if table.rows().len() != parts.len() {
+        return false;
+    }
+    for (place, part) in parts.iter().enumerate() {
+        if part_at(table, place, hour) != Some(*part) {
             return false;
         }
     }
@@ -115,7 +119,7 @@ fn other_parts(table: &Table, values: [u64; 6], day: usize, available: u64) -> O
 {
     for hour in 0..24 {
         let quantities = three(values, day * 24 + hour);
-        if !has_parts(table, hour, one_by_one(quantities, available)) {
+        if !has_parts(table, hour, &one_by_one(quantities, available)) {
             return Some(quantities);
         }
     }
@@ -142,7 +146,7 @@ fn table_of(
 {
     let lines = lines_of(alloc, values, day)?;
     let half = available / 2;
-    processed_lines(alloc, half, available - half, lines.as_str())
+    processed_lines(alloc, half, available - half, lines.as_str(), Rule::Two)
 }
 
 /// Adds whether each three of the values are reduced as one by one, or the first three that are not.

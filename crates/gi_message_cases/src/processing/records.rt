@@ -10,7 +10,7 @@ use gi_day::{Calendar, DayFrame, GasDay, NoSuchCycle};
 use gi_messages::Nomint;
 use gi_nominations::{Book, Setting, Verdict};
 use gi_pairs::{Code, Side, Table};
-use gi_processing::{Contract, ContractFault, Contracts, Notice, NoticeFault, processed};
+use gi_processing::{Contract, ContractFault, Contracts, Notice, NoticeFault, Rule, processed};
 use std::alloc::{AllocError, Global};
 
 /// A side's contracts and notices, and the nominations that it took by them.
@@ -78,19 +78,28 @@ impl Records {
         Ok(verdict)
     }
 
-    /// The processed table of a cycle, or what the gas day's frame says of one that it has not.
+    /// The processed table of a cycle by a rule, or what the gas day's frame says of one that it has not.
     pub(crate) fn processed(
         &self,
         alloc: Global,
         side: Side,
         day: GasDay,
         cycle: u8,
+        rule: Rule,
     ) -> Result<Result<Table, NoSuchCycle>, AllocError> {
         let frame = frame(day);
         if let Err(fault) = frame.cycle_start(cycle) {
             return Ok(Err(fault));
         }
-        let table = processed(alloc, &self.book, &self.contracts, side, &frame, cycle)?;
+        let table = processed(
+            alloc,
+            &self.book,
+            &self.contracts,
+            side,
+            &frame,
+            cycle,
+            rule,
+        )?;
         Ok(Ok(table))
     }
 }

@@ -1,5 +1,5 @@
 //! Quantities that one portfolio nominates, reduced to what is available to it: A nominates on a
-//! day of 24 hours, to B, C and D.
+//! day of 24 hours, to B, C, D and so on.
 
 ghost use Rattle.std.specs.Prelude.{◌<◌};
 
@@ -10,27 +10,34 @@ use gi_calls::{Answer, Fault, Words};
 use gi_messages::Nomint;
 use gi_nominations::Verdict;
 use gi_pairs::{Direction, Quantity, Side, Table};
-use gi_processing::Contract;
+use gi_processing::{Contract, Rule};
 use std::alloc::{AllocError, Global};
 use std::fmt::Write;
 
 /// The counterparties.
-pub const OTHERS: [&str; 3] = ["B", "C", "D"];
+pub const OTHERS: [&str; 6] = ["B", "C", "D", "E", "F", "G"];
 
 const NOMINT: &str =
     r#""kind":"NOMINT","point":"BORDER-1","portfolio":"A","day":"2026-01-15","version":1"#;
 
-/// Adds a line to lines that are written as JSON text, with hours as they are written in cases.
+/// Adds a line to lines that are written as JSON text, with hours as they are written in cases, and
+/// without a priority where that is empty.
 pub(crate) fn add_line(
     counterparty: &str,
     direction: &str,
     hours: &str,
+    priority: &str,
     lines: &mut String,
 ) -> Result<(), AllocError> {
     let comma = if lines.is_empty() { "" } else { "," };
+    let key = if priority.is_empty() {
+        ""
+    } else {
+        r#","priority":"#
+    };
     write!(
         lines,
-        r#"{comma}{{"counterparty":"{counterparty}","direction":"{direction}","hours":[{hours}]}}"#
+        r#"{comma}{{"counterparty":"{counterparty}","direction":"{direction}","hours":[{hours}]{key}{priority}}}"#
     )
 }
 
@@ -54,12 +61,13 @@ fn contract_for(nomint: &Nomint, firm: u64, interruptible: u64) -> Option<Contra
     })
 }
 
-/// The processed table of cycle 0 at the initiating side, which has recorded no more than this
-/// contract and this nomination. Without the contract the nomination is refused.
+/// The processed table of cycle 0 at the initiating side by a rule. The side has recorded no more than
+/// this contract and this nomination. Without the contract the nomination is refused.
 fn processed_alone(
     alloc: Global,
     contract: Contract,
     nomint: Nomint,
+    rule: Rule,
 ) -> Result<Option<Table>, AllocError> {
     let day = nomint.day;
     let mut records = Records::new(alloc, nomint.point);
@@ -67,37 +75,37 @@ fn processed_alone(
     let Verdict::Recordable = records.take(nomint)? else {
         return Ok(None);
     };
-    Ok(records.processed(alloc, Side::I, day, 0)?.ok())
+    Ok(records.processed(alloc, Side::I, day, 0, rule)?.ok())
 }
 
-/// The processed table of cycle 0 at the initiating side, where the contract of A for `IM` has a
-/// firm and an interruptible quantity and A has these lines in force.
+/// The processed table of cycle 0 at the initiating side by a rule, where the contract of A for `IM`
+/// has a firm and an interruptible quantity and A has these lines in force.
 pub(crate) fn processed_lines(
     alloc: Global,
     firm: u64,
     interruptible: u64,
     lines: &str,
+    rule: Rule,
 ) -> Result<Option<Table>, AllocError> {
     let Some(nomint) = nomint_with(alloc, lines)? else {
         return Ok(None);
     };
     match contract_for(&nomint, firm, interruptible) {
-        Some(contract) => processed_alone(alloc, contract, nomint),
+        Some(contract) => processed_alone(alloc, contract, nomint, rule),
         None => Ok(None),
     }
 }
 
-/// Adds a line in `IM` with this quantity in every hour.
+/// Adds a line in `IM` with this quantity in every hour, and the priority, where it is not empty.
 fn add_same(
     alloc: Global,
-    place: usize,
+    counterparty: &str,
     quantity: &str,
+    priority: &str,
     lines: &mut String,
-) -> Result<(), AllocError>
-    requires { place < 3 }
-{
+) -> Result<(), AllocError> {
     let hours = format!(in alloc; "{quantity}x24")?;
-    add_line(OTHERS[place], "IM", hours.as_str(), lines)
+    add_line(counterparty, "IM", hours.as_str(), priority, lines)
 }
 
 /// Lines in `IM` with these quantities in every hour, B's first. Where they are mixed, the last one
@@ -105,12 +113,12 @@ fn add_same(
 fn lines_of(alloc: Global, quantities: &[&str], mixed: bool) -> Result<String, AllocError> {
     let mut lines = String::new(alloc);
     if mixed {
-        add_line("C", "MI", "1000x24", &mut lines)?;
+        add_line("C", "MI", "1000x24", "", &mut lines)?;
     }
-    let count = quantities.len().min(3);
+    let count = quantities.len().min(6);
     for i in 0..count {
         let place = if mixed { count - 1 - i } else { i };
-        add_same(alloc, place, quantities[place], &mut lines)?;
+        add_same(alloc, OTHERS[place], quantities[place], "", &mut lines)?;
     }
     Ok(lines)
 }
@@ -128,6 +136,21 @@ fn add_rows(table: &Table, text: &mut Answer) {
     if table.rows().is_empty() {
         text.add("no rows");
     }
+}
+
+/// Adds the rows of the lines, where so much firm quantity is available.
+fn add_processed(
+    alloc: Global,
+    available: u64,
+    lines: &str,
+    rule: Rule,
+    text: &mut Answer,
+) -> Result<bool, Fault> {
+    let Some(table) = processed_lines(alloc, available, 0, lines, rule)? else {
+        return Ok(false);
+    };
+    add_rows(&table, text);
+    Ok(true)
 }
 
 /// The words of a text.
@@ -156,9 +179,34 @@ pub(crate) fn reduce(
         return Ok(false);
     };
     let lines = lines_from(alloc, words.rest(), mixed)?;
-    let Some(table) = processed_lines(alloc, available, 0, lines.as_str())? else {
+    add_processed(alloc, available, lines.as_str(), Rule::Two, text)
+}
+
+/// Lines in `IM` with the quantities and priorities of a text, which are written `QUANTITY/PRIORITY`,
+/// or `QUANTITY` for a line that names no priority; B's first.
+fn lines_with_priorities(alloc: Global, text: &str) -> Result<Option<String>, AllocError> {
+    let mut lines = String::new(alloc);
+    for (place, word) in text.split_whitespace().enumerate() {
+        let Some(counterparty) = OTHERS.get(place) else {
+            return Ok(None);
+        };
+        let (quantity, priority) = word.split_once('/').unwrap_or((word, ""));
+        add_same(alloc, counterparty, quantity, priority, &mut lines)?;
+    }
+    Ok(Some(lines))
+}
+
+/// Answers `RULE AVAILABLE QUANTITY/PRIORITY ..`: what is processed of the quantities by the rule.
+pub(crate) fn reduce_by(
+    alloc: Global,
+    mut words: Words<'_>,
+    text: &mut Answer,
+) -> Result<bool, Fault> {
+    let (Some(rule), Ok(available)) = (words.rule(), words.next().parse::<u64>()) else {
         return Ok(false);
     };
-    add_rows(&table, text);
-    Ok(true)
+    let Some(lines) = lines_with_priorities(alloc, words.rest())? else {
+        return Ok(false);
+    };
+    add_processed(alloc, available, lines.as_str(), rule, text)
 }

@@ -27,7 +27,7 @@ fn looked<R: Role, L: Ledger>(held: &Held<R, L>) -> Result<Look, AllocError>
     ensures seen { IfOk result (IsSeen R.SIDE) }
     ensures writable { IfOk result CanBeWritten }
 {
-    held.known();
+    held.reveal_invariant();
     held.look()
 }
 

@@ -47,7 +47,7 @@ pub(crate) fn named(
         "notice" => words.notice().map(Call::Notice),
         "submit" => Some(Call::Submit(body_of(alloc, words.rest())?)),
         "long" => return long(alloc, words),
-        "close" => words.cycle().map(|id| Call::Close(id)),
+        "close" => words.closing().map(|(id, rule)| Call::Close { id, rule }),
         "deliver" => Some(Call::Deliver(body_of(alloc, words.rest())?)),
         "resend" => words.cycle().map(|id| Call::Resend(id)),
         "halt" => Some(Call::Halt),

@@ -56,7 +56,7 @@ pub fn asked<R: Role, L: Ledger, W: Wait>(
         Call::Contract(contract) => office.contract(handle, seat, contract),
         Call::Notice(notice) => office.notice(handle, seat, notice),
         Call::Submit(body) => office.submit(handle, seat, body),
-        Call::Close(id) => office.close_cycle(handle, seat, id),
+        Call::Close { id, rule } => office.close_cycle(handle, seat, id, rule),
         Call::Deliver(body) => office.deliver(handle, seat, body),
         Call::Resend(id) => office.resend(handle, seat, id),
         _ => office.halt(handle, seat),

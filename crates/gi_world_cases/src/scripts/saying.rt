@@ -46,7 +46,12 @@ fn add_call(call: &Call, text: &mut Answer) {
             text.word(of.interruptible);
         }
         Call::Submit(body) => add_submission(body.as_slice(), text),
-        Call::Close(id) => add_cycle(" close", *id, text),
+        Call::Close { id, rule } => {
+            add_cycle(" close", *id, text);
+            if rule.number() == 1 {
+                text.add(" 1");
+            }
+        }
         Call::Resend(id) => add_cycle(" resend", *id, text),
         Call::Halt => text.add(" halt"),
         Call::Deliver(_) => text.add(" deliver a body"),

@@ -30,7 +30,7 @@ pub fn call_of(alloc: Global, mut words: Words<'_>) -> Result<Option<Call>, Allo
         "notice" => Ok(words.notice().map(Call::Notice)),
         "submit" => submission(alloc, words.rest()),
         "nominate" => submission(alloc, nomination(alloc, words)?.as_str()),
-        "close" => Ok(words.cycle().map(Call::Close)),
+        "close" => Ok(words.closing().map(|(id, rule)| Call::Close { id, rule })),
         "resend" => Ok(words.cycle().map(Call::Resend)),
         "halt" => Ok(Some(Call::Halt)),
         _ => Ok(None),

@@ -13,5 +13,5 @@ returns c =
       next = next;
       sound =
           made_sound w c.step-outcome.new.self step c.requires
-          (fits_from w c.initiating.result.now c.matching.result.now c.initiating.ensures c.matching.ensures c.known.ensures.fits c.known-2.ensures.fits) next;
+          (fits_from w c.initiating.result.now c.matching.result.now c.initiating.ensures c.matching.ensures c.reveal_invariant.ensures.fits c.reveal_invariant-2.ensures.fits) next;
     }

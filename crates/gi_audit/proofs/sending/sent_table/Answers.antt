@@ -12,10 +12,10 @@ returns-in-Some g c =
     let first = sym (ap (λ o. option_copied o) c.in-Some.is) ∙ c.first_for_peer.ensures ∙ ap (find is_for_peer) c.as_slice.ensures in
     IfOk-weaker c.table_in.result _ _ (λ table e.
     e ∙ ap (λ (body : List ℕ). table_in (decoded body)) c.as_slice-in-Some.ensures
-    ∙ sent-by g.R.Role.SIDE c.args.desk.now c.args.id.now c.in_ok-packets.packets (Some c.in-Some.packet.now) c.requires c.known.ensures.legal c.known.ensures.fits c.in_ok-packets.ensures first)
+    ∙ sent-by g.R.Role.SIDE c.args.desk.now c.args.id.now c.in_ok-packets.packets (Some c.in-Some.packet.now) c.requires c.reveal_invariant.ensures.legal c.reveal_invariant.ensures.fits c.in_ok-packets.ensures first)
     c.table_in.ensures
 
 pub returns : goal.returns
 returns g c =
     let first = sym (ap (λ o. option_copied o) c.in-None.is) ∙ c.first_for_peer.ensures ∙ ap (find is_for_peer) c.as_slice.ensures in
-    sent-by g.R.Role.SIDE c.args.desk.now c.args.id.now c.in_ok-packets.packets None c.requires c.known.ensures.legal c.known.ensures.fits c.in_ok-packets.ensures first
+    sent-by g.R.Role.SIDE c.args.desk.now c.args.id.now c.in_ok-packets.packets None c.requires c.reveal_invariant.ensures.legal c.reveal_invariant.ensures.fits c.in_ok-packets.ensures first

@@ -51,11 +51,11 @@ returns-clause-met c = λ side point facts are legal number.
     ∙ ap (λ (s : Stage). cond (is_at (answered id) other) (Some s) (stage_in old other)) (met ∙ ap at stage.is)))
     (c.meet_at.ensures.met cycle stage.frozen)
 
-pub returns-clause-kept : goal.returns-clause-kept
-returns-clause-kept c =
+pub returns-clause-unchanged : goal.returns-clause-unchanged
+returns-clause-unchanged c =
     let id = c.args.id.now in
     let old = c.args.stages.now.entries in
     let found : Some c.in-Some.stage.now ≡ stage_in old id = ap (λ (o : Option (MutBor Stage)). option_copied_mut o) (sym c.in-Some.is) ∙ c.get_mut.ensures.value in
     on_err_weaker c.meet_at.result
     (λ kept. (c.get_mut.follows.holds c.meet_at.new.stage).0 ∙ ap (set_value (is_at (answered id)) old) kept ∙ set_value_same (is_at (answered id)) old c.in-Some.stage.now (sym found))
-    c.meet_at.ensures.kept
+    c.meet_at.ensures.unchanged

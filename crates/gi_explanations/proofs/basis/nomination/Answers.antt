@@ -8,5 +8,5 @@ returns-clause-value g c =
 
 pub returns-clause-few : goal.returns-clause-few
 returns-clause-few g c =
-    nomination-few g.R.Role.SIDE c.args.desk.now.point c.args.desk.now.facts c.args.question.now c.document_at.result c.known.ensures.legal
+    nomination-few g.R.Role.SIDE c.args.desk.now.point c.args.desk.now.facts c.args.question.now c.document_at.result c.reveal_invariant.ensures.legal
     (nomination-found g.R.Role.SIDE c.args.desk.now.facts c.args.question.now c.args.numbers.now (option_copied c.document_at.result) c.requires c.document_at.ensures)

@@ -1,4 +1,5 @@
 use Rattle.gi_facts.specs.Writing.{closing_data}
+use Rattle.gi_facts.proofs.WritingLemmas.{rule_ended}
 use Rattle.gi_messages.proofs.WrittenTokens.{wrote, followed, ended}
 use Rattle.gi_facts.proofs.encoding.put_closing.Goals as goal
 
@@ -11,4 +12,4 @@ returns c =
     (followed r out _ (rw c.from.ensures at c.in_ok-put_number.ensures)
     (followed r out _ c.in_ok-put_day.ensures
     (followed r out _ (rw c.text.ensures at c.in_ok-put_text.ensures)
-    (ended c.end_object.ensures))))
+    (rule_ended _ _ c.args.rule r out c.in_ok-put_rule.ensures (ended c.end_object.ensures)))))

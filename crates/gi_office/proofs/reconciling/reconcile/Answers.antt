@@ -20,6 +20,6 @@ returns-in_err-none_strange-2-clause-first c =
 
 pub returns-clause-one_quantity : goal.returns-clause-one_quantity
 returns-clause-one_quantity c =
-    reconciled c.args.initiating.now c.args.matching.now (record { lives = c.known.ensures.lives; legal = c.known.ensures.legal; fits = c.known.ensures.fits })
-    (record { lives = c.known-2.ensures.lives; legal = c.known-2.ensures.legal; fits = c.known-2.ensures.fits })
+    reconciled c.args.initiating.now c.args.matching.now (record { lives = c.reveal_invariant.ensures.lives; legal = c.reveal_invariant.ensures.legal; fits = c.reveal_invariant.ensures.fits })
+    (record { lives = c.reveal_invariant-2.ensures.lives; legal = c.reveal_invariant-2.ensures.legal; fits = c.reveal_invariant-2.ensures.fits })
     (record { initiating = c.in_ok-none_strange.ensures.from; matching = c.in_ok-none_strange-2.ensures.from })

@@ -13,5 +13,5 @@ loop-row-preserved c =
     let same : (length row.hours == c.args.hours) ≡ true = grind (arith, nat_tests, c.as_slice.ensures.value, c.if-as_slice-hours.false) in
     record {
       lengths = rw (more, ← c.row-item.is, c.loop-row.invariant.lengths, same) refl;
-      known = All-more IsRow c.args.rows.now c.loop-row.row-index row c.loop-row-test.true c.loop-row.invariant.known (rw (← c.row-item.is) c.known.ensures);
+      known = All-more IsRow c.args.rows.now c.loop-row.row-index row c.loop-row-test.true c.loop-row.invariant.known (rw (← c.row-item.is) c.reveal_invariant.ensures);
     }

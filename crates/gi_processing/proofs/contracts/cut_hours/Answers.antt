@@ -17,5 +17,5 @@ on_err : {T E P : Type 0} (r : Result T E) → P → OnErr r P
 on_err (Ok x) p = tt
 on_err (Err e) p = p
 
-pub returns-in_err-insert-clause-kept : goal.returns-in_err-insert-clause-kept
-returns-in_err-insert-clause-kept c = on_err _ c.in_err-insert.ensures.err
+pub returns-in_err-insert-clause-unchanged : goal.returns-in_err-insert-clause-unchanged
+returns-in_err-insert-clause-unchanged c = on_err _ c.in_err-insert.ensures.err

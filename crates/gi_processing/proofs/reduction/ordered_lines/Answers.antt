@@ -1,7 +1,7 @@
 use Rattle.std.proofs.Common.{rules}
 use Rattle.std.specs.Borrow.{Bor}
 use Rattle.std.proofs.lemmas.List.Sorted.{answers_always}
-use Rattle.gi_messages.specs.declared.line.Line.{Line}
+use Rattle.gi_messages.specs.declared.nomination_line.NominationLine.{NominationLine}
 use Rattle.gi_processing.proofs.PassLaws.{sorted_ascend, sorted_lines}
 use Rattle.gi_processing.proofs.reduction.ordered_lines.Goals as goal
 
@@ -12,4 +12,4 @@ returns-clause-lines c =
 pub returns-clause-ordered : goal.returns-clause-ordered
 returns-clause-ordered c =
     sorted_ascend c.args.direction c.args.lines.now c.in_ok-ordered.ordered.items c.sort_unstable_by_key.new.self.items c.requires c.in_ok-ordered.ensures c.sort_unstable_by_key.ensures.permutation
-    (c.sort_unstable_by_key.ensures.sorted (λ (line : Bor Line). line.now.counterparty) (answers_always _ _ _ (λ f a r g called. search rules)))
+    (c.sort_unstable_by_key.ensures.sorted (λ (line : Bor NominationLine). line.now.counterparty) (answers_always _ _ _ (λ f a r g called. search rules)))

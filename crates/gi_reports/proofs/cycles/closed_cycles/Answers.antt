@@ -11,5 +11,5 @@ returns g c =
     let same : IsPermutation (closings s.facts) ids = subst (λ (l : List CycleId). IsPermutation l ids) c.in_ok-ids.ensures c.sort_unstable.ensures.permutation in
     record {
       closed = same;
-      sorted = strictly g.R.Role.SIDE s.point s.facts ids c.closes_once.ensures c.known.ensures.legal same c.sort_unstable.ensures.sorted;
+      sorted = strictly g.R.Role.SIDE s.point s.facts ids c.closes_once.ensures c.reveal_invariant.ensures.legal same c.sort_unstable.ensures.sorted;
     }

@@ -1,5 +1,5 @@
 use Rattle.std.proofs.Common.{◌≡◌, [], ◌∷◌, ◌++◌, rules}
-use Rattle.gi_script.specs.LinesKept.{left}
+use Rattle.gi_script.specs.LinesRepr.{left}
 use Rattle.gi_script.specs.Script.{spelling}
 use Rattle.gi_script.specs.Words.{NumberedLine}
 use Rattle.gi_script.proofs.FurtherLemmas.{read_one}

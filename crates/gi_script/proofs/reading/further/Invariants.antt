@@ -1,5 +1,5 @@
 use Rattle.std.proofs.Common.{length}
-use Rattle.gi_script.specs.LinesKept.{IsCounted, left}
+use Rattle.gi_script.specs.LinesRepr.{IsCounted, left}
 use Rattle.gi_script.specs.Script.{spelling}
 use Rattle.gi_script.proofs.FurtherLemmas.{ReadSoFar}
 use Rattle.gi_script.proofs.reading.further.Given as goal

@@ -46,7 +46,7 @@ returns-in-Err-clause-told g c =
     let start = offices_of c.args.both.now.initiating c.args.both.now.matching in
     let reached = offices_of c.loop-at.both.initiating c.loop-at.both.matching in
     so_far c.args.both.now.sessions c.args.lines.now c.loop-at.at (g.V.Watch.told c.loop-at.watch) start reached (string_bytes c.loop-at.text) (string_bytes c.step.new.text)
-    c.loop-at.invariant.watched c.in-Err.ensures.kept c.loop-at.invariant.made
+    c.loop-at.invariant.watched c.in-Err.ensures.unchanged c.loop-at.invariant.made
 
 pub returns-in-Err-clause-tells : goal.returns-in-Err-clause-tells
 returns-in-Err-clause-tells g c =

@@ -14,4 +14,4 @@ pub returns-clause-cut : goal.returns-clause-cut
 returns-clause-cut g c =
     on_err_weaker c.note.result
     (λ same. cut-one (noting_turn g.N.Notes.noting c.args.trace) c.args.simulation.now c.make_traced.new.self c.args.line.now c.args.notes.now c.note.new.self same
-    (inr (ap (λ (s : SimulationState). s.world) c.in_ok-outcome.ensures.next))) c.note.ensures.kept
+    (inr (ap (λ (s : SimulationState). s.world) c.in_ok-outcome.ensures.next))) c.note.ensures.unchanged

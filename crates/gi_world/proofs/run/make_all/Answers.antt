@@ -10,7 +10,7 @@ returns-in_err-make-clause-made c =
     let below = c.loop-step-test.true in
     so_far-run c.args.world.now c.args.steps.now at.step-index c.make.new.outcomes.items c.make.new.world (omega (arith, below))
     (so_far-kept c.args.world.now (take at.step-index c.args.steps.now) at.outcomes.items c.make.new.outcomes.items at.world c.make.new.world at.invariant.0
-    c.in_err-make.ensures.kept c.in_err-make.ensures.same)
+    c.in_err-make.ensures.unchanged c.in_err-make.ensures.same)
     (ends_before c.args.steps.now at.step-index c.step-item.result at.world c.make.new.world c.step-item.is c.in_err-make.ensures.same c.in_err-make.ensures.short)
 
 pub returns-in_err-make-clause-agree : goal.returns-in_err-make-clause-agree
@@ -18,7 +18,7 @@ returns-in_err-make-clause-agree c =
     let at = c.loop-step in
     so_far-agree c.args.world.now c.args.steps.now at.step-index c.make.new.outcomes.items c.make.new.world
     (so_far-kept c.args.world.now (take at.step-index c.args.steps.now) at.outcomes.items c.make.new.outcomes.items at.world c.make.new.world at.invariant.0
-    c.in_err-make.ensures.kept c.in_err-make.ensures.same)
+    c.in_err-make.ensures.unchanged c.in_err-make.ensures.same)
 
 pub loop-step-preserved : goal.loop-step-preserved
 loop-step-preserved c =

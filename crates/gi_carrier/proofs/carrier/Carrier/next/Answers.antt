@@ -7,7 +7,7 @@ use Rattle.gi_carrier.proofs.carrier.Carrier.next.Goals as goal
 pub returns-in_err-given-clause-wait : goal.returns-in_err-given-clause-wait
 returns-in_err-given-clause-wait c =
     let waiting = c.args.self.now.waiting in
-    All-same (Contains waiting) (messages_of c.make.new.waiting) waiting (ap (map bytes_of) c.in_err-given.ensures.kept ∙ ap (λ s. s.waiting) c.self.view_is) (All-contains_itself waiting)
+    All-same (Contains waiting) (messages_of c.make.new.waiting) waiting (ap (map bytes_of) c.in_err-given.ensures.unchanged ∙ ap (λ s. s.waiting) c.self.view_is) (All-contains_itself waiting)
 
 pub returns-clause-waited : goal.returns-clause-waited
 returns-clause-waited c =

@@ -2,7 +2,7 @@ use Rattle.std.proofs.Common.{◌≡◌, ◌∙◌, ◌≤◌, Some, sym, arith,
 use Rattle.std.proofs.lemmas.Bool.Decides.{nat_tests}
 use Rattle.jiff_core.proofs.SignedLemmas.{signed_arith}
 use Rattle.gi_day.specs.Cycles.{hour_count}
-use Rattle.gi_day.specs.FrameKept.{lead_hours}
+use Rattle.gi_day.specs.FrameRepr.{lead_hours}
 use Rattle.gi_day.proofs.DayFacts.{day_facts}
 use Rattle.gi_day.proofs.day_frame.DayFrame.new.Goals as goal
 

@@ -1,6 +1,6 @@
 use Rattle.std.proofs.Common.{◌∙◌, ap, subst}
 use Rattle.gi_desk.specs.History.{documents_of}
-use Rattle.gi_desk.specs.Kept.{HasInForce}
+use Rattle.gi_desk.specs.Caches.{HasInForce}
 use Rattle.gi_desk.specs.Machine.{DeskState}
 use Rattle.gi_desk.proofs.desk.Desk.book.Goals as goal
 

@@ -2,7 +2,7 @@ use Rattle.std.proofs.Common.{◌≡◌, ◌++◌, ◌∷◌, [], List, refl, sy
 use Rattle.gi_desk.specs.Machine.{DeskState}
 use Rattle.gi_facts.specs.declared.fact.Fact.{Fact}
 use Rattle.gi_facts.specs.declared.fact.Fact.TheVariants.{Contracted}
-use Rattle.gi_desk.proofs.KeptLaws.{kept-other, running-contract, takings-same}
+use Rattle.gi_desk.proofs.CacheLaws.{kept-other, running-contract, takings-same}
 use Rattle.gi_processing.proofs.ReadingLaws.{reads-refused}
 use Rattle.gi_processing.specs.Recording.{is_refused}
 use Rattle.gi_desk.specs.History.{capacity_of}

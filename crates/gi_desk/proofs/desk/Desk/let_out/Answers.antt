@@ -10,7 +10,7 @@ use Rattle.gi_desk.proofs.desk.Desk.let_out.Goals as goal
 pub closed_state-requires : goal.closed_state-requires
 closed_state-requires g c =
     let is = subst (IsFact c.args.self.now.facts c.args.n) c.in-Closed.is c.numbered.ensures in
-    fact_closes c.args.self.now.facts c.args.n c.in-Closed.id is
+    fact_closes c.args.self.now.facts c.args.n c.in-Closed.id c.in-Closed.rule is
 
 pub matched-requires-clause-closed : goal.matched-requires-clause-closed
 matched-requires-clause-closed g c =
@@ -40,14 +40,14 @@ pub returns-in-Closed-clause-value : goal.returns-in-Closed-clause-value
 returns-in-Closed-clause-value g c =
     let is = subst (IsFact c.args.self.now.facts c.args.n) c.in-Closed.is c.numbered.ensures in
     let point = ap (λ (s : DeskState). s.point) c.self.view_is in
-    let out = closing_lets_out g.R.Role.SIDE c.args.self.now.point c.args.self.now.facts c.args.n c.in-Closed.id is in
+    let out = closing_lets_out g.R.Role.SIDE c.args.self.now.point c.args.self.now.facts c.args.n c.in-Closed.id c.in-Closed.rule is in
     subst (λ (packets : List Packet). IfOk c.on_closing.result (λ list. list.items ≡ packets)) ((λ t. let_out_on_closing g.R.Role.SIDE (point t) (c.closed_state.ensures t)) ∙ out) c.on_closing.ensures.value
 
 pub returns-in-Closed-clause-short : goal.returns-in-Closed-clause-short
 returns-in-Closed-clause-short g c =
     let is = subst (IsFact c.args.self.now.facts c.args.n) c.in-Closed.is c.numbered.ensures in
     let point = ap (λ (s : DeskState). s.point) c.self.view_is in
-    let out = closing_lets_out g.R.Role.SIDE c.args.self.now.point c.args.self.now.facts c.args.n c.in-Closed.id is in
+    let out = closing_lets_out g.R.Role.SIDE c.args.self.now.point c.args.self.now.facts c.args.n c.in-Closed.id c.in-Closed.rule is in
     subst (λ (packets : List Packet). IfErr c.on_closing.result (λ x. IsTrue (some_leave packets))) ((λ t. let_out_on_closing g.R.Role.SIDE (point t) (c.closed_state.ensures t)) ∙ out) c.on_closing.ensures.short
 
 pub returns-in-Met-clause-value : goal.returns-in-Met-clause-value

@@ -1,5 +1,5 @@
 use Rattle.std.proofs.Common.{sym, subst, ap, ◌∙◌}
-use Rattle.gi_desk.specs.Kept.{CanFollow}
+use Rattle.gi_desk.specs.Caches.{CanFollow}
 use Rattle.gi_desk.specs.Machine.{after, next_of}
 use Rattle.gi_desk.specs.declared.prepared.Prepared.{Prepared}
 use Rattle.gi_desk.proofs.Outcomes.{can_follow}

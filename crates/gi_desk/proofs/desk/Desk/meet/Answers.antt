@@ -4,7 +4,7 @@ use Rattle.gi_desk.specs.Machine.{DeskState, bad_fact}
 use Rattle.gi_desk.specs.Stages.{AreStages}
 use Rattle.gi_facts.specs.declared.fact.Fact.{Fact}
 use Rattle.gi_facts.specs.declared.fact.Fact.TheVariants.{Met}
-use Rattle.gi_desk.proofs.KeptLaws.{kept-legal, kept-met}
+use Rattle.gi_desk.proofs.CacheLaws.{kept-legal, kept-met}
 use Rattle.gi_desk.proofs.desk.Desk.meet.Goals as goal
 
 pub meet-requires : goal.meet-requires

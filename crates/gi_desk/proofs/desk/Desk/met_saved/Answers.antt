@@ -11,11 +11,11 @@ returns-in_err-find g c =
     let side = g.R.Role.SIDE in
     let s = c.args.self.now in
     ap option_copied c.from_residual.ensures
-    ∙ found_met side s c.args.id.now None c.known.ensures.legal c.if-lacks_saved_meeting.ensures c.in_err-find.ensures
+    ∙ found_met side s c.args.id.now None c.reveal_invariant.ensures.legal c.if-lacks_saved_meeting.ensures c.in_err-find.ensures
 
 pub returns : goal.returns
 returns g c =
     let side = g.R.Role.SIDE in
     let s = c.args.self.now in
     c.matched_in.ensures
-    ∙ found_met side s c.args.id.now (Some c.in_ok-find.field-0.now) c.known.ensures.legal c.if-lacks_saved_meeting.ensures c.in_ok-find.ensures
+    ∙ found_met side s c.args.id.now (Some c.in_ok-find.field-0.now) c.reveal_invariant.ensures.legal c.if-lacks_saved_meeting.ensures c.in_ok-find.ensures

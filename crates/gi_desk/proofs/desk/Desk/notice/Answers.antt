@@ -2,7 +2,7 @@ use Rattle.std.proofs.Common.{◌≡◌, ◌++◌, ◌∷◌, [], List, refl, sy
 use Rattle.gi_desk.specs.Machine.{DeskState}
 use Rattle.gi_facts.specs.declared.fact.Fact.{Fact}
 use Rattle.gi_facts.specs.declared.fact.Fact.TheVariants.{Noticed}
-use Rattle.gi_desk.proofs.KeptLaws.{kept-other, running-notice, takings-same}
+use Rattle.gi_desk.proofs.CacheLaws.{kept-other, running-notice, takings-same}
 use Rattle.gi_desk.proofs.Legality.{recorded-notice}
 use Rattle.gi_desk.proofs.desk.Desk.notice.Goals as goal
 

@@ -1,6 +1,6 @@
 use Rattle.std.proofs.Common.{◌≡◌, sym, subst, ap, ◌∙◌, rules}
 use Rattle.std.specs.Prelude.{IsTrue}
-use Rattle.gi_desk.specs.Kept.{CanFollow}
+use Rattle.gi_desk.specs.Caches.{CanFollow}
 use Rattle.gi_desk.specs.Machine.{answer_of, may_want_to_prepare, out_of, outcome, reply}
 use Rattle.gi_desk.proofs.Outcomes.{can_follow}
 use Rattle.gi_desk.proofs.StepLaws.{leaving-wants}

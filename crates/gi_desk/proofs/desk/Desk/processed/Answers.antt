@@ -4,7 +4,7 @@ use Rattle.gi_processing.specs.Processing.{processed as processed_of}
 use Rattle.gi_processing.proofs.ProcessingReadings.{reads-processed}
 use Rattle.gi_desk.specs.History.{capacity_of, documents_of}
 use Rattle.gi_desk.specs.Machine.{DeskState}
-use Rattle.gi_desk.proofs.KeptLaws.{kept-sound}
+use Rattle.gi_desk.proofs.CacheLaws.{kept-sound}
 use Rattle.gi_desk.proofs.desk.Desk.processed.Goals as goal
 
 pub processed-requires-clause-sound : goal.processed-requires-clause-sound
@@ -19,6 +19,6 @@ returns-clause-value g c =
     let id = c.args.id.now in
     let side : c.SIDE.result ≡ g.R.Role.SIDE = search rules in
     let frame : c.unwrap-frame.result ≡ id.day = search rules in
-    let same = reads-processed c.contracts.result.now (capacity_of facts) c.book.result.now.documents (documents_of facts) c.SIDE.result c.unwrap-frame.result id.cycle c.contracts.ensures
+    let same = reads-processed c.contracts.result.now (capacity_of facts) c.book.result.now.documents (documents_of facts) c.SIDE.result c.unwrap-frame.result id.cycle c.args.rule c.contracts.ensures
     (λ portfolio. c.book.ensures.nominations portfolio c.unwrap-frame.result) in
-    subst (λ (t : TableContents). IfOk c.processed.result (λ table. table ≡ t)) (same ∙ (λ i. processed_of (capacity_of facts) (documents_of facts) (side i) (frame i) id.cycle)) c.processed.ensures.value
+    subst (λ (t : TableContents). IfOk c.processed.result (λ table. table ≡ t)) (same ∙ (λ i. processed_of (capacity_of facts) (documents_of facts) (side i) (frame i) id.cycle c.args.rule)) c.processed.ensures.value

@@ -3,12 +3,12 @@ use Rattle.gi_messages.specs.declared.message.Nomint.{Nomint}
 use Rattle.gi_desk.specs.Machine.{DeskState}
 use Rattle.gi_facts.specs.declared.fact.Fact.{Fact}
 use Rattle.gi_facts.specs.declared.fact.Fact.TheVariants.{Nominated}
-use Rattle.gi_desk.proofs.KeptLaws.{kept-numbered, kept-other, running-taken}
+use Rattle.gi_desk.proofs.CacheLaws.{kept-numbered, kept-other, running-taken}
 use Rattle.gi_desk.proofs.TakingLaws.{Puts, legal-rising, takings-back, takings-taken}
 use Rattle.gi_nominations.specs.declared.portfolio_day.PortfolioDay.{PortfolioDay}
 use Rattle.gi_nominations.specs.Book.{DocumentStands, IsNewer, in_force}
 use Rattle.gi_desk.specs.History.{documents_of}
-use Rattle.gi_desk.specs.Kept.{HasInForce}
+use Rattle.gi_desk.specs.Caches.{HasInForce}
 use Rattle.gi_desk.proofs.Legality.{recorded-newer}
 use Rattle.gi_desk.proofs.desk.Desk.take.Goals as goal
 
@@ -48,5 +48,5 @@ invariant_of-self-in_default-take g c =
     let puts = subst (λ (key : PortfolioDay). Puts inside.takings.entries c.insert.new.self.entries key (Some c.next_number-number.result)) c.of-key.ensures c.in-Ok-insert.ensures.updates.0 in
     let removes = subst (λ (key : PortfolioDay). Puts c.insert.new.self.entries c.remove.new.self.entries key None) c.of-key.ensures c.remove.ensures.updates.0 in
     kept-numbered side inside.point inside.facts.items inside.stages.entries inside.book inside.contracts inside.takings.entries inside.saved c.reserve.new.self.items c.take.new.self c.remove.new.self.entries
-    c.self.invariant c.in-Ok-reserve.ensures.items c.in_default-take.ensures.kept
+    c.self.invariant c.in-Ok-reserve.ensures.items c.in_default-take.ensures.unchanged
     (takings-back inside.facts.items document c.next_number-number.result inside.takings.entries c.insert.new.self.entries c.remove.new.self.entries absent c.self.invariant.numbers puts removes)

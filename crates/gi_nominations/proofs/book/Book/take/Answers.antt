@@ -37,8 +37,8 @@ returns-in_err-insert-clause-absent c =
 abbrev documents_of : List ℕ → List (PortfolioDay × Nomint) → Documents
 documents_of point entries = record { point = point; documents = values_of entries }
 
-pub returns-in_err-insert-clause-kept : goal.returns-in_err-insert-clause-kept
-returns-in_err-insert-clause-kept c = on_err _ (ap (documents_of c.self.inside.point) c.in_err-insert.ensures.err ∙ c.self.view_is)
+pub returns-in_err-insert-clause-unchanged : goal.returns-in_err-insert-clause-unchanged
+returns-in_err-insert-clause-unchanged c = on_err _ (ap (documents_of c.self.inside.point) c.in_err-insert.ensures.err ∙ c.self.view_is)
 
 pub returns-in_err-insert-clause-point : goal.returns-in_err-insert-clause-point
 returns-in_err-insert-clause-point c = ap (λ (book : Documents). book.point) c.self.view_is

@@ -15,7 +15,7 @@ invariant_of-self-2 g c =
     rw (c.in-Ok.ensures.next, c.in-Ok.ensures.trail, c.add.ensures.total) (entered_kept c.only_appends.ensures side held seat c.args.call c.self.invariant)
 
 pub invariant_of-seat : goal.invariant_of-seat
-invariant_of-seat g c = rw c.in_default.ensures.kept.2 c.seat.invariant
+invariant_of-seat g c = rw c.in_default.ensures.unchanged.2 c.seat.invariant
 
 pub invariant_of-seat-2 : goal.invariant_of-seat-2
 invariant_of-seat-2 g c =

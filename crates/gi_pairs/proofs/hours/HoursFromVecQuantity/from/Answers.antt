@@ -7,7 +7,7 @@ use Rattle.gi_pairs.proofs.hours.HoursFromVecQuantity.from.Goals as goal
 pub loop-quantity-preserved : goal.loop-quantity-preserved
 loop-quantity-preserved c =
     All-more IsQuantity c.deref-quantity-items.result.now c.loop-quantity.quantity-index c.quantity-item.result c.loop-quantity-test.true
-    c.loop-quantity.invariant (rw (← c.quantity-item.is) c.known.ensures)
+    c.loop-quantity.invariant (rw (← c.quantity-item.is) c.reveal_invariant.ensures)
 
 pub invariant_of-result : goal.invariant_of-result
 invariant_of-result c =

@@ -2,7 +2,7 @@ use Rattle.std.proofs.Common.{◌≡◌, ◌&&◌, ◌-◌, ◌<◌, nat_le, tru
 use Rattle.std.proofs.lemmas.Bool.Decides.{nat_tests}
 use Rattle.std.proofs.lemmas.List.{get_or_default}
 use Rattle.gi_pairs.specs.Table.{TableContents, is_at, reading}
-use Rattle.gi_pairs.specs.TableKept.{contents}
+use Rattle.gi_pairs.specs.TableRepr.{contents}
 use Rattle.gi_pairs.proofs.Reading.{in_row, reading-found, reading-missed, reading-outside}
 use Rattle.gi_pairs.proofs.table.Table.at.Goals as goal
 use Rattle.gi_pairs.proofs.table.Table.at.Goals.{then-hour-self-via-then-hour-self, then-hour-self-via-else-hour-self+then-self-hour}

@@ -2,7 +2,7 @@ use Rattle.std.proofs.Common.{◌≡◌, List, nat_lt, length, true, false, Ok, 
 use Rattle.std.specs.List.Sorted.{IsStrictlySortedBy}
 use Rattle.std.proofs.lemmas.Bool.Decides.{nat_tests}
 use Rattle.gi_pairs.specs.Table.{IsTable, in_order, keys_of, repeats}
-use Rattle.gi_pairs.specs.TableKept.{contents}
+use Rattle.gi_pairs.specs.TableRepr.{contents}
 use Rattle.gi_pairs.specs.Key.{key_cmp}
 use Rattle.gi_pairs.specs.Row.{IsRow}
 use Rattle.gi_pairs.specs.declared.row.Row.{Row}

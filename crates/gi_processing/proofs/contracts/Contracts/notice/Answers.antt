@@ -31,5 +31,5 @@ returns-in_default-cut_hours-clause-covered c taken has =
     let absent = notice-absent notice.day notice.direction notice.first c.self.inside.notices c.in_default-cut_hours.ensures.absent in
     sym absent ∙ ap (λ (v : Capacity). has_notice notice.day notice.direction notice.first v.notices) c.self.view_is ∙ has
 
-pub returns-in-Some-clause-kept : goal.returns-in-Some-clause-kept
-returns-in-Some-clause-kept c = refl
+pub returns-in-Some-clause-unchanged : goal.returns-in-Some-clause-unchanged
+returns-in-Some-clause-unchanged c = refl

@@ -94,8 +94,8 @@ invariant_of-self c =
 abbrev with_contracts : List (ContractKey × Contracted) → List (NoticeKey × HoursLeft) → Capacity
 with_contracts contracts notices = record { contracts = contracts_in contracts; notices = notices_in notices }
 
-pub returns-in_default-clause-kept : goal.returns-in_default-clause-kept
-returns-in_default-clause-kept c =
+pub returns-in_default-clause-unchanged : goal.returns-in_default-clause-unchanged
+returns-in_default-clause-unchanged c =
     ap (λ (entries : List (ContractKey × Contracted)). with_contracts entries c.self.inside.notices.entries) c.in_default.ensures.err ∙ c.self.view_is
 
 pub returns-clause-notices : goal.returns-clause-notices

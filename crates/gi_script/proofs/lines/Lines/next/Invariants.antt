@@ -1,5 +1,5 @@
 use Rattle.std.proofs.Common.{◌≡◌, ◌≤◌, length}
-use Rattle.gi_script.specs.LinesKept.{IsCounted, left}
+use Rattle.gi_script.specs.LinesRepr.{IsCounted, left}
 use Rattle.gi_script.proofs.lines.Lines.next.Given as goal
 
 -- the lines passed over are empty

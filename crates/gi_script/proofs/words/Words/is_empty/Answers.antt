@@ -1,5 +1,5 @@
 use Rattle.std.proofs.Common.{◌≡◌, [], ◌↔◌, Bool, true, false, not, Option, Some, None, is_some, IsTrue, refl, List, ℕ, Bor}
-use Rattle.gi_script.specs.WordsKept.{words_left}
+use Rattle.gi_script.specs.WordsRepr.{words_left}
 use Rattle.gi_script.proofs.WordLemmas.{words-some}
 use Rattle.gi_script.proofs.words.Words.is_empty.Goals as goal
 

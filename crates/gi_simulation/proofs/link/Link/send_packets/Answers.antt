@@ -44,7 +44,7 @@ returns-clause-sent c =
 
 pub returns-in_err-send_packet-clause-came : goal.returns-in_err-send_packet-clause-came
 returns-in_err-send_packet-clause-came c =
-    subst (WaitedOrCame c.args.self.now c.args.packets.items) (sym c.in_err-send_packet.ensures.kept) c.loop-packet.invariant.2
+    subst (WaitedOrCame c.args.self.now c.args.packets.items) (sym c.in_err-send_packet.ensures.unchanged) c.loop-packet.invariant.2
 
 pub returns-in_err-send_packet-clause-room : goal.returns-in_err-send_packet-clause-room
 returns-in_err-send_packet-clause-room c =

@@ -9,7 +9,7 @@ returns-in-Err-clause-other g c idle free tables =
     cc
 
 pub returns-in-Err-clause-failed : goal.returns-in-Err-clause-failed
-returns-in-Err-clause-failed g c idle free takes clean = c.in-Err.ensures.failed clean idle free takes
+returns-in-Err-clause-failed g c idle free takes other clean = c.in-Err.ensures.failed clean idle free takes other
 
 pub returns-in-Err-clause-owned : goal.returns-in-Err-clause-owned
 returns-in-Err-clause-owned g c idle theirs code is other clean = c.in-Err.ensures.owned clean idle theirs code is other

@@ -1,4 +1,3 @@
-use Rattle.std.specs.Str.{IsUtf8}
 use Rattle.std.proofs.lemmas.Str.{IsUtf8-from_ascii}
 use Rattle.gi_store.proofs.Heads.{digest_is_ascii}
 use Rattle.gi_store.proofs.digest.DigestDisplay.fmt.Goals as goal

@@ -63,4 +63,4 @@ kept-requires g c =
     let call = c.args.call.now in
     let is : c.in_ok-prepared.prepared.reply ≡ reply side c.self.inside.desk call = ap (λ (p : Prepared). p.reply) c.in_ok-prepared.ensures.value in
     let out = c.as_slice-out.ensures ∙ ap (λ (r : Reply). r.out) (c.reply.ensures ∙ is) in
-    subst (λ (packets : List Packet). All IsFromDesk packets) (sym out) (all_from_desk side c.self.inside.desk call c.known.ensures.legal c.known.ensures.fits)
+    subst (λ (packets : List Packet). All IsFromDesk packets) (sym out) (all_from_desk side c.self.inside.desk call c.reveal_invariant.ensures.legal c.reveal_invariant.ensures.fits)

@@ -10,4 +10,4 @@ returns-in_err-reply c =
     let there : delivery w c.args.side c.args.packet ≡ Some c.in-Some.packet.now = search rules in
     let short : c.from_residual-in_err-reply.result ≡ Err OutOfMemory = search rules in
     delivery-short w c.args.side c.args.packet c.in-Some.packet.now c.from_residual-in_err-reply.result c.take-reply.new.self there
-    (running c.args.side (station_of c.args.side w).desk c.in_ok-call.call c.in_err-reply.ensures.short) short c.in_err-reply.ensures.kept
+    (running c.args.side (station_of c.args.side w).desk c.in_ok-call.call c.in_err-reply.ensures.short) short c.in_err-reply.ensures.unchanged

@@ -8,7 +8,7 @@ use Rattle.gi_world.proofs.StepKeeping.{step-agrees-as, step-appends, step-confi
 use Rattle.gi_world.proofs.world.World.step.Goals as goal
 
 pub invariant_of-self : goal.invariant_of-self
-invariant_of-self c = step-keeps-sound c.self.inside.stations c.args.step.now c.step-outcome.result c.step-outcome.new.self c.self.invariant c.known.ensures c.step-outcome.ensures
+invariant_of-self c = step-keeps-sound c.self.inside.stations c.args.step.now c.step-outcome.result c.step-outcome.new.self c.self.invariant c.reveal_invariant.ensures c.step-outcome.ensures
 
 pub returns-clause-refused : goal.returns-clause-refused
 returns-clause-refused c =
@@ -27,13 +27,13 @@ returns-clause-confirms c =
 
 pub returns-clause-agrees : goal.returns-clause-agrees
 returns-clause-agrees c =
-    step-agrees-as c.lessens_both_ways.ensures c.self.inside.stations c.args.step.now c.step-outcome.result c.step-outcome.new.self c.self.invariant c.known.ensures c.step-outcome.ensures
+    step-agrees-as c.lessens_both_ways.ensures c.self.inside.stations c.args.step.now c.step-outcome.result c.step-outcome.new.self c.self.invariant c.reveal_invariant.ensures c.step-outcome.ensures
 
 pub returns-clause-lower : goal.returns-clause-lower
-returns-clause-lower c = confirms-lower c.step-outcome.new.self (sound-met c.step-outcome.new.self (invariant_of-self c)) c.known-2.ensures
+returns-clause-lower c = confirms-lower c.step-outcome.new.self (sound-met c.step-outcome.new.self (invariant_of-self c)) c.reveal_invariant-2.ensures
 
 pub returns-clause-both : goal.returns-clause-both
 returns-clause-both c = confirms-at-both c.step-outcome.new.self (invariant_of-self c)
 
 pub returns-clause-one_quantity : goal.returns-clause-one_quantity
-returns-clause-one_quantity c = one-confirmed-quantity c.step-outcome.new.self (invariant_of-self c) c.known-2.ensures
+returns-clause-one_quantity c = one-confirmed-quantity c.step-outcome.new.self (invariant_of-self c) c.reveal_invariant-2.ensures

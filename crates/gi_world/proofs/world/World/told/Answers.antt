@@ -10,6 +10,6 @@ pub returns-clause-lower : goal.returns-clause-lower
 returns-clause-lower c =
     let w = c.self.inside.stations in
     let side = c.args.side in
-    let tell = all-tell w c.self.invariant c.known.ensures side in
+    let tell = all-tell w c.self.invariant c.reveal_invariant.ensures side in
     subst (λ (world : WorldState). All (TellsTheLower (held world) side) c.told.result.now) c.self.view_is
     (subst (λ (packets : List Packet). All (TellsTheLower (held w) side) packets) (sym c.told.ensures) tell)

@@ -1,0 +1,201 @@
+-- What a desk keeps stays so with one more fact.
+use Rattle.std.proofs.Common.{◌≡◌, ◌<◌, ◌+◌, ℕ, List, [], ◌∷◌, ◌++◌, length, length-append, append-nil, refl, true, false, All, None, sym, ap, subst, ◌∙◌, arith}
+use Rattle.jiff_core.specs.declared.civil.date.Date.{Date}
+use Rattle.gi_day.specs.Cycles.{IsCycle}
+use Rattle.gi_day.proofs.CycleLemmas.{below_is_cycle}
+use Rattle.gi_pairs.specs.Code.{IsCode}
+use Rattle.gi_pairs.specs.Table.{TableContents}
+use Rattle.gi_pairs.specs.declared.cycle_id.CycleId.{CycleId}
+use Rattle.gi_pairs.specs.declared.side.Side.{Side}
+use Rattle.gi_messages.specs.declared.message.Nomint.{Nomint}
+use Rattle.gi_processing.specs.Capacity.{Capacity}
+use Rattle.gi_nominations.specs.Book.{Documents, DocumentStands, in_force}
+use Rattle.gi_nominations.specs.declared.portfolio_day.PortfolioDay.{PortfolioDay}
+use Rattle.gi_nominations.proofs.BookLaws.{in_force-agrees}
+use Rattle.gi_processing.specs.Readings.{ReadsAs, RecordsContract, RecordsNotice}
+use Rattle.gi_processing.specs.Recording.{with_contract, with_notice}
+use Rattle.gi_processing.proofs.ProcessingReadings.{reads-sound}
+use Rattle.gi_processing.proofs.ReadingLaws.{reads-self}
+use Rattle.gi_processing.specs.declared.contract.Contract.{Contract}
+use Rattle.gi_processing.specs.declared.notice.Notice.{Notice}
+use Rattle.gi_processing.specs.Processing.{AreSound, processed}
+use Rattle.gi_processing.specs.declared.rule.Rule.{Rule}
+use Rattle.gi_desk.specs.History.{capacity_of, documents_of, is_closed}
+use Rattle.gi_desk.specs.DeskRepr.{DeskInvariant, IsRunning}
+use Rattle.gi_desk.specs.Caches.{HasInForce, changes_cycle, states_of}
+use Rattle.gi_desk.specs.Machine.{DeskState, bad_fact, most_facts, would_record}
+use Rattle.gi_desk.specs.Stages.{AreStages, closed_stage, stage_in}
+use Rattle.gi_desk.specs.Takings.{AreTakings}
+use Rattle.gi_desk.specs.declared.stage.Stage.{Stage}
+use Rattle.gi_desk.specs.Writable.{FitsDesk, FitsState}
+use Rattle.gi_facts.specs.Writable.{FitsCycle, FitsFact, FitsProcessed}
+use Rattle.gi_facts.specs.declared.fact.Fact.{Fact}
+use Rattle.gi_facts.specs.declared.fact.Fact.TheVariants.{Closed, Contracted, Met, Nominated, Noticed}
+use Rattle.gi_desk.proofs.CycleLaws.{recorded-below}
+use Rattle.gi_desk.proofs.Fitting.{fits-more, fits-none, states_fit-closed, states_fit-met, states_fit-other}
+use Rattle.gi_desk.proofs.HistoryLaws.{capacity_more, no_document, same_documents, taken-more}
+use Rattle.gi_desk.proofs.Legality.{legal-more, legal-sound}
+use Rattle.gi_desk.proofs.StagesKept.{stages-other}
+use Rattle.gi_desk.proofs.TakingLaws.{legal-rising, takings-none, takings-other}
+
+-- ---- the book and the contracts with what one more fact records
+
+abbrev nothing : Capacity
+nothing = record { contracts = []; notices = [] }
+
+same_capacity : (old : List Fact) (fact : Fact) → capacity_of (fact ∷ []) ≡ nothing → capacity_of (old ++ fact ∷ []) ≡ capacity_of old
+same_capacity old fact none =
+    let before = capacity_of old in
+    capacity_more old fact
+    ∙ (λ t. record { contracts = before.contracts ++ (none t).contracts; notices = before.notices ++ (none t).notices })
+    ∙ (λ t. record { contracts = append-nil before.contracts t; notices = append-nil before.notices t })
+
+contracted-more : (old : List Fact) (contract : Contract) → capacity_of (old ++ Contracted contract ∷ []) ≡ with_contract (capacity_of old) contract
+unfolding capacity_of
+contracted-more old contract =
+    capacity_more old (Contracted contract) ∙ (λ t. record { contracts = (capacity_of old).contracts ++ contract ∷ []; notices = append-nil (capacity_of old).notices t })
+
+noticed-more : (old : List Fact) (notice : Notice) → capacity_of (old ++ Noticed notice ∷ []) ≡ with_notice (capacity_of old) notice
+unfolding capacity_of
+noticed-more old notice =
+    capacity_more old (Noticed notice) ∙ (λ t. record { contracts = append-nil (capacity_of old).contracts t; notices = (capacity_of old).notices ++ notice ∷ [] })
+
+running-read : (point : List ℕ) (old new : List Fact) (book : Documents) (contracts later : Capacity) → IsRunning point old book contracts → documents_of new ≡ documents_of old
+    → ReadsAs later (capacity_of new) → IsRunning point new book later
+running-read point old new book contracts later running documents reads = record {
+  at = running.at;
+  nominations = subst (λ (ds : List Nomint). HasInForce book.documents ds) (sym documents) running.nominations;
+  capacity = reads;
+}
+
+pub running-contract : (point : List ℕ) (old : List Fact) (book : Documents) (contracts new : Capacity) (contract : Contract)
+    → IsRunning point old book contracts → RecordsContract contracts new contract → IsRunning point (old ++ Contracted contract ∷ []) book new
+unfolding documents_of
+running-contract point old book contracts new contract running records =
+    running-read point old (old ++ Contracted contract ∷ []) book contracts new running (same_documents old (Contracted contract) refl)
+    (subst (ReadsAs new) (sym (contracted-more old contract)) (records (capacity_of old) running.capacity))
+
+pub running-notice : (point : List ℕ) (old : List Fact) (book : Documents) (contracts new : Capacity) (notice : Notice)
+    → IsRunning point old book contracts → RecordsNotice contracts new notice → IsRunning point (old ++ Noticed notice ∷ []) book new
+unfolding documents_of
+running-notice point old book contracts new notice running records =
+    running-read point old (old ++ Noticed notice ∷ []) book contracts new running (same_documents old (Noticed notice) refl)
+    (subst (ReadsAs new) (sym (noticed-more old notice)) (records (capacity_of old) running.capacity))
+
+pub running-taken : (point : List ℕ) (old : List Fact) (book new : Documents) (contracts : Capacity) (document : Nomint)
+    → IsRunning point old book contracts → new.point ≡ book.point → DocumentStands book.documents new.documents document → IsRunning point (old ++ Nominated document ∷ []) new contracts
+unfolding capacity_of
+running-taken point old book new contracts document running point_is stands = record {
+  at = point_is ∙ running.at;
+  nominations = subst (λ (ds : List Nomint). HasInForce new.documents ds) (sym (taken-more old document))
+      (in_force-agrees (documents_of old) book.documents new.documents document running.nominations stands);
+  capacity = subst (ReadsAs contracts) (sym (same_capacity old (Nominated document) refl)) running.capacity;
+}
+
+running-closed : (point : List ℕ) (old : List Fact) (book : Documents) (contracts : Capacity) (id : CycleId) (rule : Rule)
+    → IsRunning point old book contracts → IsRunning point (old ++ Closed id rule ∷ []) book contracts
+unfolding capacity_of documents_of
+running-closed point old book contracts id rule running =
+    running-read point old (old ++ Closed id rule ∷ []) book contracts contracts running (same_documents old (Closed id rule) refl)
+    (subst (ReadsAs contracts) (sym (same_capacity old (Closed id rule) refl)) running.capacity)
+
+running-met : (point : List ℕ) (old : List Fact) (book : Documents) (contracts : Capacity) (id : CycleId) (peer : TableContents)
+    → IsRunning point old book contracts → IsRunning point (old ++ Met id peer ∷ []) book contracts
+unfolding capacity_of documents_of
+running-met point old book contracts id peer running =
+    running-read point old (old ++ Met id peer ∷ []) book contracts contracts running (same_documents old (Met id peer) refl)
+    (subst (ReadsAs contracts) (sym (same_capacity old (Met id peer) refl)) running.capacity)
+
+-- the numbers of takings with one more fact that takes no nomination
+pub takings-same : (side : Side) (point : List ℕ) (old : List Fact) (fact : Fact) (takings : List (PortfolioDay × ℕ)) → ((document : Nomint) → fact ≡ Nominated document → ⊥) → bad_fact side point old ≡ None
+    → AreTakings old takings → AreTakings (old ++ fact ∷ []) takings
+takings-same side point old fact takings other legal = takings-other old fact takings (no_document fact other) (legal-rising side point old legal)
+
+-- a desk without facts
+pub kept-none : (side : Side) (point : List ℕ) (facts : List Fact) (entries : List (CycleId × Stage)) (book : Documents) (contracts : Capacity) (takings : List (PortfolioDay × ℕ))
+    → IsCode point → facts ≡ [] → entries ≡ [] → takings ≡ [] → book ≡ record { point = point; documents = [] } → contracts ≡ record { contracts = []; notices = [] }
+    → DeskInvariant side point facts entries book contracts takings 0
+unfolding bad_fact is_closed capacity_of documents_of
+kept-none side point facts entries book contracts takings code none no_stage no_number no_nomination no_contract = record {
+  stages = record {
+    legal = ap (bad_fact side point) none;
+    at = λ id. ap (λ (es : List (CycleId × Stage)). stage_in es id) no_stage ∙ ap (λ (fs : List Fact). closed_stage side fs id) (sym none);
+  };
+  running = record {
+    at = ap (λ (d : Documents). d.point) no_nomination;
+    nominations = λ portfolio day. (λ t. in_force portfolio day (no_nomination t).documents) ∙ (λ t. in_force portfolio day (documents_of (sym none t)));
+    capacity = subst (λ (c : Capacity). ReadsAs contracts c) (no_contract ∙ ap capacity_of (sym none)) (reads-self contracts);
+  };
+  numbers = takings-none facts takings none no_number;
+  within = omega arith;
+  fits = subst (λ (all : List Fact). FitsDesk side point all) (sym none) (fits-none side point code);
+}
+
+-- the same facts and nominations, with numbers that belong to them
+pub kept-numbered : (side : Side) (point : List ℕ) (facts : List Fact) (entries : List (CycleId × Stage)) (book : Documents) (contracts : Capacity) (takings : List (PortfolioDay × ℕ)) (saved : ℕ)
+    (new : List Fact) (new_book : Documents) (new_takings : List (PortfolioDay × ℕ)) → DeskInvariant side point facts entries book contracts takings saved → new ≡ facts → new_book ≡ book → AreTakings facts new_takings
+    → DeskInvariant side point new entries new_book contracts new_takings saved
+kept-numbered side point facts entries book contracts takings saved new new_book new_takings kept new_is book_is numbers =
+    subst (λ (fs : List Fact). DeskInvariant side point fs entries new_book contracts new_takings saved) (sym new_is)
+    (subst (λ (b : Documents). DeskInvariant side point facts entries b contracts new_takings saved) (sym book_is)
+    (record { stages = kept.stages; running = kept.running; numbers = numbers; within = kept.within; fits = kept.fits }))
+
+-- a fact that some call would record may come next
+pub kept-legal : (side : Side) (point : List ℕ) (old : List Fact) (s : DeskState) (fact : Fact) → bad_fact side point old ≡ None → s.point ≡ point → s.facts ≡ old
+    → would_record side s.point s.facts fact ≡ true → length s.facts < most_facts → bad_fact side point (old ++ fact ∷ []) ≡ None
+kept-legal side point old s fact legal point_is facts_is recorded room =
+    legal-more side point old fact legal ((λ t. would_record side (sym point_is t) (sym facts_is t) fact) ∙ recorded)
+    (subst (λ (facts : List Fact). length facts < most_facts) facts_is room)
+
+-- and with the stages that belong to it, where all states can be written, what is kept stays so
+kept-more : (side : Side) (point : List ℕ) (old : List Fact) (entries : List (CycleId × Stage)) (book new_book : Documents) (contracts new_contracts : Capacity) (takings new_takings : List (PortfolioDay × ℕ)) (saved : ℕ) (fact : Fact) (new : List Fact) (later : List (CycleId × Stage))
+    → DeskInvariant side point old entries book contracts takings saved → FitsFact fact → All FitsState (states_of side (old ++ fact ∷ []))
+    → new ≡ old ++ fact ∷ [] → AreStages side point (old ++ fact ∷ []) later → IsRunning point (old ++ fact ∷ []) new_book new_contracts → AreTakings (old ++ fact ∷ []) new_takings → DeskInvariant side point new later new_book new_contracts new_takings saved
+kept-more side point old entries book new_book contracts new_contracts takings new_takings saved fact new later kept fits all_fit new_is stages running numbers =
+    let longer : length (old ++ fact ∷ []) ≡ length old + 1 = length-append old (fact ∷ []) in
+    let within = kept.within in
+    subst (λ (facts : List Fact). DeskInvariant side point facts later new_book new_contracts new_takings saved) (sym new_is)
+    (record {
+      stages = stages;
+      running = running;
+      numbers = numbers;
+      within = omega (arith, longer, within);
+      fits = fits-more side point old fact kept.fits fits all_fit;
+    })
+
+-- the nominations in force are sound, by what is kept of them and of the contracts
+pub kept-sound : (side : Side) (point : List ℕ) (facts : List Fact) (s : DeskState) (capacity : Capacity) (documents : List Nomint) (day : Date)
+    → bad_fact side point facts ≡ None → s.facts ≡ facts → ReadsAs capacity (capacity_of s.facts) → HasInForce documents (documents_of s.facts) → AreSound capacity documents day
+kept-sound side point facts s capacity documents day legal facts_is reads same =
+    let all : AreSound (capacity_of s.facts) (documents_of s.facts) day =
+    subst (λ (fs : List Fact). AreSound (capacity_of fs) (documents_of fs) day) (sym facts_is) (legal-sound side point facts day legal) in
+    reads-sound capacity (capacity_of s.facts) documents (documents_of s.facts) day reads (λ portfolio. same portfolio day) all
+
+-- a closing that would be recorded is of a cycle of its gas day
+pub recorded-cycle : (side : Side) (s : DeskState) (id : CycleId) (rule : Rule) → would_record side s.point s.facts (Closed id rule) ≡ true → IsCycle id.day id.cycle
+recorded-cycle side s id rule e = below_is_cycle id.day id.cycle (recorded-below side s.point s.facts id rule e)
+
+-- one more fact that changes no cycle
+pub kept-other : (side : Side) (point : List ℕ) (old : List Fact) (entries : List (CycleId × Stage)) (book new_book : Documents) (contracts new_contracts : Capacity) (takings new_takings : List (PortfolioDay × ℕ)) (saved : ℕ) (s : DeskState) (fact : Fact) (new : List Fact)
+    → DeskInvariant side point old entries book contracts takings saved → changes_cycle fact ≡ false → s.point ≡ point → s.facts ≡ old → would_record side s.point s.facts fact ≡ true → length s.facts < most_facts → FitsFact fact
+    → new ≡ old ++ fact ∷ [] → IsRunning point (old ++ fact ∷ []) new_book new_contracts → AreTakings (old ++ fact ∷ []) new_takings → DeskInvariant side point new entries new_book new_contracts new_takings saved
+kept-other side point old entries book new_book contracts new_contracts takings new_takings saved s fact new kept other point_is facts_is recorded room fits new_is running numbers =
+    let legal = kept-legal side point old s fact kept.stages.legal point_is facts_is recorded room in
+    kept-more side point old entries book new_book contracts new_contracts takings new_takings saved fact new entries kept fits (states_fit-other side old fact other kept.fits.states) new_is
+    (stages-other side point old fact entries other legal kept.stages) running numbers
+
+-- one more closing
+pub kept-closed : (side : Side) (point : List ℕ) (old : List Fact) (entries : List (CycleId × Stage)) (book : Documents) (contracts : Capacity) (takings : List (PortfolioDay × ℕ)) (saved : ℕ) (id : CycleId) (rule : Rule) (new : List Fact) (later : List (CycleId × Stage))
+    → DeskInvariant side point old entries book contracts takings saved → FitsCycle id → FitsProcessed (processed (capacity_of old) (documents_of old) side id.day id.cycle rule)
+    → new ≡ old ++ Closed id rule ∷ [] → AreStages side point (old ++ Closed id rule ∷ []) later → DeskInvariant side point new later book contracts takings saved
+kept-closed side point old entries book contracts takings saved id rule new later kept fits own_fits new_is stages =
+    kept-more side point old entries book book contracts contracts takings takings saved (Closed id rule) new later kept fits (states_fit-closed side point old id rule stages.legal kept.fits.states fits own_fits) new_is stages
+    (running-closed point old book contracts id rule kept.running) (takings-same side point old (Closed id rule) takings (λ document e. absurd cc) kept.stages.legal kept.numbers)
+
+-- one more meeting
+pub kept-met : (side : Side) (point : List ℕ) (old : List Fact) (entries : List (CycleId × Stage)) (book : Documents) (contracts : Capacity) (takings : List (PortfolioDay × ℕ)) (saved : ℕ) (id : CycleId) (peer : TableContents) (new : List Fact) (later : List (CycleId × Stage))
+    → DeskInvariant side point old entries book contracts takings saved → FitsFact (Met id peer) → new ≡ old ++ Met id peer ∷ [] → AreStages side point (old ++ Met id peer ∷ []) later
+    → DeskInvariant side point new later book contracts takings saved
+kept-met side point old entries book contracts takings saved id peer new later kept fits new_is stages =
+    kept-more side point old entries book book contracts contracts takings takings saved (Met id peer) new later kept fits (states_fit-met side point old id peer stages.legal kept.fits.states fits) new_is stages
+    (running-met point old book contracts id peer kept.running) (takings-same side point old (Met id peer) takings (λ document e. absurd cc) kept.stages.legal kept.numbers)

@@ -1,0 +1,5 @@
+mod LineLemmas
+mod Requests
+mod Comings
+mod Lives
+mod Runnings

@@ -1,0 +1,51 @@
+-- What a line asks for is a call that is made.
+use Rattle.std.proofs.Common.{◌≡◌, ℕ, List, [], ◌∷◌, ◌++◌, true, refl, sym, ap, subst, ◌∙◌, Err}
+use Rattle.gi_desk.specs.declared.call.Call.{Call}
+use Rattle.gi_script.specs.Grammar.{Asks, SaysCall}
+use Rattle.gi_script.specs.declared.verb.Verb.{Verb}
+use Rattle.gi_script.specs.declared.verb.Verb.TheVariants as verbs
+use Rattle.gi_script.specs.Reading.{Reads}
+use Rattle.gi_script.specs.declared.fault.LineFault.{LineFault}
+use Rattle.gi_script.specs.declared.fault.LineFault.TheVariants.{Unreadable}
+use Rattle.gi_live.specs.Lines.{IsEnded}
+use Rattle.gi_serving.specs.Runs.{is_made}
+
+by_verb : (verb : Verb) (words : List (List ℕ)) (call : Call) → SaysCall verb words call → is_made call ≡ true
+by_verb verbs.Contract words call says = rw says.1 refl
+by_verb verbs.Notice words call says = rw says.1 refl
+by_verb verbs.Submit words call says = rw says.1 refl
+by_verb verbs.Close words call says = rw says.1 refl
+by_verb verbs.Resend words call says = rw says.1 refl
+by_verb verbs.Halt words call says = rw says.0 refl
+by_verb verbs.Deliver words call says = rw says.1 refl
+by_verb verbs.Save words call says = absurd says
+by_verb verbs.Restart words call says = absurd says
+by_verb verbs.Carry words call says = absurd says
+
+none_end : (xs : List ℕ) → [] ≡ xs ++ 10 ∷ [] → ⊥
+none_end [] e = cc
+none_end (x ∷ xs) e = cc
+
+tail_is : (x y : ℕ) (xs ys : List ℕ) → x ∷ xs ≡ y ∷ ys → xs ≡ ys
+tail_is x y xs ys e = cc
+
+head_is : (x y : ℕ) (xs ys : List ℕ) → x ∷ xs ≡ y ∷ ys → x ≡ y
+head_is x y xs ys e = cc
+
+-- a line has one text
+end_is : (xs ys : List ℕ) → xs ++ 10 ∷ [] ≡ ys ++ 10 ∷ [] → xs ≡ ys
+end_is [] [] e = refl
+end_is [] (y ∷ ys) e = absurd (none_end ys (tail_is 10 y [] (ys ++ 10 ∷ []) e))
+end_is (x ∷ xs) [] e = absurd (none_end xs (sym (tail_is x 10 (xs ++ 10 ∷ []) [] e)))
+end_is (x ∷ xs) (y ∷ ys) e =
+    ap (λ l. x ∷ l) (end_is xs ys (tail_is x y (xs ++ 10 ∷ []) (ys ++ 10 ∷ []) e)) ∙ ap (λ z. z ∷ ys) (head_is x y (xs ++ 10 ∷ []) (ys ++ 10 ∷ []) e)
+
+-- a line whose text is no request asks for none
+pub unread : (given bytes text : List ℕ) (fault : LineFault) → bytes ≡ given → IsEnded bytes text → fault ≡ Unreadable → Reads (Asks text) (Err fault)
+    → (line : List ℕ) (call : Call) → IsEnded given line → ¬ Asks line call
+unread given bytes text fault same ended is reads line call other =
+    let one : text ≡ line = end_is text line (sym ended ∙ same ∙ other) in
+    subst (λ l. ¬ Asks l call) one (subst (λ why. Reads (Asks text) (Err why)) is reads call)
+
+pub is_asked : (line : List ℕ) (call : Call) → Asks line call → is_made call ≡ true
+is_asked line call asks = by_verb asks.verb asks.rest call asks.says

@@ -1,0 +1,75 @@
+-- One step more.
+use Rattle.std.proofs.Common.{◌≡◌, ℕ, List, [], ◌∷◌, ◌++◌, refl, sym, ap, subst, ◌∙◌, append_assoc, Option, Some, None, IfSome}
+use Rattle.std.specs.Io.KnownBytes.{Appends, Keeps, IsAtEnd}
+use Rattle.gi_office.specs.Keeping.{SeatState}
+use Rattle.gi_pairs.specs.declared.side.Side.{Side}
+use Rattle.gi_live.specs.Lines.{TakesLines, given_lines}
+use Rattle.gi_live.specs.Running.{LeavesStep, LiveState, Runs, RunsAll, RunsSome, RunsTo, Steps, WritesStep, joined, live}
+use Rattle.gi_live.specs.declared.live_fault.LiveFault.{LiveFault}
+use Rattle.gi_live.proofs.LineLemmas.{none_left, takes_both, takes_none}
+
+append_none : (xs : List ℕ) → xs ++ [] ≡ xs
+append_none [] = refl
+append_none (x ∷ xs) = ap (λ l. x ∷ l) (append_none xs)
+
+none_of_lines : (xs : List (List ℕ)) → xs ++ [] ≡ xs
+none_of_lines [] = refl
+none_of_lines (x ∷ xs) = ap (λ l. x ∷ l) (none_of_lines xs)
+
+joined_more : (pieces : List (List (List ℕ))) (piece : List (List ℕ)) → joined (pieces ++ piece ∷ []) ≡ joined pieces ++ piece
+joined_more [] piece = none_of_lines piece
+joined_more (first ∷ pieces) piece = ap (λ l. first ++ l) (joined_more pieces piece) ∙ sym (append_assoc first (joined pieces) piece)
+
+runs_more : (side : Side) (old : LiveState) (pieces : List (List (List ℕ))) (text : List ℕ) (between : LiveState) (piece : List (List ℕ)) (more : List ℕ) (new : LiveState)
+    → Runs side old pieces text between → Steps side between piece more new → Runs side old (pieces ++ piece ∷ []) (text ++ more) new
+runs_more side old [] text between piece more new runs step =
+    (more, [], new, ap (λ l. l ++ more) runs.0 ∙ sym (append_none more), subst (λ state. Steps side state piece more new) runs.1 step, (refl, refl))
+runs_more side old (first ∷ pieces) text between piece more new runs step = (
+  runs.0,
+  runs.1 ++ more,
+  runs.2,
+  ap (λ l. l ++ more) runs.3 ∙ append_assoc runs.0 runs.1 more,
+  runs.4,
+  runs_more side runs.2 pieces runs.1 between piece more new runs.5 step,
+)
+
+appends_none : (old : Option (List ℕ)) → Appends old old []
+appends_none None = tt
+appends_none (Some xs) = sym (append_none xs)
+
+appends_both : (old between new : Option (List ℕ)) (xs ys : List ℕ) → Appends old between xs → Appends between new ys → Appends old new (xs ++ ys)
+appends_both None between new xs ys first next = tt
+appends_both (Some bytes) None new xs ys first next = absurd first
+appends_both (Some bytes) (Some middle) None xs ys first next = absurd next
+appends_both (Some bytes) (Some middle) (Some all) xs ys first next = next ∙ ap (λ l. l ++ ys) first ∙ append_assoc bytes xs ys
+
+-- no step was made yet
+pub none_run : (side : Side) (old : LiveState) (input before : Option (List ℕ)) → RunsTo side old input input before before old
+none_run side old input before = record { pieces = []; text = []; runs = (refl, refl); taken = takes_none input; written = appends_none before }
+
+pub more_run : (side : Side) (old : LiveState) (input left : Option (List ℕ)) (before after : Option (List ℕ)) (reached : LiveState)
+    (piece : List (List ℕ)) (rest next : Option (List ℕ)) (new : LiveState)
+    → RunsTo side old input left before after reached → TakesLines left piece rest → WritesStep side reached piece after next new
+    → RunsTo side old input rest before next new
+more_run side old input left before after reached piece rest next new runs takes step = record {
+  pieces = runs.pieces ++ piece ∷ [];
+  text = runs.text ++ step.0;
+  runs = runs_more side old runs.pieces runs.text reached piece step.0 new runs.runs step.1;
+  taken = subst (λ all. TakesLines input all rest) (sym (joined_more runs.pieces piece)) (takes_both input left rest (joined runs.pieces) piece runs.taken takes);
+  written = appends_both before after next runs.text step.0 runs.written step.2;
+}
+
+ended : (input left : Option (List ℕ)) (all : List (List ℕ)) → TakesLines input all left → IsAtEnd left → IfSome input (λ bytes. given_lines bytes ≡ all)
+ended None left all takes end = tt
+ended (Some bytes) None all takes end = absurd takes
+ended (Some bytes) (Some rest) all takes end = takes ∙ none_left all rest end
+
+pub all_run : (side : Side) (old : LiveState) (input left : Option (List ℕ)) (before after : Option (List ℕ)) (seat : SeatState) (saved taken : ℕ)
+    → RunsTo side old input left before after (live seat saved taken) → IsAtEnd left → RunsAll side old input before after seat
+all_run side old input left before after seat saved taken runs end =
+    record { pieces = runs.pieces; text = runs.text; saved = saved; taken = taken; runs = runs.runs; all = ended input left (joined runs.pieces) runs.taken end; written = runs.written }
+
+pub some_run : (side : Side) (old : LiveState) (input left : Option (List ℕ)) (before between after : Option (List ℕ)) (reached : LiveState) (next : List (List ℕ)) (fault : LiveFault)
+    → RunsTo side old input left before between reached → LeavesStep side reached next between after fault → RunsSome side old input before after fault
+some_run side old input left before between after reached next fault runs leaves =
+    record { left = left; between = between; reached = reached; runs = runs; next = next; leaves = leaves }

@@ -1,0 +1,68 @@
+ghost use Rattle.std.specs.Prelude.{◌≡◌, IfOk, string_bytes};
+ghost use Rattle.gi_desk.specs.declared.reply.Answer.TheVariants as answers;
+ghost use Rattle.gi_live.specs.Answers.{answer_text, portfolio_part as portfolio_part_of, refused_text};
+
+use gi_desk::{Answer, Refusal};
+use gi_pairs::Code;
+use std::alloc::{AllocError, Global};
+
+fn portfolio_part(alloc: Global, portfolio: Option<Code>) -> Result<String, AllocError>
+    ensures { IfOk result (λ text. string_bytes text ≡ portfolio_part_of portfolio) }
+{
+    match portfolio {
+        Some(code) => format!(in alloc; ",\"portfolio\":\"{code}\""),
+        None => Ok(String::new(alloc)),
+    }
+}
+
+/// The line of what was refused by this name: `{"answer":"refused","line":6,"name":"Stale 2","portfolio":"A"}`, the
+/// portfolio where the document could be read.
+pub fn refused_line(
+    alloc: Global,
+    line: u64,
+    name: &str,
+    portfolio: Option<Code>,
+) -> Result<String, AllocError>
+    ensures { IfOk result (λ text. string_bytes text ≡ refused_text line name.now portfolio) }
+{
+    let portfolio = portfolio_part(alloc, portfolio)?;
+    format!(in alloc; "{{\"answer\":\"refused\",\"line\":{line},\"name\":\"{name}\"{portfolio}}}\n")
+}
+
+fn refusal_line(
+    alloc: Global,
+    line: u64,
+    refusal: Refusal,
+    portfolio: Option<Code>,
+) -> Result<String, AllocError>
+    ensures { IfOk result (λ text. string_bytes text ≡ answer_text line (answers.Refused refusal) portfolio) }
+{
+    let name = format!(in alloc; "{refusal}")?;
+    refused_line(alloc, line, name.as_str(), portfolio)
+}
+
+/// The line of a desk's answer to what was asked on the line of this number, from 1, such as
+/// `{"answer":"recorded","fact":2,"line":4}`. A portfolio is named beside a refusal alone.
+pub fn answer_line(
+    alloc: Global,
+    line: u64,
+    answer: Answer,
+    portfolio: Option<Code>,
+) -> Result<String, AllocError>
+    ensures { IfOk result (λ text. string_bytes text ≡ answer_text line answer portfolio) }
+{
+    match answer {
+        Answer::Recorded { n } => {
+            format!(in alloc; "{{\"answer\":\"recorded\",\"fact\":{n},\"line\":{line}}}\n")
+        }
+        Answer::Repeat { n } => {
+            format!(in alloc; "{{\"answer\":\"repeat\",\"fact\":{n},\"line\":{line}}}\n")
+        }
+        Answer::Saved { n } => {
+            format!(in alloc; "{{\"answer\":\"saved\",\"fact\":{n},\"line\":{line}}}\n")
+        }
+        Answer::Resent => format!(in alloc; "{{\"answer\":\"resent\",\"line\":{line}}}\n"),
+        Answer::Stopped => format!(in alloc; "{{\"answer\":\"stopped\",\"line\":{line}}}\n"),
+        Answer::Refused(refusal) => refusal_line(alloc, line, refusal, portfolio),
+    }
+}

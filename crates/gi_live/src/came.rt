@@ -1,0 +1,23 @@
+use gi_desk::Reply;
+use gi_pairs::Code;
+
+/// Why a line is not read.
+#[derive(Clone, Copy, Debug, PartialEq, Eq)]
+pub enum UnreadLine {
+    /// It asks for nothing, or is cut off before its line feed.
+    Unreadable,
+    /// It is longer than 16,777,472 bytes, its line feed among them.
+    TooLarge,
+}
+
+/// What came of a line.
+#[derive(Drop)]
+pub enum Came {
+    /// It was not read.
+    Unread(UnreadLine),
+    /// The office's reply to what it asks, and the portfolio of a submission that was refused, where that could be read.
+    Answered {
+        reply: Reply,
+        portfolio: Option<Code>,
+    },
+}

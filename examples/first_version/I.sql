@@ -1,0 +1,11 @@
+BEGIN TRANSACTION;
+CREATE TABLE book (id INTEGER PRIMARY KEY, version INTEGER NOT NULL);
+INSERT INTO "book" VALUES(1,1);
+CREATE TABLE facts (n INTEGER PRIMARY KEY, body TEXT NOT NULL);
+INSERT INTO "facts" VALUES(1,'{"day":"2026-01-15","direction":"IM","fact":"contract","firm":1000,"interruptible":0,"portfolio":"A"}');
+INSERT INTO "facts" VALUES(2,'{"fact":"nomination","nomint":{"day":"2026-01-15","kind":"NOMINT","lines":[{"counterparty":"B","direction":"IM","hours":[10,10,10,10,10,10,10,10,10,10,10,10,10,10,10,10,10,10,10,10,10,10,10,10]}],"point":"BORDER-1","portfolio":"A","version":1}}');
+INSERT INTO "facts" VALUES(3,'{"cycle":35,"day":"2026-01-15","fact":"closed"}');
+INSERT INTO "facts" VALUES(4,'{"cycle":35,"day":"2026-01-15","fact":"met","first":24,"last":24,"peer":[{"direction":"IM","hours":[7],"initiating":"A","matching":"B"}]}');
+CREATE TABLE owner (id INTEGER PRIMARY KEY, name TEXT NOT NULL);
+INSERT INTO "owner" VALUES(1,'I BORDER-1');
+COMMIT;
