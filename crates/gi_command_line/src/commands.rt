@@ -77,8 +77,8 @@ const OFFICE_HELP: &str = "\
 One operator's office, of SIDE `I` or `M`, which runs as long as standard input has lines. FILE is its
 book, an SQLite database, which is made where it is not there, and CODE is the interconnection point
 that it is of. With --wait a book that another process has open is tried again for SECONDS (0 to 3600;
-0 where no number is given) before it is Busy. Each line of standard input is a request, in the words
-that a script has behind its SIDE:
+0 where no number is given) before it is Busy. Each line of standard input is a request: a call, in the
+words that a script has behind its SIDE, or a question.
 
   contract PORTFOLIO DAY DIRECTION FIRM INTERRUPTIBLE      kWh/h in each hour
   notice DAY DIRECTION FIRST LAST FIRM INTERRUPTIBLE       hours, and per mille
@@ -87,6 +87,10 @@ that a script has behind its SIDE:
   close DAY CYCLE [RULE]                                   1 or 2; 2 where it is left out
   resend DAY CYCLE
   halt
+  outgoing N                                               what the facts from number N on let out
+  facts
+  report KIND                                              open or confirmed
+  explain INITIATING MATCHING DIRECTION DAY CYCLE HOUR
 
 Standard output gets one JSON object a line, compact and with its keys in byte order. Each line of
 standard input is answered, in their order:
@@ -94,15 +98,18 @@ standard input is answered, in their order:
   {\"answer\":\"recorded\",\"fact\":2,\"line\":4}
   {\"answer\":\"refused\",\"line\":6,\"name\":\"Stale 2\",\"portfolio\":\"A\"}
 
-The answer is `recorded` or `repeat`, with the number of the fact; `resent`; `stopped`; or `refused`,
-with the name of what is wrong, and with the portfolio where a submission could be read. A line that is
-no request is refused as Unreadable, and one of more than 16,777,472 bytes as TooLarge; the office runs
-on. Each message that is let out is a packet, to a portfolio or to the other operator, `peer`:
+The answer of a call is `recorded` or `repeat`, with the number of the fact; `resent`; `stopped`; or
+`refused`, with the name of what is wrong, and with the portfolio where a submission could be read. A
+line that is no request, or is cut off before its line feed, is refused as Unreadable, and one of more
+than 16,777,472 bytes as TooLarge; the office runs on. Each message that is let out is a packet, to a
+portfolio or to the other operator, `peer`:
 
   {\"fact\":2,\"message\":{..},\"to\":\"A\"}
 
 It comes behind the answer of its fact. No `recorded` and no packet is written before its fact stands in
-the book. At the end of standard input all is saved, and the book is closed.
+the book. A question is answered of what stands there. A reader that died goes on by `outgoing`, from
+the last fact of which it saw a packet. At the end of standard input all is saved, the book is closed,
+and a last line tells how many facts it has, how many are saved, and how many cycles are confirmed.
 
 Faults, the first of: CodeText (CODE is no code); Head, Store, Version, Gap N, Damaged N, Lost N,
 OtherBook SIDE POINT, BadFact N or Busy, as `serve` tells them of one book; then, behind the lines of

@@ -3,3 +3,5 @@ mod Requests
 mod Comings
 mod Lives
 mod Runnings
+mod Goings
+mod Queried

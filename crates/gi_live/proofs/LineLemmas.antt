@@ -1,8 +1,9 @@
 -- A line that is read up to its line feed, and with it, is the first one of what is left.
-use Rattle.std.proofs.Common.{◌≡◌, ℕ, Bool, true, false, ◌==◌, List, [], ◌∷◌, ◌++◌, refl, ap, sym, ◌∙◌, Option, Some, None, IfSome, append_assoc}
+use Rattle.std.proofs.Common.{◌≡◌, ℕ, Bool, true, false, ◌==◌, List, [], ◌∷◌, ◌++◌, refl, ap, sym, subst, ◌∙◌, Option, Some, None, IfSome, append_assoc}
 use Rattle.std.specs.List.{onto_first}
 use Rattle.std.specs.Io.BufRead.{take_through, drop_through, DropsThrough}
-use Rattle.gi_live.specs.Lines.{TakesLines, given_lines}
+use Rattle.gi_live.specs.Lines.{IsAtEnd, TakesLines, TakesNext, given_lines, lines_left}
+use Rattle.gi_live.specs.Stretches.{EndsAt}
 
 lines-feed : (byte : ℕ) (bytes : List ℕ) → (byte == 10) ≡ true → given_lines (byte ∷ bytes) ≡ (byte ∷ []) ∷ given_lines bytes
 unfolding given_lines
@@ -12,9 +13,9 @@ lines-other : (byte : ℕ) (bytes : List ℕ) → (byte == 10) ≡ false → giv
 unfolding given_lines
 lines-other byte bytes e = rw e refl
 
-lines-none : given_lines [] ≡ []
+lines_none : given_lines [] ≡ []
 unfolding given_lines
-lines-none = refl
+lines_none = refl
 
 take_through-feed : (byte : ℕ) (bytes : List ℕ) → (byte == 10) ≡ true → take_through 10 (byte ∷ bytes) ≡ byte ∷ []
 take_through-feed byte bytes e = rw e refl
@@ -34,7 +35,7 @@ parted byte [] = by (byte == 10) refl
   where
     by : (b : Bool) → (byte == 10) ≡ b → given_lines (byte ∷ []) ≡ take_through 10 (byte ∷ []) ∷ given_lines (drop_through 10 (byte ∷ []))
     by true is = rw (take_through-feed byte [] is, drop_through-feed byte [] is) (lines-feed byte [] is)
-    by false is = rw (take_through-other byte [] is, drop_through-other byte [] is, lines-other byte [] is, lines-none) refl
+    by false is = rw (take_through-other byte [] is, drop_through-other byte [] is, lines-other byte [] is, lines_none) refl
 parted byte (next ∷ bytes) = by (parted next bytes) (byte == 10) refl
   where
     rest : List ℕ
@@ -51,25 +52,82 @@ next_is [] some = absurd (some refl)
 next_is (byte ∷ bytes) some = parted byte bytes
 
 pub takes_next : (old new : Option (List ℕ)) (none read : List ℕ) → none ≡ [] → IfSome old (λ xs. read ≡ none ++ take_through 10 xs)
-    → DropsThrough old new 10 → (read ≡ [] → ⊥) → TakesLines old (read ∷ []) new
+    → DropsThrough old new 10 → (read ≡ [] → ⊥) → TakesLines (lines_left None old) (read ∷ []) (lines_left None new)
 takes_next None new none read empty is rest some = tt
 takes_next (Some xs) new none read empty is rest some =
     let whole : read ≡ take_through 10 xs = is ∙ ap (λ l. l ++ take_through 10 xs) empty in
     rw rest (next_is xs (λ nothing. some (whole ∙ ap (take_through 10) nothing)) ∙ ap (λ l. l ∷ given_lines (drop_through 10 xs)) (sym whole))
 
-pub takes_none : (old : Option (List ℕ)) → TakesLines old [] old
+-- nothing is read where nothing is left
+none_through : (xs : List ℕ) → take_through 10 xs ≡ [] → xs ≡ []
+none_through [] is = refl
+none_through (byte ∷ bytes) is = by (byte == 10) refl
+  where
+    by : (b : Bool) → (byte == 10) ≡ b → byte ∷ bytes ≡ []
+    by true same = absurd (let no = sym (take_through-feed byte bytes same) ∙ is in cc)
+    by false same = absurd (let no = sym (take_through-other byte bytes same) ∙ is in cc)
+
+pub takes_end : (old new : Option (List ℕ)) (none read : List ℕ) → none ≡ [] → IfSome old (λ xs. read ≡ none ++ take_through 10 xs)
+    → DropsThrough old new 10 → read ≡ [] → TakesNext (lines_left None old) None (lines_left None new)
+takes_end None new none read empty is rest nothing = (tt, tt)
+takes_end (Some xs) new none read empty is rest nothing =
+    let through : take_through 10 xs ≡ [] = sym (is ∙ ap (λ l. l ++ take_through 10 xs) empty) ∙ nothing in
+    let end : xs ≡ [] = none_through xs through in
+    let left : new ≡ Some [] = rest ∙ ap (λ (bytes : List ℕ). Some (drop_through 10 bytes)) end in
+    let here : given_lines xs ≡ [] = ap given_lines end ∙ lines_none in
+    (rw left (here ∙ sym lines_none), here)
+
+pub takes_none : (old : Option (List (List ℕ))) → TakesLines old [] old
 takes_none None = tt
 takes_none (Some all) = refl
 
-pub takes_both : (old between new : Option (List ℕ)) (taken more : List (List ℕ)) → TakesLines old taken between → TakesLines between more new
+pub takes_both : (old between new : Option (List (List ℕ))) (taken more : List (List ℕ)) → TakesLines old taken between → TakesLines between more new
     → TakesLines old (taken ++ more) new
 takes_both None between new taken more first next = tt
 takes_both (Some all) None new taken more first next = absurd first
 takes_both (Some all) (Some middle) None taken more first next = absurd next
 takes_both (Some all) (Some middle) (Some left) taken more first next =
-    first ∙ ap (λ ls. taken ++ ls) next ∙ sym (append_assoc taken more (given_lines left))
+    first ∙ ap (λ ls. taken ++ ls) next ∙ sym (append_assoc taken more left)
 
--- nothing is left
-pub none_left : (all : List (List ℕ)) (bytes : List ℕ) → bytes ≡ [] → all ++ given_lines bytes ≡ all
-none_left [] bytes none = ap given_lines none ∙ lines-none
-none_left (line ∷ all) bytes none = ap (λ ls. line ∷ ls) (none_left all bytes none)
+none_more : (xs : List (List ℕ)) → xs ++ [] ≡ xs
+none_more [] = refl
+none_more (x ∷ xs) = ap (λ l. x ∷ l) (none_more xs)
+
+-- the same where no further line was taken
+pub takes_same : (old between new : Option (List (List ℕ))) (taken : List (List ℕ)) → TakesLines old taken between → TakesLines between [] new
+    → TakesLines old taken new
+takes_same old between new taken first next =
+    subst (λ ls. TakesLines old ls new) (none_more taken) (takes_both old between new taken [] first next)
+
+-- the line that was kept back is the next one
+pub takes_kept : (line : List ℕ) (remaining : Option (List ℕ)) → TakesLines (lines_left (Some line) remaining) (line ∷ []) (lines_left None remaining)
+takes_kept line None = tt
+takes_kept line (Some bytes) = refl
+
+-- a line that was taken is kept back
+pub keeps_back : (old : Option (List (List ℕ))) (line : List ℕ) (remaining : Option (List ℕ)) → TakesLines old (line ∷ []) (lines_left None remaining)
+    → TakesLines old [] (lines_left (Some line) remaining)
+keeps_back None line remaining takes = tt
+keeps_back (Some all) line None takes = absurd takes
+keeps_back (Some all) line (Some bytes) takes = takes
+
+-- all bytes of an input, where no line is left
+pub takes_all : (input : Option (List ℕ)) (left : Option (List (List ℕ))) (all : List (List ℕ)) → TakesLines (lines_left None input) all left → IsAtEnd left
+    → IfSome input (λ bytes. given_lines bytes ≡ all)
+takes_all None left all takes end = tt
+takes_all (Some bytes) None all takes end = absurd takes
+takes_all (Some bytes) (Some rest) all takes end = takes ∙ ap (λ ls. all ++ ls) end ∙ none_more all
+
+-- the end of what is left, where the input is known
+pub ends_at : (input left rest : Option (List (List ℕ))) (lines : List (List ℕ)) → TakesLines input lines left → IsAtEnd left → TakesLines left [] rest → EndsAt input rest
+ends_at None left rest lines takes end further = tt
+ends_at (Some all) None rest lines takes end further = absurd takes
+ends_at (Some all) (Some left) None lines takes end further = absurd further
+ends_at (Some all) (Some left) (Some rest) lines takes end further = sym further ∙ end
+
+-- all bytes of an input, of which lines were taken up to where no line is left
+pub takes_whole : (input : Option (List ℕ)) (left rest : Option (List (List ℕ))) (first all : List (List ℕ)) → TakesLines (lines_left None input) first left
+    → TakesLines (lines_left None input) all rest → EndsAt left rest → IfSome input (λ bytes. given_lines bytes ≡ all)
+takes_whole None left rest first all before takes end = tt
+takes_whole (Some bytes) None rest first all before takes end = absurd before
+takes_whole (Some bytes) (Some left) rest first all before takes end = takes_all (Some bytes) rest all takes end

@@ -1,12 +1,16 @@
 -- One step more.
-use Rattle.std.proofs.Common.{◌≡◌, ℕ, List, [], ◌∷◌, ◌++◌, refl, sym, ap, subst, ◌∙◌, append_assoc, Option, Some, None, IfSome}
-use Rattle.std.specs.Io.KnownBytes.{Appends, Keeps, IsAtEnd}
+use Rattle.std.proofs.Common.{◌≡◌, ℕ, Bool, true, false, List, [], ◌∷◌, ◌++◌, refl, sym, ap, subst, ◌∙◌, append_assoc, Option, Some, None}
+use Rattle.std.specs.List.{list_any}
+use Rattle.std.specs.Io.KnownBytes.{Appends}
 use Rattle.gi_office.specs.Keeping.{SeatState}
 use Rattle.gi_pairs.specs.declared.side.Side.{Side}
-use Rattle.gi_live.specs.Lines.{TakesLines, given_lines}
-use Rattle.gi_live.specs.Running.{LeavesStep, LiveState, Runs, RunsAll, RunsSome, RunsTo, Steps, WritesStep, joined, live}
+use Rattle.gi_live.specs.Lines.{IsAtEnd, TakesLines, is_query}
+use Rattle.gi_live.specs.Running.{LeavesStep, LiveState, Runs, RunsSome, RunsTo, Steps, WritesStep, joined, live}
+use Rattle.gi_live.specs.Stretches.{IsAsked, RunsUntil}
+use Rattle.gi_live.specs.declared.running.End.{End}
+use Rattle.gi_live.specs.declared.running.End.TheVariants as ends
 use Rattle.gi_live.specs.declared.live_fault.LiveFault.{LiveFault}
-use Rattle.gi_live.proofs.LineLemmas.{none_left, takes_both, takes_none}
+use Rattle.gi_live.proofs.LineLemmas.{takes_both, takes_none}
 
 append_none : (xs : List ℕ) → xs ++ [] ≡ xs
 append_none [] = refl
@@ -33,22 +37,22 @@ runs_more side old (first ∷ pieces) text between piece more new runs step = (
   runs_more side runs.2 pieces runs.1 between piece more new runs.5 step,
 )
 
-appends_none : (old : Option (List ℕ)) → Appends old old []
+pub appends_none : (old : Option (List ℕ)) → Appends old old []
 appends_none None = tt
 appends_none (Some xs) = sym (append_none xs)
 
-appends_both : (old between new : Option (List ℕ)) (xs ys : List ℕ) → Appends old between xs → Appends between new ys → Appends old new (xs ++ ys)
+pub appends_both : (old between new : Option (List ℕ)) (xs ys : List ℕ) → Appends old between xs → Appends between new ys → Appends old new (xs ++ ys)
 appends_both None between new xs ys first next = tt
 appends_both (Some bytes) None new xs ys first next = absurd first
 appends_both (Some bytes) (Some middle) None xs ys first next = absurd next
 appends_both (Some bytes) (Some middle) (Some all) xs ys first next = next ∙ ap (λ l. l ++ ys) first ∙ append_assoc bytes xs ys
 
 -- no step was made yet
-pub none_run : (side : Side) (old : LiveState) (input before : Option (List ℕ)) → RunsTo side old input input before before old
+pub none_run : (side : Side) (old : LiveState) (input : Option (List (List ℕ))) (before : Option (List ℕ)) → RunsTo side old input input before before old
 none_run side old input before = record { pieces = []; text = []; runs = (refl, refl); taken = takes_none input; written = appends_none before }
 
-pub more_run : (side : Side) (old : LiveState) (input left : Option (List ℕ)) (before after : Option (List ℕ)) (reached : LiveState)
-    (piece : List (List ℕ)) (rest next : Option (List ℕ)) (new : LiveState)
+pub more_run : (side : Side) (old : LiveState) (input left : Option (List (List ℕ))) (before after : Option (List ℕ)) (reached : LiveState)
+    (piece : List (List ℕ)) (rest : Option (List (List ℕ))) (next : Option (List ℕ)) (new : LiveState)
     → RunsTo side old input left before after reached → TakesLines left piece rest → WritesStep side reached piece after next new
     → RunsTo side old input rest before next new
 more_run side old input left before after reached piece rest next new runs takes step = record {
@@ -59,17 +63,36 @@ more_run side old input left before after reached piece rest next new runs takes
   written = appends_both before after next runs.text step.0 runs.written step.2;
 }
 
-ended : (input left : Option (List ℕ)) (all : List (List ℕ)) → TakesLines input all left → IsAtEnd left → IfSome input (λ bytes. given_lines bytes ≡ all)
-ended None left all takes end = tt
-ended (Some bytes) None all takes end = absurd takes
-ended (Some bytes) (Some rest) all takes end = takes ∙ none_left all rest end
+-- why they ended
+pub until_input : (side : Side) (old : LiveState) (input left rest : Option (List (List ℕ))) (before after : Option (List ℕ)) (seat : SeatState) (saved taken : ℕ)
+    → RunsTo side old input left before after (live seat saved taken) → IsAtEnd left → TakesLines left [] rest → RunsUntil side old input rest before after seat taken ends.Input
+until_input side old input left rest before after seat saved taken runs end further = record { saved = saved; left = left; runs = runs; behind = (end, further) }
 
-pub all_run : (side : Side) (old : LiveState) (input left : Option (List ℕ)) (before after : Option (List ℕ)) (seat : SeatState) (saved taken : ℕ)
-    → RunsTo side old input left before after (live seat saved taken) → IsAtEnd left → RunsAll side old input before after seat
-all_run side old input left before after seat saved taken runs end =
-    record { pieces = runs.pieces; text = runs.text; saved = saved; taken = taken; runs = runs.runs; all = ended input left (joined runs.pieces) runs.taken end; written = runs.written }
+pub until_full : (side : Side) (old : LiveState) (input left : Option (List (List ℕ))) (before after : Option (List ℕ)) (seat : SeatState) (saved taken : ℕ)
+    → RunsTo side old input left before after (live seat saved taken) → RunsUntil side old input left before after seat taken ends.Full
+until_full side old input left before after seat saved taken runs = record { saved = saved; left = left; runs = runs; behind = refl }
 
-pub some_run : (side : Side) (old : LiveState) (input left : Option (List ℕ)) (before between after : Option (List ℕ)) (reached : LiveState) (next : List (List ℕ)) (fault : LiveFault)
+pub until_asked : (side : Side) (old : LiveState) (input left rest : Option (List (List ℕ))) (before after : Option (List ℕ)) (seat : SeatState) (saved taken : ℕ)
+    (lines : List (List ℕ)) (end : End)
+    → RunsTo side old input left before after (live seat saved taken) → TakesLines left lines rest → list_any is_query lines ≡ true → IsAsked lines end
+    → RunsUntil side old input rest before after seat taken end
+until_asked side old input left rest before after seat saved taken lines ends.Input runs takes query asked = absurd asked
+until_asked side old input left rest before after seat saved taken lines ends.Full runs takes query asked = absurd asked
+until_asked side old input left rest before after seat saved taken lines (ends.Asked line) runs takes query asked = record {
+  saved = saved;
+  left = left;
+  runs = runs;
+  behind = (subst (λ ls. TakesLines left ls rest) asked takes, one_query line (subst (λ ls. list_any is_query ls ≡ true) asked query));
+}
+  where
+    one_query : (given : List ℕ) → list_any is_query (given ∷ []) ≡ true → is_query given ≡ true
+    one_query given any = by (is_query given) refl
+      where
+        by : (b : Bool) → is_query given ≡ b → is_query given ≡ true
+        by true is = is
+        by false is = absurd (let no : false ≡ true = sym (rw is refl) ∙ any in cc)
+
+pub some_run : (side : Side) (old : LiveState) (input left : Option (List (List ℕ))) (before between after : Option (List ℕ)) (reached : LiveState) (next : List (List ℕ)) (fault : LiveFault)
     → RunsTo side old input left before between reached → LeavesStep side reached next between after fault → RunsSome side old input before after fault
 some_run side old input left before between after reached next fault runs leaves =
     record { left = left; between = between; reached = reached; runs = runs; next = next; leaves = leaves }

@@ -14,11 +14,14 @@ use Rattle.gi_pairs.specs.declared.side.Side.{Side}
 use Rattle.gi_script.specs.Grammar.{Asks}
 use Rattle.gi_simulation.specs.Refused.{portfolio_in}
 use Rattle.gi_live.specs.Lines.{IsEnded}
+use Rattle.gi_live.specs.Queries.{AsksQuery}
 use Rattle.gi_live.specs.declared.came.Came.{Came}
 use Rattle.gi_live.specs.declared.came.Came.TheVariants.{Unread, Answered}
 use Rattle.gi_live.specs.declared.live_fault.LiveFault.{LiveFault}
 use Rattle.gi_live.specs.declared.live_fault.LiveFault.TheVariants as faults
-use Rattle.gi_live.specs.declared.came.UnreadLine.TheVariants.{Unreadable, TooLarge}
+use Rattle.gi_live.specs.declared.came.UnreadLine.{UnreadLine}
+use Rattle.gi_live.specs.declared.came.UnreadLine.TheVariants.{Unreadable, TooLarge, Halted}
+use Rattle.gi_live.specs.declared.query.Query.{Query}
 
 -- the longest line that is read, in bytes with its line feed: the longest message, and room for the words before it (this project's choice)
 abbrev pub most_line : ℕ
@@ -47,11 +50,20 @@ IsMade side old call (Answered reply portfolio) new =
     (receipt : Receipt) × IsReceipt side old call receipt × (new ≡ noted old call receipt) × (reply ≡ receipt.reply)
     × (portfolio ≡ named_beside call receipt.reply.answer)
 
+-- why a text that asks for no call is not read: it asks a query, or nothing
+abbrev pub IsNoCall : List ℕ → UnreadLine → Type 0
+IsNoCall line Halted = (query : Query) × AsksQuery line query
+IsNoCall line Unreadable = (query : Query) → ¬ AsksQuery line query
+IsNoCall line TooLarge = ⊥
+
 -- A line that is ended is the call that it asks for, which is made from the seat. One that asks for none, or is cut off before its line
--- feed, is unreadable, and one that is too long is not read, and nothing is made.
+-- feed, is unreadable, one that is too long is not read, and a query is none for an office that is halted; then nothing is made.
 abbrev pub IsCome : Side → SeatState → List ℕ → Came → SeatState → Type 0
 IsCome side old given (Unread TooLarge) new = (most_line < length given) × (new ≡ old)
-IsCome side old given (Unread Unreadable) new = (length given ≤ most_line) × ((line : List ℕ) (call : Call) → IsEnded given line → ¬ Asks line call) × (new ≡ old)
+IsCome side old given (Unread Halted) new = (length given ≤ most_line) × ((line : List ℕ) × (query : Query) × IsEnded given line × AsksQuery line query) × (new ≡ old)
+IsCome side old given (Unread Unreadable) new =
+    (length given ≤ most_line) × ((line : List ℕ) (call : Call) → IsEnded given line → ¬ Asks line call)
+    × ((line : List ℕ) (query : Query) → IsEnded given line → ¬ AsksQuery line query) × (new ≡ old)
 IsCome side old given (Answered reply portfolio) new =
     (length given ≤ most_line) × ((line : List ℕ) × (call : Call) × IsEnded given line × Asks line call × IsMade side old call (Answered reply portfolio) new)
 

@@ -1,6 +1,9 @@
+pub mod Answering
 pub mod Answers
 pub mod Coming
 pub mod FaultText
 pub mod Lines
+pub mod Queries
 pub mod Running
+pub mod Stretches
 pub mod Telling

@@ -1,6 +1,7 @@
 -- The lines of what an office is given.
-use Rattle.std.specs.Prelude.{◌≡◌, ◌==◌, if◌then◌else◌, List, [], ◌∷◌, ◌++◌, ℕ, Option, Some, None}
-use Rattle.std.specs.List.{onto_first}
+use Rattle.std.specs.Prelude.{◌≡◌, ◌==◌, if◌then◌else◌, List, [], ◌∷◌, ◌++◌, ℕ, Bool, codes, nat_eq, Option, Some, None}
+use Rattle.std.specs.List.{list_any, onto_first, starts_with}
+use Rattle.std.specs.Option.{option_map, option_to_list}
 use Rattle.gi_text.specs.Lines.{line_feed}
 
 -- What each line feed ends, with that line feed, and what follows the last one, which has none.
@@ -12,14 +13,31 @@ given_lines (byte ∷ bytes) = if byte == line_feed then (byte ∷ []) ∷ given
 abbrev pub IsEnded : List ℕ → List ℕ → Type 0
 IsEnded given line = given ≡ line ++ line_feed ∷ []
 
--- the first lines of what a reader had left were taken, and all others are left, where that is known
-abbrev pub TakesLines : Option (List ℕ) → List (List ℕ) → Option (List ℕ) → Type 0
+-- the words with which a query begins; no call does
+abbrev pub query_starts : List (List ℕ)
+query_starts = codes "outgoing" ∷ codes "facts" ∷ codes "report" ∷ codes "explain" ∷ []
+
+-- A line that begins with one of these is a query, if it is a request at all.
+abbrev pub is_query : List ℕ → Bool
+is_query given = list_any (λ word. starts_with nat_eq given word) query_starts
+
+-- The lines that are left of an input: one that was read and is kept back, if any, and those of what the reader has left, where that is
+-- known.
+abbrev pub lines_left : Option (List ℕ) → Option (List ℕ) → Option (List (List ℕ))
+lines_left kept remaining = option_map (λ bytes. option_to_list kept ++ given_lines bytes) remaining
+
+-- the first lines of what was left were taken, and all others are left, where that is known
+abbrev pub TakesLines : Option (List (List ℕ)) → List (List ℕ) → Option (List (List ℕ)) → Type 0
 TakesLines None taken left = Unit {0}
 TakesLines (Some all) taken None = ⊥
-TakesLines (Some all) taken (Some left) = given_lines all ≡ taken ++ given_lines left
+TakesLines (Some all) taken (Some left) = all ≡ taken ++ left
 
--- the line that is taken next, if any; where there is none, no byte is left
-abbrev pub TakesNext : Option (List ℕ) → Option (List ℕ) → Option (List ℕ) → Type 0
+-- no line is left, where that is known
+abbrev pub IsAtEnd : Option (List (List ℕ)) → Type 0
+IsAtEnd None = Unit {0}
+IsAtEnd (Some left) = left ≡ []
+
+-- the line that is taken next, if any; where there is none, none is left
+abbrev pub TakesNext : Option (List (List ℕ)) → Option (List ℕ) → Option (List (List ℕ)) → Type 0
 TakesNext old (Some line) new = TakesLines old (line ∷ []) new
-TakesNext None None new = Unit {0}
-TakesNext (Some all) None new = (all ≡ []) × (new ≡ Some [])
+TakesNext old None new = TakesLines old [] new × IsAtEnd old

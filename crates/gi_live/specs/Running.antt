@@ -1,17 +1,17 @@
 -- What an office that runs makes of its lines, piece by piece.
-use Rattle.std.specs.Prelude.{◌≡◌, ◌⊎◌, ℕ, ◌+◌, ◌≤◌, List, [], ◌∷◌, ◌++◌, Bool, true, false, drop, length, take, Option, IfSome, Result, Ok, Err, flat_map}
-use Rattle.std.specs.List.{list_all}
+use Rattle.std.specs.Prelude.{◌≡◌, ℕ, ◌+◌, ◌≤◌, List, [], ◌∷◌, ◌++◌, Bool, true, false, drop, length, take, Option, Result, Ok, Err, flat_map}
+use Rattle.std.specs.List.{list_all, list_any}
 use Rattle.std.specs.Io.KnownBytes.{Appends, Keeps}
-use Rattle.gi_office.specs.Keeping.{HeldInvariant, HeldState, SeatState}
-use Rattle.gi_office.specs.Opening.{new_seat}
-use Rattle.gi_office.specs.Settling.{AreSettled}
+use Rattle.gi_office.specs.Keeping.{SeatState}
+use Rattle.gi_desk.specs.declared.reply.Answer.{Answer}
+use Rattle.gi_desk.specs.declared.reply.Answer.TheVariants as answers
 use Rattle.gi_office.specs.declared.note.Note.{Note}
 use Rattle.gi_office.specs.declared.save_fault.SaveFault.{SaveFault}
 use Rattle.gi_pairs.specs.declared.side.Side.{Side}
-use Rattle.gi_serving.specs.Asking.{IsMark, NotesMarks}
+use Rattle.gi_serving.specs.Asking.{NotesMarks}
 use Rattle.gi_live.specs.Coming.{ComeAll}
 use Rattle.gi_live.specs.Telling.{may_tell_of, saved_by, step_text}
-use Rattle.gi_live.specs.Lines.{TakesLines, given_lines}
+use Rattle.gi_live.specs.Lines.{TakesLines, is_query}
 use Rattle.gi_live.specs.declared.came.Came.{Came}
 use Rattle.gi_live.specs.declared.live_fault.LiveFault.{LiveFault}
 use Rattle.gi_live.specs.declared.live_fault.LiveFault.TheVariants as faults
@@ -29,11 +29,21 @@ live seat saved lines = record { seat = seat; saved = saved; lines = lines }
 abbrev pub notes_since : SeatState → SeatState → List Note
 notes_since old new = drop (length old.notes) new.notes
 
+-- a halt is among these notes
+abbrev pub is_stopped : Answer → Bool
+is_stopped answers.Stopped = true
+is_stopped _ = false
+
+abbrev pub has_halted : List Note → Bool
+has_halted notes = list_any (λ note. is_stopped note.reply.answer) notes
+
 -- What came of each of these lines, in order, was noted by the seat, then marks of saved facts and nothing else; and the text has the
--- answer to each line, each of a fact that is saved, and then what these facts let out.
+-- answer to each line, each of a fact that is saved, and then what these facts let out. There is a query among the lines only where the
+-- office is halted.
 pub record Steps (side : Side) (old : LiveState) (lines : List (List ℕ)) (text : List ℕ) (new : LiveState) : Type 0 where
   pub cames : List Came
   pub between : SeatState
+  pub queries : list_any is_query lines ≡ true → has_halted old.seat.notes ≡ true
   pub came : ComeAll side old.seat lines cames between
   pub marked : NotesMarks between new.seat
   pub saved : new.saved ≡ saved_by old.saved (notes_since between new.seat)
@@ -93,58 +103,19 @@ Runs side old (piece ∷ pieces) text new =
 abbrev pub joined : List (List (List ℕ)) → List (List ℕ)
 joined pieces = flat_map (λ piece. piece) pieces
 
--- Steps were made of the first lines that the input had left, each line in one of them and in order, and what was written is their texts.
-pub record RunsTo (side : Side) (old : LiveState) (input left : Option (List ℕ)) (before after : Option (List ℕ)) (reached : LiveState) : Type 0 where
+-- Steps were made of the first lines that were left, each line in one of them and in order, and what was written is their texts.
+pub record RunsTo (side : Side) (old : LiveState) (input left : Option (List (List ℕ))) (before after : Option (List ℕ)) (reached : LiveState) : Type 0 where
   pub pieces : List (List (List ℕ))
   pub text : List ℕ
   pub runs : Runs side old pieces text reached
   pub taken : TakesLines input (joined pieces) left
   pub written : Appends before after text
 
--- of all lines that it had left, and the seat is this one then
-pub record RunsAll (side : Side) (old : LiveState) (input : Option (List ℕ)) (before after : Option (List ℕ)) (seat : SeatState) : Type 0 where
-  pub pieces : List (List (List ℕ))
-  pub text : List ℕ
-  pub saved : ℕ
-  pub taken : ℕ
-  pub runs : Runs side old pieces text (live seat saved taken)
-  pub all : IfSome input (λ bytes. given_lines bytes ≡ joined pieces)
-  pub written : Appends before after text
-
--- of its first lines, and a further step, if any, was not made whole
-pub record RunsSome (side : Side) (old : LiveState) (input : Option (List ℕ)) (before after : Option (List ℕ)) (fault : LiveFault) : Type 0 where
-  pub left : Option (List ℕ)
+-- steps were made of the first lines, and a further one, if any, was not made whole
+pub record RunsSome (side : Side) (old : LiveState) (input : Option (List (List ℕ))) (before after : Option (List ℕ)) (fault : LiveFault) : Type 0 where
+  pub left : Option (List (List ℕ))
   pub between : Option (List ℕ)
   pub reached : LiveState
   pub runs : RunsTo side old input left before between reached
   pub next : List (List ℕ)
   pub leaves : LeavesStep side reached next between after fault
-
--- ---- a whole run
-
--- a run that begins, of an office with one seat whose facts are all saved
-abbrev pub begun : ℕ → LiveState
-begun saved = live (new_seat 16 1) saved 0
-
--- the seat's notes are all calls of a legal life, in order
-abbrev pub IsOneLife : Side → SeatState → Type 0
-IsOneLife side seat = (held : HeldState) × HeldInvariant side held × AreSettled 1 held.trail (seat ∷ [])
-
--- all lines were taken, and what the seat noted of them is one legal life
-abbrev pub RunsWhole : Side → ℕ → Option (List ℕ) → Option (List ℕ) → Option (List ℕ) → Type 0
-RunsWhole side saved input before after = (seat : SeatState) × RunsAll side (begun saved) input before after seat × IsOneLife side seat
-
--- why an office is not taken apart behind its lines
-abbrev pub IsSettlingFault : LiveFault → Type 0
-IsSettlingFault (faults.Unsettled fault) = Unit {0}
-IsSettlingFault faults.OutOfMemory = Unit {0}
-IsSettlingFault _ = ⊥
-
--- all lines were taken, and the office was not taken apart
-abbrev pub IsLeft : Side → ℕ → Option (List ℕ) → Option (List ℕ) → Option (List ℕ) → LiveFault → Type 0
-IsLeft side saved input before after fault = IsSettlingFault fault × ((seat : SeatState) × RunsAll side (begun saved) input before after seat)
-
--- why not: memory ran out before the first line, a step was not made whole, or behind all lines the office was not taken apart
-abbrev pub RunsInPart : Side → ℕ → Option (List ℕ) → Option (List ℕ) → Option (List ℕ) → LiveFault → Type 0
-RunsInPart side saved input before after fault =
-    ((fault ≡ faults.OutOfMemory) × Keeps before after) ⊎ (RunsSome side (begun saved) input before after fault ⊎ IsLeft side saved input before after fault)

@@ -8,11 +8,12 @@ use Rattle.gi_office.specs.declared.note.Note.{Note}
 use Rattle.gi_live.specs.declared.came.Came.{Came}
 use Rattle.gi_live.specs.declared.came.Came.TheVariants.{Unread, Answered}
 use Rattle.gi_live.specs.declared.came.UnreadLine.{UnreadLine}
-use Rattle.gi_live.specs.declared.came.UnreadLine.TheVariants.{Unreadable, TooLarge}
+use Rattle.gi_live.specs.declared.came.UnreadLine.TheVariants.{Unreadable, TooLarge, Halted}
 
 abbrev pub unread_text : UnreadLine → List ℕ
 unread_text Unreadable = codes "Unreadable"
 unread_text TooLarge = codes "TooLarge"
+unread_text Halted = codes "Halted"
 
 -- ---- what is saved
 

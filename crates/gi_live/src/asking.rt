@@ -3,12 +3,13 @@
 ghost use Rattle.std.specs.Prelude.{◌≡◌, ◌<◌, ◌++◌, ◌∷◌, [], ℕ, List, IfErr, IfOk, IfSome, IsOk, None, OnOk, length, true};
 ghost use Rattle.gi_serving.specs.Ending.{place_of};
 ghost use Rattle.gi_serving.specs.Runs.{is_made};
-ghost use Rattle.gi_live.specs.Coming.{ComeAll, IsAskingFault, IsCome, IsMade, IsNamed, named_beside, portfolio_of_call};
+ghost use Rattle.gi_live.specs.Coming.{ComeAll, IsAskingFault, IsCome, IsMade, IsNamed, IsNoCall, named_beside, portfolio_of_call};
 ghost use Rattle.gi_live.specs.Lines.{IsEnded};
 
 use crate::came::{Came, UnreadLine};
 use crate::input::InputLine;
 use crate::live_fault::LiveFault;
+use crate::query::read_query;
 use gi_desk::{Answer, Call, Role};
 use gi_office::{Note, Office, OfficeFault, Receipt, Seat};
 use gi_pairs::Code;
@@ -93,7 +94,7 @@ fn made<R: Role, L: Ledger, W: Wait>(
 }
 
 /// The text of a line that is ended.
-fn text_of(line: &[u8]) -> Option<&[u8]>
+pub(crate) fn text_of(line: &[u8]) -> Option<&[u8]>
     ensures ended { IfSome result (λ text. IsEnded line.now text.now) }
     ensures cut { result ≡ None → (text : List ℕ) → ¬ IsEnded line.now text }
 {
@@ -103,7 +104,18 @@ fn text_of(line: &[u8]) -> Option<&[u8]>
     }
 }
 
-/// Makes the call that a line asks for. `OutOfMemory`, and `SeatFull` where the seat is full.
+/// Why a line is not read that asks for no call.
+fn no_call(text: &[u8]) -> UnreadLine
+    ensures { IsNoCall text.now result }
+{
+    match read_query(text) {
+        Some(_) => UnreadLine::Halted,
+        None => UnreadLine::Unreadable,
+    }
+}
+
+/// Makes the call that a line asks for; a query asks for none, and is one of an office that is halted. `OutOfMemory`, and
+/// `SeatFull` where the seat is full.
 fn ask<R: Role, L: Ledger, W: Wait>(
     rt: &W,
     alloc: Global,
@@ -124,7 +136,7 @@ fn ask<R: Role, L: Ledger, W: Wait>(
     };
     match read_request(alloc, text) {
         Ok(call) => made(rt, alloc, office, seat, call),
-        Err(LineFault::Unreadable) => (seat, Ok(Came::Unread(UnreadLine::Unreadable))),
+        Err(LineFault::Unreadable) => (seat, Ok(Came::Unread(no_call(text)))),
         Err(LineFault::OutOfMemory) => (seat, Err(LiveFault::OutOfMemory)),
     }
 }

@@ -8,6 +8,8 @@ pub enum UnreadLine {
     Unreadable,
     /// It is longer than 16,777,472 bytes, its line feed among them.
     TooLarge,
+    /// It is a query, and the office is halted.
+    Halted,
 }
 
 /// What came of a line.

@@ -1,9 +1,9 @@
 //! The lines of the input.
 
-ghost use Rattle.std.specs.Prelude.{◌≡◌, ◌⊎◌, ◌≤◌, [], IfErr, IfOk, OnOk, length};
+ghost use Rattle.std.specs.Prelude.{◌≡◌, ◌⊎◌, ◌≤◌, [], IfErr, IfOk, None, OnOk, length, true};
 ghost use Rattle.std.specs.Io.Buffered.{reader_remaining};
-ghost use Rattle.std.specs.Io.KnownBytes.{IsAtEnd};
-ghost use Rattle.gi_live.specs.Lines.{TakesLines, TakesNext};
+ghost use Rattle.std.specs.List.{list_any};
+ghost use Rattle.gi_live.specs.Lines.{IsAtEnd, TakesLines, TakesNext, is_query as is_query_of, lines_left};
 
 use crate::live_fault::LiveFault;
 use gi_text::LINE_FEED;
@@ -36,7 +36,7 @@ impl InputLine {
 
 /// The next line; `None` where the input has none left.
 fn next_line<R: BufRead>(alloc: Global, input: &mut R) -> Result<Option<InputLine>, LiveFault>
-    ensures line { IfOk result (λ line. TakesNext (R.remaining input.old) line (R.remaining input.new)) }
+    ensures line { IfOk result (λ line. TakesNext (lines_left None (R.remaining input.old)) line (lines_left None (R.remaining input.new))) }
     ensures fault { IfErr result (λ fault. fault ≡ LiveFault.Read) }
 {
     let mut bytes = Vec::new(alloc);
@@ -44,6 +44,22 @@ fn next_line<R: BufRead>(alloc: Global, input: &mut R) -> Result<Option<InputLin
         Ok(0) => Ok(None),
         Ok(_) => Ok(Some(InputLine { bytes })),
         Err(_) => Err(LiveFault::Read),
+    }
+}
+
+/// The line that is kept back, or else the next one.
+fn kept_or_next<R: BufRead>(
+    alloc: Global,
+    input: &mut R,
+    kept: &mut Option<InputLine>,
+) -> Result<Option<InputLine>, LiveFault>
+    ensures line { IfOk result (λ line. TakesNext (lines_left kept.old (R.remaining input.old)) line (lines_left kept.new (R.remaining input.new))) }
+    ensures none { kept.new ≡ None }
+    ensures fault { IfErr result (λ fault. fault ≡ LiveFault.Read) }
+{
+    match kept.take() {
+        Some(line) => Ok(Some(line)),
+        None => next_line(alloc, input),
     }
 }
 
@@ -59,42 +75,77 @@ const HALT: &[u8] = b"halt";
 /// What asks for a resending, of which what is not saved is no part.
 const RESEND: &[u8] = b"resend";
 
-/// Whether a whole line is there that may be answered together with those before it.
-fn has_more(buffered: &[u8]) -> bool {
-    memchr(LINE_FEED, buffered).is_some()
-        && !buffered.starts_with(HALT)
-        && !buffered.starts_with(RESEND)
+/// Whether a line begins with the word of a query.
+pub(crate) fn is_query(line: &[u8]) -> bool
+    ensures { result ≡ is_query_of line.now }
+{
+    line.starts_with(b"outgoing")
+        || line.starts_with(b"facts")
+        || line.starts_with(b"report")
+        || line.starts_with(b"explain")
+}
+
+/// Whether one of the lines is a query.
+pub(crate) fn has_query(lines: &[InputLine]) -> bool
+    ensures { result ≡ list_any is_query_of lines.now }
+{
+    for line in lines {
+        if is_query(line.as_slice()) {
+            return true;
+        }
+    }
+    false
+}
+
+/// Whether a line is taken together with none before it.
+fn begins(line: &[u8]) -> bool
+    ensures { is_query_of line.now ≡ true → result ≡ true }
+{
+    line.starts_with(HALT) || line.starts_with(RESEND) || is_query(line)
+}
+
+/// Whether a line is taken together with none behind it.
+fn ends(line: &[u8]) -> bool
+    ensures { is_query_of line.now ≡ true → result ≡ true }
+{
+    line.starts_with(HALT) || is_query(line)
 }
 
 /// Takes the next line, and the lines behind it which the input holds already, so that no answer waits for a line that may
-/// never come: 64 at most, and none behind 1,048,576 bytes. A halt is taken by itself, and a resending together with none
-/// before it. There is none where the input has none left. `Read` where the reader fails, and `OutOfMemory`.
+/// never come: 64 at most, and none behind 1,048,576 bytes. A halt and a query are taken by themselves, and a resending
+/// together with none before it: such a line is kept back. There is none where the input has none left. `Read` where
+/// the reader fails, and `OutOfMemory`.
 #[tactic(auto, using(crate::proofs::LineLemmas::takes_both))]
 pub fn next_lines<I: Read>(
     alloc: Global,
     input: &mut BufReader<I>,
+    kept: &mut Option<InputLine>,
     lines: &mut Vec<InputLine>,
 ) -> Result<(), LiveFault>
     requires none { lines.old.items ≡ [] }
-    ensures taken { OnOk result (TakesLines (reader_remaining I.remaining input.old) lines.new.items (reader_remaining I.remaining input.new)) }
+    ensures taken { OnOk result (TakesLines (lines_left kept.old (reader_remaining I.remaining input.old)) lines.new.items (lines_left kept.new (reader_remaining I.remaining input.new))) }
     ensures few { OnOk result (length lines.new.items ≤ 64) }
+    ensures alone { OnOk result (list_any is_query_of lines.new.items ≡ true → length lines.new.items ≡ 1) }
     ensures fault { IfErr result (λ fault. (fault ≡ LiveFault.Read) ⊎ (fault ≡ LiveFault.OutOfMemory)) }
-    ensures end { OnOk result (lines.new.items ≡ [] → IsAtEnd (reader_remaining I.remaining input.old)) }
+    ensures end { OnOk result (lines.new.items ≡ [] → IsAtEnd (lines_left kept.old (reader_remaining I.remaining input.old))) }
 {
     let mut bytes = 0;
     for _ in 0..MOST_LINES {
-        let Some(line) = next_line(alloc, input)? else {
+        let Some(line) = kept_or_next(alloc, input, kept)? else {
             return Ok(());
         };
-        let is_last = line.as_slice().starts_with(HALT)
-            || line.as_slice().len() >= MOST_BYTES - bytes;
+        if begins(line.as_slice()) && !lines.is_empty() {
+            *kept = Some(line);
+            return Ok(());
+        }
+        let is_last = ends(line.as_slice()) || line.as_slice().len() >= MOST_BYTES - bytes;
         if !is_last {
             bytes += line.as_slice().len();
         }
         if lines.push(line).is_err() {
             return Err(LiveFault::OutOfMemory);
         }
-        if is_last || !has_more(input.buffer()) {
+        if is_last || memchr(LINE_FEED, input.buffer()).is_none() {
             return Ok(());
         }
     }

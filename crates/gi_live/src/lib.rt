@@ -13,19 +13,29 @@
 //! number is no higher than that of the last mark which the seat has noted, and a packet is let out by such a mark, or by a
 //! reply that repeats what is saved. One line that comes alone is answered at once, and waits for no other.
 //!
-//! Begin with [`serve_lines`], which opens the office and settles it, and then [`run`]. [`LiveFault`] is why a run came to an end. What is written of a reply and of a packet is
-//! told by [`answer_line`], [`refused_line`] and [`packet_line`].
+//! An office keeps each call until it is settled. So a run is a list of stretches: behind 100,000 calls, and at each query, the
+//! office is settled and the next one opened over its desk, all of whose facts are saved. A query is answered of that desk.
+//!
+//! ```text
+//!   desk ── office ── steps ── settled ── desk ── query ── desk ── office ── steps ── settled ── desk ..
+//! ```
+//!
+//! Begin with [`serve_lines`]. [`LiveFault`] is why a run came to an end. What is written of a reply and of a packet is told by
+//! [`answer_line`], [`refused_line`] and [`packet_line`].
 #![tactic(auto)]
 
 mod answer;
+mod answering;
 mod asking;
 mod came;
 mod input;
 mod live_fault;
 mod living;
 mod packet;
+mod query;
 mod running;
 mod telling;
+mod writing;
 
 pub use answer::{answer_line, refused_line};
 pub use asking::MOST_LINE;
@@ -34,4 +44,3 @@ pub use input::{InputLine, MOST_LINES};
 pub use live_fault::LiveFault;
 pub use living::serve_lines;
 pub use packet::packet_line;
-pub use running::run;

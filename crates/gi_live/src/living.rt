@@ -1,12 +1,15 @@
-//! A whole run: an office opened over a desk, run over its lines, and settled.
+//! A whole run: stretches of an office over a desk, each of which is settled, and queries between them.
 
-ghost use Rattle.std.specs.Prelude.{◌≡◌, IfErr, IfOk, OnOk, false, length};
+ghost use Rattle.std.specs.Prelude.{◌≡◌, ◌≤◌, ◌<◌, ◌+◌, ◌^◌, IfErr, IfOk, None, OnOk, false, length, true};
 ghost use Rattle.std.specs.Io.Buffered.{reader_remaining};
 ghost use Rattle.gi_office.specs.Opening.{new_seat};
-ghost use Rattle.gi_live.specs.Running.{IsOneLife, IsSettlingFault, RunsInPart, RunsWhole};
+ghost use Rattle.gi_live.specs.Lines.{lines_left};
+ghost use Rattle.gi_live.specs.Stretches.{EndsAt, EndsLife, GoesFurther, GoesSome, GoesTo, IsPaused, IsSettlingFault, LeavesBetween, RunsInPart, RunsWhole, StretchesUntil, pause};
 
+use crate::answering::{answer_query, tell_end};
+use crate::input::InputLine;
 use crate::live_fault::LiveFault;
-use crate::running::run;
+use crate::running::{End, run};
 use gi_desk::{Desk, Role};
 use gi_office::{Office, Seat};
 use gi_serving::Turns;
@@ -15,6 +18,9 @@ use std::io::{BufReader, Read, Write};
 use std::marker::Brand;
 use std::sync::Wait;
 use std::sync::ledger::{Blank, Ledger};
+
+/// How many stretches a run has at most.
+const MOST_STRETCHES: u64 = 1 << 30;
 
 /// The office and its one seat.
 fn opened<R: Role, L: Ledger>(
@@ -41,14 +47,14 @@ fn opened<R: Role, L: Ledger>(
     }
 }
 
-/// Takes the office apart: what the seat noted is one legal life.
+/// Takes the office apart: what the seat noted is one legal life, of which the desk that comes back is the end.
 fn settled<R: Role, L: Ledger>(
     alloc: Global,
     office: Office<R, L>,
     seat: Seat<L>,
-) -> Result<(), LiveFault>
+) -> Result<Desk<R>, LiveFault>
     requires { office.seats ≡ 1 }
-    ensures life { OnOk result (IsOneLife R.SIDE seat) }
+    ensures life { IfOk result (EndsLife R.SIDE seat) }
     ensures fault { IfErr result IsSettlingFault }
 {
     let Ok(seats) = vec![in alloc; seat] else {
@@ -56,54 +62,182 @@ fn settled<R: Role, L: Ledger>(
         return Err(LiveFault::OutOfMemory);
     };
     match office.settle(seats) {
-        Ok(settled) => {
-            drop(settled);
-            Ok(())
-        }
+        Ok(settled) => Ok(settled.into_desk()),
         Err(fault) => Err(LiveFault::Unsettled(fault)),
     }
 }
 
-fn run_by<R: Role, L: Ledger, B: Turns + Drop, T: Wait, I: Read, O: Write>(
+/// A stretch: an office is opened over the desk, runs over the lines behind so many, and is settled. The desk comes back, and
+/// how many lines are answered, and why it ended.
+fn stretch<R: Role, L: Ledger, B: Turns, T: Wait, I: Read, O: Write>(
     rt: &T,
     alloc: Global,
     blank: Blank,
     desk: Desk<R>,
-    book: B,
+    book: &mut B,
+    before: u64,
     input: &mut BufReader<I>,
+    kept: &mut Option<InputLine>,
     output: &mut O,
-) -> Result<(), LiveFault>
+) -> Result<(Desk<R>, u64, End), LiveFault>
     requires name { blank.name ≡ L.name }
     requires whole { blank.parts ≡ L.parts }
     requires parts { blank.parts ≡ 16 }
-    requires saved { desk.saved ≡ length desk.facts }
-    requires runs { desk.halted ≡ false }
-    ensures whole { OnOk result (RunsWhole R.SIDE desk.saved (reader_remaining I.remaining input.old) (O.contents output.old) (O.contents output.new)) }
-    ensures part { IfErr result (RunsInPart R.SIDE desk.saved (reader_remaining I.remaining input.old) (O.contents output.old) (O.contents output.new)) }
+    requires paused { IsPaused desk }
+    requires room { before < 2 ^ 62 }
+    ensures until { IfOk result (λ it. StretchesUntil R.SIDE (pause desk before) (lines_left kept.old (reader_remaining I.remaining input.old)) (lines_left kept.new (reader_remaining I.remaining input.new)) (O.contents output.old) (O.contents output.new) it.0 it.1 it.2) }
+    ensures few { IfOk result (λ it. it.1 ≤ before + 2 ^ 30) }
+    ensures some { IfErr result (GoesSome R.SIDE (pause desk before) (lines_left kept.old (reader_remaining I.remaining input.old)) (O.contents output.old) (O.contents output.new)) }
 {
     let saved = desk.saved();
     let (office, seat) = match opened::<R, L>(alloc, blank, desk) {
         Ok(opened) => opened,
+        Err(fault) => return Err(fault),
+    };
+    let (seat, taken, end) = run(
+        rt, alloc, &office, book, seat, saved, before, input, kept, output,
+    );
+    let end = match end {
+        Ok(end) => end,
         Err(fault) => {
-            drop(book);
+            drop((office, seat));
             return Err(fault);
         }
     };
-    let mut book = book;
-    let (seat, end) = run(rt, alloc, &office, &mut book, seat, saved, input, output);
-    drop(book);
-    match end {
-        Ok(()) => settled(alloc, office, seat),
+    match settled(alloc, office, seat) {
+        Ok(desk) => Ok((desk, taken, end)),
         Err(fault) => {
-            drop((office, seat));
+            drop(end);
             Err(fault)
         }
     }
 }
 
+/// The desk, over which a further office can be opened. `Unsaved` where a fact is not saved, or it is halted.
+fn resumed<R: Role>(desk: Desk<R>) -> Result<Desk<R>, LiveFault>
+    ensures desk { IfOk result (λ same. (same ≡ desk) × IsPaused desk) }
+    ensures fault { IfErr result (λ fault. (fault ≡ LiveFault.Unsaved) × ¬ (IsPaused desk)) }
+{
+    if desk.saved() == desk.len() && !desk.halted() {
+        Ok(desk)
+    } else {
+        drop(desk);
+        Err(LiveFault::Unsaved)
+    }
+}
+
+/// What is made between a stretch and the next one, by why it ended: a query is answered.
+fn between<R: Role, O: Write>(
+    alloc: Global,
+    desk: Desk<R>,
+    taken: u64,
+    end: End,
+    output: &mut O,
+) -> Result<(Desk<R>, u64, bool), LiveFault>
+    requires room { taken < 2 ^ 63 }
+    ensures further { IfOk result (λ it. GoesFurther R.SIDE (pause desk taken) end (O.contents output.old) (O.contents output.new) it.0 it.1 it.2) }
+    ensures leaves { IfErr result (LeavesBetween desk (O.contents output.old) (O.contents output.new)) }
+{
+    let line = match end {
+        End::Input => return Ok((desk, taken, true)),
+        End::Full => return Ok((resumed(desk)?, taken, false)),
+        End::Asked(line) => line,
+    };
+    let desk = match resumed(desk) {
+        Ok(desk) => desk,
+        Err(fault) => {
+            drop(line);
+            return Err(fault);
+        }
+    };
+    let answered = answer_query(alloc, &desk, taken + 1, &line, output);
+    drop(line);
+    match answered {
+        Ok(()) => Ok((desk, taken + 1, false)),
+        Err(fault) => {
+            drop(desk);
+            Err(fault)
+        }
+    }
+}
+
+/// A stretch, and the query behind it. The desk comes back, and how many lines are answered, and whether the input has none left.
+fn part<R: Role, B: Turns, T: Wait, I: Read, O: Write>(
+    rt: &T,
+    alloc: Global,
+    desk: Desk<R>,
+    book: &mut B,
+    before: u64,
+    input: &mut BufReader<I>,
+    kept: &mut Option<InputLine>,
+    output: &mut O,
+) -> Result<(Desk<R>, u64, bool), LiveFault>
+    requires paused { IsPaused desk }
+    requires room { before < 2 ^ 62 }
+    ensures goes { IfOk result (λ it. GoesTo R.SIDE (pause desk before) (lines_left kept.old (reader_remaining I.remaining input.old)) (lines_left kept.new (reader_remaining I.remaining input.new)) (O.contents output.old) (O.contents output.new) (pause it.0 it.1)) }
+    ensures paused { IfOk result (λ it. it.2 ≡ false → IsPaused it.0) }
+    ensures end { IfOk result (λ it. it.2 ≡ true → EndsAt (lines_left kept.old (reader_remaining I.remaining input.old)) (lines_left kept.new (reader_remaining I.remaining input.new))) }
+    ensures few { IfOk result (λ it. it.1 ≤ before + 2 ^ 31) }
+    ensures some { IfErr result (GoesSome R.SIDE (pause desk before) (lines_left kept.old (reader_remaining I.remaining input.old)) (O.contents output.old) (O.contents output.new)) }
+{
+    let (desk, taken, end) = match stretch::<R, Brand, B, T, I, O>(
+        rt,
+        alloc,
+        Blank::new(16),
+        desk,
+        book,
+        before,
+        input,
+        kept,
+        output,
+    ) {
+        Ok(stretch) => stretch,
+        Err(fault) => return Err(fault),
+    };
+    between(alloc, desk, taken, end, output)
+}
+
+fn run_parts<R: Role, B: Turns, T: Wait, I: Read, O: Write>(
+    rt: &T,
+    alloc: Global,
+    desk: Desk<R>,
+    book: &mut B,
+    input: &mut BufReader<I>,
+    output: &mut O,
+) -> Result<(), LiveFault>
+    requires paused { IsPaused desk }
+    ensures whole { OnOk result (RunsWhole R.SIDE desk (reader_remaining I.remaining input.old) (O.contents output.old) (O.contents output.new)) }
+    ensures part { IfErr result (RunsInPart R.SIDE desk (lines_left None (reader_remaining I.remaining input.old)) (O.contents output.old) (O.contents output.new)) }
+{
+    let mut desk = desk;
+    let mut taken = 0;
+    let mut kept = None;
+    for _ in 0..MOST_STRETCHES {
+        let (back, now, is_over) = match part(
+            rt, alloc, desk, book, taken, input, &mut kept, output,
+        ) {
+            Ok(part) => part,
+            Err(fault) => {
+                drop(kept);
+                return Err(fault);
+            }
+        };
+        desk = back;
+        taken = now;
+        if is_over {
+            let end = tell_end(alloc, &desk, output);
+            drop((desk, kept));
+            return end;
+        }
+    }
+    drop((desk, kept));
+    Err(LiveFault::Read)
+}
+
 /// Runs one operator's office over its desk, which is not halted and whose facts are all saved, and its book, which is loaded
-/// and has these facts, as [`run`] does, and then settles it: what was written is that of one legal life. `OutOfMemory` before
-/// the first line, the faults of [`run`], and then `Unsettled`, or `OutOfMemory` again.
+/// and has these facts, as long as the input has lines: the calls in stretches, each of which is settled, so that what was
+/// written of it is that of one legal life, and the queries between them. At the end a line tells what the desk has. The
+/// fault is the first: what was written before it is whole.
 pub fn serve_lines<R: Role, B: Turns + Drop, T: Wait, I: Read, O: Write>(
     rt: &T,
     alloc: Global,
@@ -115,8 +249,11 @@ pub fn serve_lines<R: Role, B: Turns + Drop, T: Wait, I: Read, O: Write>(
     requires saved { desk.saved ≡ length desk.facts }
     requires runs { desk.halted ≡ false }
     requires book { B.holds book desk.facts }
-    ensures whole { OnOk result (RunsWhole R.SIDE desk.saved (reader_remaining I.remaining input.old) (O.contents output.old) (O.contents output.new)) }
-    ensures part { IfErr result (RunsInPart R.SIDE desk.saved (reader_remaining I.remaining input.old) (O.contents output.old) (O.contents output.new)) }
+    ensures whole { OnOk result (RunsWhole R.SIDE desk (reader_remaining I.remaining input.old) (O.contents output.old) (O.contents output.new)) }
+    ensures part { IfErr result (RunsInPart R.SIDE desk (lines_left None (reader_remaining I.remaining input.old)) (O.contents output.old) (O.contents output.new)) }
 {
-    run_by::<R, Brand, B, T, I, O>(rt, alloc, Blank::new(16), desk, book, input, output)
+    let mut book = book;
+    let end = run_parts(rt, alloc, desk, &mut book, input, output);
+    drop(book);
+    end
 }

@@ -1,20 +1,23 @@
 //! An office that runs: the lines that come, in steps, and what is written of each.
 
-ghost use Rattle.std.specs.Prelude.{◌≡◌, ◌⊎◌, ◌+◌, ◌<◌, ◌^◌, IfErr, OnOk, drop, length, true};
-ghost use Rattle.std.specs.List.{list_all};
+ghost use Rattle.std.specs.Prelude.{◌≡◌, ◌⊎◌, ◌+◌, ◌<◌, ◌≤◌, ◌^◌, IfErr, IfOk, OnOk, drop, length, true};
+ghost use Rattle.std.specs.List.{list_all, list_any};
 ghost use Rattle.std.specs.Io.Buffered.{reader_remaining};
 ghost use Rattle.std.specs.Io.KnownBytes.{Appends};
 ghost use Rattle.gi_serving.specs.Asking.{NotesMarks};
 ghost use Rattle.gi_serving.specs.Ending.{place_of};
-ghost use Rattle.gi_live.specs.Running.{LeavesStep, LeavesTold, RunsAll, RunsSome, WritesStep, first_fault as first_fault_of, live, notes_since};
+ghost use Rattle.gi_live.specs.Lines.{is_query, lines_left};
+ghost use Rattle.gi_live.specs.Running.{LeavesStep, LeavesTold, RunsSome, WritesStep, first_fault as first_fault_of, has_halted as has_halted_in, is_stopped as is_stopped_by, live, notes_since};
+ghost use Rattle.gi_live.specs.Stretches.{IsAsked, RunsUntil};
 ghost use Rattle.gi_live.specs.Telling.{may_tell_of, saved_by as saved_by_of, step_text as step_text_of};
 
 use crate::asking::ask_all;
 use crate::came::Came;
-use crate::input::{InputLine, next_lines};
+use crate::input::{InputLine, has_query, next_lines};
 use crate::live_fault::LiveFault;
 use crate::telling::{may_tell_all, saved_by, step_text};
-use gi_desk::Role;
+use crate::writing::write;
+use gi_desk::{Answer, Role};
 use gi_office::{Note, Office, SaveFault, Seat};
 use gi_serving::{Turns, saved_all};
 use std::alloc::Global;
@@ -22,22 +25,11 @@ use std::io::{BufReader, Read, Write};
 use std::sync::Wait;
 use std::sync::ledger::Ledger;
 
-/// How many steps a run makes at most.
-const MOST_STEPS: u64 = 1 << 56;
+/// How many steps a stretch has at most.
+const MOST_STEPS: u64 = 1 << 24;
 
-fn write<O: Write>(output: &mut O, text: &[u8]) -> Result<(), LiveFault>
-    ensures written { OnOk result (Appends (O.contents output.old) (O.contents output.new) text.now) }
-    ensures fault { IfErr result (λ fault. fault ≡ LiveFault.Write) }
-{
-    match output.write_all(text) {
-        Ok(()) => {}
-        Err(_) => return Err(LiveFault::Write),
-    }
-    match output.flush() {
-        Ok(()) => Ok(()),
-        Err(_) => Err(LiveFault::Write),
-    }
-}
+/// Behind so many notes of its seat a stretch ends, so that what an office keeps of its calls is bounded.
+const MOST_NOTED: usize = 100_000;
 
 /// The notes behind the first so many.
 fn notes_behind(notes: &[Note], noted: usize) -> &[Note]
@@ -127,7 +119,8 @@ fn step<R: Role, L: Ledger, B: Turns, W: Wait, O: Write>(
     lines: &[InputLine],
     output: &mut O,
 ) -> (Seat<L>, u32, Result<(), LiveFault>)
-    requires { before + length lines.now + 1 < 2 ^ 64 }
+    requires room { before + length lines.now + 1 < 2 ^ 64 }
+    requires queries { list_any is_query lines.now ≡ true → has_halted_in seat.notes ≡ true }
     ensures place { place_of result.0 ≡ place_of seat }
     ensures steps { OnOk result.2 (WritesStep R.SIDE (live seat saved before) lines.now (O.contents output.old) (O.contents output.new) (live result.0 result.1 (before + length lines.now))) }
     ensures leaves { IfErr result.2 (LeavesStep R.SIDE (live seat saved before) lines.now (O.contents output.old) (O.contents output.new)) }
@@ -149,35 +142,86 @@ fn step<R: Role, L: Ledger, B: Turns, W: Wait, O: Write>(
     }
 }
 
-/// Runs the office as long as the input has lines, from a seat of it, with its book, where so many facts are saved. Each line is
+fn is_stopped(answer: Answer) -> bool
+    ensures { result ≡ is_stopped_by answer }
+{
+    match answer {
+        Answer::Stopped => true,
+        _ => false,
+    }
+}
+
+/// Whether a halt was noted.
+fn has_halted(notes: &[Note]) -> bool
+    ensures { result ≡ has_halted_in notes.now }
+{
+    for note in notes {
+        if is_stopped(note.reply.answer) {
+            return true;
+        }
+    }
+    false
+}
+
+/// Why a stretch ends.
+#[derive(Drop)]
+pub(crate) enum End {
+    /// The input has no further line.
+    Input,
+    /// The office keeps as much of its calls as it may.
+    Full,
+    /// This line, which is taken, is a query.
+    Asked(InputLine),
+}
+
+fn asked(lines: Vec<InputLine>) -> End
+    requires { length lines.items ≡ 1 }
+    ensures { IsAsked lines.items result }
+{
+    let mut lines = lines;
+    match lines.pop() {
+        Some(line) => End::Asked(line),
+        None => unreachable!(),
+    }
+}
+
+/// Runs the office over the lines behind so many, from a seat of it, with its book, where so many facts are saved. Each line is
 /// answered once, in order: it asks for a call, which is made, and what came of it is written once what it recorded is saved. The
-/// lines that have come are taken together, 64 at most, and saved together. At the end of the input all is written. Else the
-/// fault is the first: what was written before it is whole. The seat comes back.
-pub fn run<R: Role, L: Ledger, B: Turns, W: Wait, I: Read, O: Write>(
+/// lines that have come are taken together, 64 at most, and saved together. A stretch ends at the end of the input, at a
+/// query, unless the office is halted, and behind 100,000 notes. Else the fault is the first: what was written before it is
+/// whole. The seat comes back, and how many lines are answered.
+pub(crate) fn run<R: Role, L: Ledger, B: Turns, W: Wait, I: Read, O: Write>(
     rt: &W,
     alloc: Global,
     office: &Office<R, L>,
     book: &mut B,
     seat: Seat<L>,
     saved: u32,
+    before: u64,
     input: &mut BufReader<I>,
+    kept: &mut Option<InputLine>,
     output: &mut O,
-) -> (Seat<L>, Result<(), LiveFault>)
+) -> (Seat<L>, u64, Result<End, LiveFault>)
+    requires room { before < 2 ^ 62 }
     ensures place { place_of result.0 ≡ place_of seat }
-    ensures whole { OnOk result.1 (RunsAll R.SIDE (live seat saved 0) (reader_remaining I.remaining input.old) (O.contents output.old) (O.contents output.new) result.0) }
-    ensures some { IfErr result.1 (RunsSome R.SIDE (live seat saved 0) (reader_remaining I.remaining input.old) (O.contents output.old) (O.contents output.new)) }
+    ensures few { result.1 ≤ before + 2 ^ 30 }
+    ensures until { IfOk result.2 (RunsUntil R.SIDE (live seat saved before) (lines_left kept.old (reader_remaining I.remaining input.old)) (lines_left kept.new (reader_remaining I.remaining input.new)) (O.contents output.old) (O.contents output.new) result.0 result.1) }
+    ensures some { IfErr result.2 (RunsSome R.SIDE (live seat saved before) (lines_left kept.old (reader_remaining I.remaining input.old)) (O.contents output.old) (O.contents output.new)) }
 {
     let mut seat = seat;
     let mut saved = saved;
-    let mut taken = 0;
+    let mut taken = before;
     for _ in 0..MOST_STEPS {
         let mut lines = Vec::new(alloc);
-        if let Err(fault) = next_lines(alloc, input, &mut lines) {
+        if let Err(fault) = next_lines(alloc, input, kept, &mut lines) {
             drop(lines);
-            return (seat, Err(fault));
+            return (seat, taken, Err(fault));
         }
         if lines.is_empty() {
-            return (seat, Ok(()));
+            return (seat, taken, Ok(End::Input));
+        }
+        if has_query(&lines) && !has_halted(seat.notes()) {
+            return (seat, taken, Ok(asked(lines)));
         }
         let (back, now, end) = step(rt, alloc, office, book, seat, saved, taken, &lines, output);
         seat = back;
@@ -185,8 +229,11 @@ pub fn run<R: Role, L: Ledger, B: Turns, W: Wait, I: Read, O: Write>(
         taken += lines.len() as u64;
         drop(lines);
         if let Err(fault) = end {
-            return (seat, Err(fault));
+            return (seat, taken, Err(fault));
+        }
+        if seat.notes().len() >= MOST_NOTED && !has_halted(seat.notes()) {
+            return (seat, taken, Ok(End::Full));
         }
     }
-    (seat, Err(LiveFault::Read))
+    (seat, taken, Ok(End::Full))
 }

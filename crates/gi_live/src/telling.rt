@@ -76,10 +76,11 @@ fn reason(line: UnreadLine) -> &'static str
     match line {
         UnreadLine::Unreadable => "Unreadable",
         UnreadLine::TooLarge => "TooLarge",
+        UnreadLine::Halted => "Halted",
     }
 }
 
-fn add_packets(
+pub(crate) fn add_packets(
     alloc: Global,
     text: &mut Vec<u8>,
     fact: Option<u32>,

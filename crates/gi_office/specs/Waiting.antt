@@ -1,8 +1,7 @@
 -- What becomes of the fact of a receipt.
-use Rattle.std.specs.Prelude.{◌≡◌, ℕ, List, Option, None, Some, if◌then◌else◌}
+use Rattle.std.specs.Prelude.{◌≡◌, ℕ, Option, None, Some, if◌then◌else◌}
 use Rattle.gi_pairs.specs.declared.side.Side.{Side}
-use Rattle.gi_desk.specs.Machine.{DeskState, saved_out}
-use Rattle.gi_desk.specs.declared.packet.Packet.{Packet}
+use Rattle.gi_desk.specs.Machine.{DeskState}
 use Rattle.gi_desk.specs.Queries.{acknowledged}
 use Rattle.gi_desk.specs.declared.reply.Answer.{Answer}
 use Rattle.gi_desk.specs.declared.reply.Answer.TheVariants as answers
@@ -26,7 +25,3 @@ waited_for s n = if acknowledged s n then Some Saved else (if s.halted then Some
 -- What a lock gave is not told, but that it was an office like any other, in which that had become of the fact of this number.
 abbrev pub IsWaited : Side → ℕ → Waited → Type 0
 IsWaited side n result = (held : HeldState) × HeldInvariant side held × (waited_for held.desk n ≡ Some result)
-
--- Of a lock the same: the fact of this number, where it is saved there, let out these.
-abbrev pub IsOutOf : Side → ℕ → List Packet → Type 0
-IsOutOf side n packets = (held : HeldState) × HeldInvariant side held × (packets ≡ saved_out side held.desk n)

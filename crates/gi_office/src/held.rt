@@ -1,5 +1,5 @@
 ghost use Rattle.std.specs.Prelude.{◌≡◌, ◌≢◌, IfSome, ◌<◌, ◌≤◌, ◌↔◌, ◌+◌, [], ◌∷◌, ◌++◌, Err, IfErr, IfOk, OnErr, OnOk, false, length, vec_capacity, vec_len};
-ghost use Rattle.gi_desk.specs.Machine.{after, prepared as prepared_of, reply as reply_of, saved_out as saved_out_of};
+ghost use Rattle.gi_desk.specs.Machine.{after, prepared as prepared_of, reply as reply_of};
 ghost use Rattle.gi_office.specs.Entering.{entered, noted, receipt_of};
 ghost use Rattle.gi_office.specs.Keeping.{IsFull, HeldInvariant};
 ghost use Rattle.gi_office.specs.Limits.{most_seats};
@@ -22,7 +22,7 @@ use crate::settled::Settled;
 use crate::settling::{first_fault, merge};
 use crate::unsettled::Unsettled;
 use crate::waited::Waited;
-use gi_desk::{Call, Desk, Packet, Prepared, Reply, Role, only_appends};
+use gi_desk::{Call, Desk, Prepared, Reply, Role, only_appends};
 use std::alloc::{AllocError, Global};
 use std::marker::Model;
 use std::sync::ledger::{Blank, Book, Ledger};
@@ -312,14 +312,6 @@ impl<R: Role, L: Ledger> Held<R, L> {
             n: self.desk.saved() + 1,
             facts: Facts::from(facts),
         })
-    }
-
-    /// What fact number `n`, from 1, let out once it was saved; nothing where it is not saved.
-    pub fn saved_out(&self, n: u32) -> Result<Vec<Packet>, AllocError>
-        requires { 1 ≤ n }
-        ensures { IfOk result (λ packets. packets.items ≡ saved_out_of R.SIDE self.now.desk n) }
-    {
-        self.desk.saved_out(n)
     }
 
     /// What became of fact number `n`; nothing while it may still be saved.

@@ -3,7 +3,7 @@ ghost use Rattle.gi_office.specs.Entering.{IsAnswered};
 ghost use Rattle.gi_office.specs.Limits.{most_seats};
 ghost use Rattle.gi_office.specs.Opening.{new_seats};
 ghost use Rattle.gi_office.specs.Settling.{SettlesKept};
-ghost use Rattle.gi_office.specs.Waiting.{IsOutOf, IsWaited, number_in};
+ghost use Rattle.gi_office.specs.Waiting.{IsWaited, number_in};
 ghost use Rattle.gi_desk.specs.declared.call.Call.TheVariants as calls;
 
 mod saving;
@@ -17,10 +17,10 @@ use crate::seat::Seat;
 use crate::settled::Settled;
 use crate::unsettled::Unsettled;
 use crate::waited::Waited;
-use gi_desk::{Answer, Body, Call, Desk, Packet, Role};
+use gi_desk::{Answer, Body, Call, Desk, Role};
 use gi_pairs::CycleId;
 use gi_processing::{Contract, Notice, Rule};
-use std::alloc::{AllocError, Global};
+use std::alloc::Global;
 use std::marker::Model;
 use std::sync::ledger::{Blank, Ledger};
 use std::sync::{Condvar, Mutex, Wait};
@@ -71,15 +71,6 @@ fn became_of<R: Role, L: Ledger>(held: &Held<R, L>, n: u32) -> Option<Waited>
 {
     held.reveal_invariant();
     held.waited(n)
-}
-
-/// As in `asked`.
-fn out_of<R: Role, L: Ledger>(held: &Held<R, L>, n: u32) -> Result<Vec<Packet>, AllocError>
-    requires { 1 ≤ n }
-    ensures { IfOk result (λ packets. IsOutOf R.SIDE n packets.items) }
-{
-    held.reveal_invariant();
-    held.saved_out(n)
 }
 
 impl<R: Role, L: Ledger> Office<R, L> {
@@ -256,15 +247,6 @@ impl<R: Role, L: Ledger> Office<R, L> {
             Some(n) => self.wait_for(rt, n),
             None => Waited::NoFact,
         }
-    }
-
-    /// What fact number `n`, from 1, let out once it was saved, as its mark did; nothing where it is not saved. No call is made
-    /// and nothing noted.
-    pub fn saved_out<W: Wait>(&self, rt: &W, n: u32) -> Result<Vec<Packet>, AllocError>
-        requires { 1 ≤ n }
-        ensures { IfOk result (λ packets. IsOutOf R.SIDE n packets.items) }
-    {
-        out_of(&*self.held.lock(rt), n)
     }
 
     /// Takes the office apart, as `Held::settle` says of what the lock kept.

@@ -44,6 +44,23 @@ impl<R: Role> Settled<R> {
         &self.desk
     }
 
+    /// The desk by itself; its lives are given up.
+    pub fn into_desk(self) -> Desk<R>
+        ensures desk { result ≡ self.desk }
+        ensures legal { AreLegal R.SIDE self.lives self.desk }
+    {
+        let Settled {
+            earlier,
+            before: _,
+            opening: _,
+            trail,
+            desk,
+        } = self;
+        // (handed to drop, by one call: going out of scope here would be checked field by field)
+        drop((earlier, trail));
+        desk
+    }
+
     /// How many entries its lives have, all together.
     pub fn len(&self) -> u64
         ensures { result ≡ length (entries_of self.now.lives) }

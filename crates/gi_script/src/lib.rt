@@ -25,3 +25,4 @@ pub use line::Line;
 pub use reading::{read_office_script, read_script};
 pub use request::read_request;
 pub use script::Script;
+pub use words::Words;

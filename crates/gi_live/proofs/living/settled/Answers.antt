@@ -7,5 +7,5 @@ pub returns-in-Ok-settle-clause-life : goal.returns-in-Ok-settle-clause-life
 returns-in-Ok-settle-clause-life g c =
     let end = c.settle.ensures in
     let handed = c.in-Ok.seats.items in
-    one_life g.R.Role.SIDE end.held c.args.office.seats handed c.args.seat c.in-Ok-settle.settled end.kept
-    (subst (λ result. Settles c.args.office.seats end.held handed result) c.in-Ok-settle.is end.settles) c.requires c.in-Ok.ensures.items
+    one_life g.R.Role.SIDE end.held c.args.office.seats handed c.args.seat c.in-Ok-settle.settled c.into_desk.result end.kept
+    (subst (λ result. Settles c.args.office.seats end.held handed result) c.in-Ok-settle.is end.settles) c.requires c.in-Ok.ensures.items c.into_desk.ensures.desk

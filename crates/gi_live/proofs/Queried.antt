@@ -1,0 +1,33 @@
+-- What the words of a query ask, by the first one, and what a line asks that is ended.
+use Rattle.std.proofs.Common.{◌≡◌, ℕ, List, refl, subst, sym, ◌∙◌, Option, Some, None}
+use Rattle.gi_explanations.specs.declared.question.Question.{Question}
+use Rattle.gi_script.specs.Reading.{Finds}
+use Rattle.gi_live.specs.Answering.{AsksGiven}
+use Rattle.gi_live.specs.Lines.{IsEnded}
+use Rattle.gi_live.specs.Queries.{AsksQuery, SaysKind, SaysQuantity, SaysQuery, SaysStart}
+use Rattle.gi_live.specs.declared.query.Query.{Query}
+use Rattle.gi_live.specs.declared.query.Query.TheVariants as queries
+use Rattle.gi_live.specs.declared.query.QueryWord.{QueryWord}
+use Rattle.gi_live.specs.declared.query.QueryWord.TheVariants as query_words
+use Rattle.gi_live.proofs.Requests.{end_is}
+
+pub no_start : (word : QueryWord) (words : List (List ℕ)) (found : Option Query) → word ≡ query_words.Outgoing → found ≡ None → Finds (SaysStart words) None
+    → Finds (SaysQuery word words) found
+no_start word words found is none start = rw (is, none) (λ query says. start says.0 says.2)
+
+pub no_kind : (word : QueryWord) (words : List (List ℕ)) (found : Option Query) → word ≡ query_words.Report → found ≡ None → Finds (SaysKind words) None
+    → Finds (SaysQuery word words) found
+no_kind word words found is none kind = rw (is, none) (λ query says. kind says.0 says.2)
+
+pub no_quantity : (word : QueryWord) (words : List (List ℕ)) (found : Option Query) → word ≡ query_words.Explain → found ≡ None → Finds (SaysQuantity words) None
+    → Finds (SaysQuery word words) found
+no_quantity word words found is none quantity = rw (is, none) (λ query says. quantity says.0 says.2)
+
+pub quantity : (word : QueryWord) (words : List (List ℕ)) (question : Question) → word ≡ query_words.Explain → SaysQuantity words question
+    → SaysQuery word words (queries.Explain question)
+quantity word words question is says = rw is (question, refl, says)
+
+pub given_is : (given text : List ℕ) (found : Option Query) → IsEnded given text → Finds (AsksQuery text) found → Finds (AsksGiven given) found
+given_is given text (Some query) ended asks = (text, ended, asks)
+given_is given text None ended none =
+    λ query asked. none query (subst (λ line. AsksQuery line query) (end_is asked.0 text (sym asked.1 ∙ ended)) asked.2)

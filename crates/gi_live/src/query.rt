@@ -1,0 +1,137 @@
+//! What a line asks of a running office beside a call.
+
+ghost use Rattle.std.specs.Prelude.{◌≡◌};
+ghost use Rattle.gi_script.specs.Reading.{Finds};
+ghost use Rattle.gi_live.specs.Queries.{AsksQuery, SaysKind, SaysQuantity, SaysQuery, SaysStart, kind_named as kind_of, query_word as query_word_of};
+
+use gi_explanations::Question;
+use gi_pairs::{CycleId, Pair};
+use gi_script::Words;
+
+/// Which report is asked for.
+#[derive(Clone, Copy, Debug, PartialEq, Eq)]
+pub enum Report {
+    /// The closed cycles that are not confirmed.
+    Open,
+    /// The confirmed quantities.
+    Confirmed,
+}
+
+/// What a line asks beside a call.
+#[derive(Clone, Copy)]
+pub enum Query {
+    /// What the saved facts from this number on let out.
+    Outgoing(u32),
+    /// All facts.
+    Facts,
+    Report(Report),
+    /// What a quantity comes from.
+    Explain(Question),
+}
+
+/// The word with which a query begins.
+#[derive(Clone, Copy, Debug, PartialEq, Eq)]
+pub enum QueryWord {
+    Outgoing,
+    Facts,
+    Report,
+    Explain,
+}
+
+#[tactic(auto, unfolding(crate::specs::Queries::query_word))]
+fn query_word(text: &str) -> Option<QueryWord>
+    ensures { result ≡ query_word_of text.now }
+{
+    match text {
+        "outgoing" => Some(QueryWord::Outgoing),
+        "facts" => Some(QueryWord::Facts),
+        "report" => Some(QueryWord::Report),
+        "explain" => Some(QueryWord::Explain),
+        _ => None,
+    }
+}
+
+#[tactic(auto, unfolding(crate::specs::Queries::kind_named))]
+fn kind_named(text: &str) -> Option<Report>
+    ensures { result ≡ kind_of text.now }
+{
+    match text {
+        "open" => Some(Report::Open),
+        "confirmed" => Some(Report::Confirmed),
+        _ => None,
+    }
+}
+
+fn start(mut words: Words<'_>) -> Option<u32>
+    ensures { Finds (SaysStart words.entry) result }
+{
+    let number = words.count()?;
+    if !words.is_empty() {
+        return None;
+    }
+    Some(number)
+}
+
+fn kind(mut words: Words<'_>) -> Option<Report>
+    ensures { Finds (SaysKind words.entry) result }
+{
+    let kind = kind_named(words.next()?)?;
+    if !words.is_empty() {
+        return None;
+    }
+    Some(kind)
+}
+
+/// The greatest number of a cycle that a gas day can have.
+const LAST_CYCLE: u8 = 36;
+
+/// The greatest number of an hour that a gas day can have.
+const LAST_HOUR: u8 = 25;
+
+fn quantity(mut words: Words<'_>) -> Option<Question>
+    ensures { Finds (SaysQuantity words.entry) result }
+{
+    let initiating = words.code()?;
+    let matching = words.code()?;
+    let direction = words.direction()?;
+    let day = words.day()?;
+    let cycle = words.byte()?;
+    let hour = words.byte()?;
+    if !words.is_empty() || cycle > LAST_CYCLE || !(1..=LAST_HOUR).contains(&hour) {
+        return None;
+    }
+    Some(Question {
+        pair: Pair {
+            initiating,
+            matching,
+        },
+        direction,
+        id: CycleId { day, cycle },
+        hour,
+    })
+}
+
+/// What the words behind the first one ask.
+fn query_of(word: QueryWord, words: Words<'_>) -> Option<Query>
+    ensures { Finds (SaysQuery word words.entry) result }
+{
+    match word {
+        QueryWord::Outgoing => Some(Query::Outgoing(start(words)?)),
+        QueryWord::Facts if words.is_empty() => Some(Query::Facts),
+        QueryWord::Facts => None,
+        QueryWord::Report => Some(Query::Report(kind(words)?)),
+        QueryWord::Explain => Some(Query::Explain(quantity(words)?)),
+    }
+}
+
+/// The query that a line asks, which is UTF-8.
+pub(crate) fn read_query(line: &[u8]) -> Option<Query>
+    ensures { Finds (AsksQuery line.now) result }
+{
+    let Ok(text) = str::from_utf8(line) else {
+        return None;
+    };
+    let mut words = Words::of(text);
+    let word = query_word(words.next()?)?;
+    query_of(word, words)
+}
