@@ -1,5 +1,7 @@
 //! What a Rust programmer would write for an office with std's maps and one Mutex, and no proof: threads that submit nominations to
-//! it. plain_office THREADS DOCUMENTS prints how many microseconds all submissions took.
+//! it. plain_office THREADS DOCUMENTS prints how many microseconds all submissions took; plain_office live FILE takes requests from
+//! standard input.
+mod live;
 mod reader;
 
 use reader::Reader;
@@ -133,7 +135,11 @@ fn documents(portfolio: &str, count: usize) -> Vec<Vec<u8>> {
 }
 
 fn main() {
-    let words: Vec<usize> = std::env::args().skip(1).map(|word| word.parse().unwrap()).collect();
+    let words: Vec<String> = std::env::args().skip(1).collect();
+    if words[0] == "live" {
+        return live::run(&words[1]).unwrap();
+    }
+    let words: Vec<usize> = words.iter().map(|word| word.parse().unwrap()).collect();
     let (threads, count) = (words[0], words[1]);
     let all: Vec<_> = (0..threads).map(|seat| documents(&format!("P{}", seat + 1), count)).collect();
     let desk = Mutex::new(Desk { point: "BORDER-1".into(), ..Desk::default() });
