@@ -1,12 +1,12 @@
 -- One part more.
-use Rattle.std.proofs.Common.{◌≡◌, ℕ, List, [], ◌∷◌, ◌++◌, Bool, true, false, refl, sym, ap, subst, ◌∙◌, append_assoc, inl, inr, Option, Some, None, Result, Ok, Err, IfErr, IfOk, OnOk}
+use Rattle.std.proofs.Common.{◌≡◌, arith, ℕ, List, [], ◌∷◌, ◌++◌, Bool, true, false, refl, sym, ap, subst, ◌∙◌, append_assoc, inl, inr, Option, Some, None, Result, Ok, Err, IfErr, IfOk, OnOk}
 use Rattle.std.specs.Io.KnownBytes.{Appends, Keeps}
 use Rattle.gi_desk.specs.Machine.{DeskState}
 use Rattle.gi_office.specs.Keeping.{SeatState}
 use Rattle.gi_office.specs.Opening.{new_seat}
 use Rattle.gi_pairs.specs.declared.side.Side.{Side}
 use Rattle.gi_live.specs.Lines.{TakesLines, lines_left}
-use Rattle.gi_live.specs.Running.{RunsSome, joined, live}
+use Rattle.gi_live.specs.Running.{HasRoom, RunsSome, joined, live}
 use Rattle.gi_live.specs.Answering.{AnswersLine, LeavesAnswer, WritesAnswer, WritesEnding}
 use Rattle.gi_live.specs.Stretches.{Answered, EndsAt, EndsLife, GoesFurther, GoesSome, GoesTo, IsPaused, IsSettlingFault, LeavesBetween, LeavesPart, Part, Parts, Pause, RunsUntil, RunsWhole, StretchesUntil, begun, pause}
 use Rattle.gi_live.specs.declared.live_fault.LiveFault.{LiveFault}
@@ -115,6 +115,9 @@ pub not_settled : (side : Side) (old : Pause) (input rest : Option (List (List �
     → RunsUntil side (begun old) input rest before after seat taken end → IsSettlingFault fault → GoesSome side old input before after fault
 not_settled side old input rest before after seat taken end fault runs why =
     leaves_here side old input before after fault (inr (inr (inr (record { left = runs.left; reached = _; runs = runs.runs; why = why }))))
+
+pub new_room : (seat : SeatState) → seat ≡ new_seat 16 1 → HasRoom seat
+new_room seat is = rw is (λ goes_on. omega arith)
 
 begun_is : (desk : DeskState) (lines : ℕ) (seat : SeatState) (saved : ℕ) → seat ≡ new_seat 16 1 → saved ≡ desk.saved → live seat saved lines ≡ begun (pause desk lines)
 begun_is desk lines seat saved new same = rw (new, same) refl

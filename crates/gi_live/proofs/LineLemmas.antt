@@ -1,8 +1,8 @@
 -- A line that is read up to its line feed, and with it, is the first one of what is left.
-use Rattle.std.proofs.Common.{◌≡◌, ℕ, Bool, true, false, ◌==◌, List, [], ◌∷◌, ◌++◌, refl, ap, sym, subst, ◌∙◌, Option, Some, None, IfSome, append_assoc}
-use Rattle.std.specs.List.{onto_first}
+use Rattle.std.proofs.Common.{◌≡◌, ℕ, Bool, true, false, ◌==◌, ◌||◌, List, [], ◌∷◌, ◌++◌, refl, ap, sym, subst, ◌∙◌, Option, Some, None, IfSome, append_assoc}
+use Rattle.std.specs.List.{list_any, onto_first}
 use Rattle.std.specs.Io.BufRead.{take_through, drop_through, DropsThrough}
-use Rattle.gi_live.specs.Lines.{IsAtEnd, TakesLines, TakesNext, given_lines, lines_left}
+use Rattle.gi_live.specs.Lines.{IsAtEnd, TakesLines, TakesNext, given_lines, is_alone, is_halt, is_query, lines_left}
 use Rattle.gi_live.specs.Stretches.{EndsAt}
 
 lines-feed : (byte : ℕ) (bytes : List ℕ) → (byte == 10) ≡ true → given_lines (byte ∷ bytes) ≡ (byte ∷ []) ∷ given_lines bytes
@@ -131,3 +131,27 @@ pub takes_whole : (input : Option (List ℕ)) (left rest : Option (List (List �
 takes_whole None left rest first all before takes end = tt
 takes_whole (Some bytes) None rest first all before takes end = absurd before
 takes_whole (Some bytes) (Some left) rest first all before takes end = takes_all (Some bytes) rest all takes end
+
+-- ---- lines that are taken by themselves
+
+or_left : (a b : Bool) → a ≡ true → (a || b) ≡ true
+or_left true b is = refl
+or_left false b is = absurd (let no : false ≡ true = is in cc)
+
+or_right : (a b : Bool) → b ≡ true → (a || b) ≡ true
+or_right true b is = refl
+or_right false b is = is
+
+any_more : (one other : List ℕ → Bool) → ((line : List ℕ) → one line ≡ true → other line ≡ true) → (lines : List (List ℕ)) → list_any one lines ≡ true → list_any other lines ≡ true
+any_more one other implies [] is = absurd (let no : false ≡ true = is in cc)
+any_more one other implies (line ∷ lines) is = by (any_more one other implies lines) (one line) refl
+  where
+    by : (list_any one lines ≡ true → list_any other lines ≡ true) → (b : Bool) → one line ≡ b → list_any other (line ∷ lines) ≡ true
+    by later true here = or_left (other line) (list_any other lines) (implies line here)
+    by later false here = or_right (other line) (list_any other lines) (later (let e : (one line || list_any one lines) ≡ true = is in sym (rw here refl) ∙ e))
+
+pub query_alone : (lines : List (List ℕ)) → list_any is_query lines ≡ true → list_any is_alone lines ≡ true
+query_alone lines is = any_more is_query is_alone (λ line here. or_right (is_halt line) (is_query line) here) lines is
+
+pub halt_alone : (lines : List (List ℕ)) → list_any is_halt lines ≡ true → list_any is_alone lines ≡ true
+halt_alone lines is = any_more is_halt is_alone (λ line here. or_left (is_halt line) (is_query line) here) lines is

@@ -1,15 +1,16 @@
 -- One step more.
-use Rattle.std.proofs.Common.{◌≡◌, ℕ, Bool, true, false, List, [], ◌∷◌, ◌++◌, refl, sym, ap, subst, ◌∙◌, append_assoc, Option, Some, None}
+use Rattle.std.proofs.Common.{◌≡◌, ℕ, Bool, true, false, List, [], ◌∷◌, ◌++◌, refl, sym, ap, subst, ◌∙◌, append_assoc, ◌⊎◌, inl, inr, Option, Some, None}
 use Rattle.std.specs.List.{list_any}
-use Rattle.std.specs.Io.KnownBytes.{Appends}
+use Rattle.std.specs.Io.KnownBytes.{Appends, Keeps}
 use Rattle.gi_office.specs.Keeping.{SeatState}
 use Rattle.gi_pairs.specs.declared.side.Side.{Side}
 use Rattle.gi_live.specs.Lines.{IsAtEnd, TakesLines, is_query}
-use Rattle.gi_live.specs.Running.{LeavesStep, LiveState, Runs, RunsSome, RunsTo, Steps, WritesStep, joined, live}
+use Rattle.gi_live.specs.Running.{LeavesStep, LiveState, Runs, RunsSome, RunsTo, Steps, WritesStep, has_halted, joined, live}
 use Rattle.gi_live.specs.Stretches.{IsAsked, RunsUntil}
 use Rattle.gi_live.specs.declared.running.End.{End}
 use Rattle.gi_live.specs.declared.running.End.TheVariants as ends
 use Rattle.gi_live.specs.declared.live_fault.LiveFault.{LiveFault}
+use Rattle.gi_live.specs.declared.live_fault.LiveFault.TheVariants as faults
 use Rattle.gi_live.proofs.LineLemmas.{takes_both, takes_none}
 
 append_none : (xs : List ℕ) → xs ++ [] ≡ xs
@@ -47,6 +48,10 @@ appends_both (Some bytes) None new xs ys first next = absurd first
 appends_both (Some bytes) (Some middle) None xs ys first next = absurd next
 appends_both (Some bytes) (Some middle) (Some all) xs ys first next = next ∙ ap (λ l. l ++ ys) first ∙ append_assoc bytes xs ys
 
+keeps_all : (output : Option (List ℕ)) → Keeps output output
+keeps_all None = tt
+keeps_all (Some bytes) = refl
+
 -- no step was made yet
 pub none_run : (side : Side) (old : LiveState) (input : Option (List (List ℕ))) (before : Option (List ℕ)) → RunsTo side old input input before before old
 none_run side old input before = record { pieces = []; text = []; runs = (refl, refl); taken = takes_none input; written = appends_none before }
@@ -66,23 +71,24 @@ more_run side old input left before after reached piece rest next new runs takes
 -- why they ended
 pub until_input : (side : Side) (old : LiveState) (input left rest : Option (List (List ℕ))) (before after : Option (List ℕ)) (seat : SeatState) (saved taken : ℕ)
     → RunsTo side old input left before after (live seat saved taken) → IsAtEnd left → TakesLines left [] rest → RunsUntil side old input rest before after seat taken ends.Input
-until_input side old input left rest before after seat saved taken runs end further = record { saved = saved; left = left; runs = runs; behind = (end, further) }
+until_input side old input left rest before after seat saved taken runs end further = record { saved = saved; left = left; runs = runs; behind = (end, further); may_be_left = tt }
 
 pub until_full : (side : Side) (old : LiveState) (input left : Option (List (List ℕ))) (before after : Option (List ℕ)) (seat : SeatState) (saved taken : ℕ)
-    → RunsTo side old input left before after (live seat saved taken) → RunsUntil side old input left before after seat taken ends.Full
-until_full side old input left before after seat saved taken runs = record { saved = saved; left = left; runs = runs; behind = refl }
+    → RunsTo side old input left before after (live seat saved taken) → has_halted seat.notes ≡ false → RunsUntil side old input left before after seat taken ends.Full
+until_full side old input left before after seat saved taken runs goes_on = record { saved = saved; left = left; runs = runs; behind = refl; may_be_left = goes_on }
 
 pub until_asked : (side : Side) (old : LiveState) (input left rest : Option (List (List ℕ))) (before after : Option (List ℕ)) (seat : SeatState) (saved taken : ℕ)
     (lines : List (List ℕ)) (end : End)
     → RunsTo side old input left before after (live seat saved taken) → TakesLines left lines rest → list_any is_query lines ≡ true → IsAsked lines end
-    → RunsUntil side old input rest before after seat taken end
-until_asked side old input left rest before after seat saved taken lines ends.Input runs takes query asked = absurd asked
-until_asked side old input left rest before after seat saved taken lines ends.Full runs takes query asked = absurd asked
-until_asked side old input left rest before after seat saved taken lines (ends.Asked line) runs takes query asked = record {
+    → has_halted seat.notes ≡ false → RunsUntil side old input rest before after seat taken end
+until_asked side old input left rest before after seat saved taken lines ends.Input runs takes query asked goes_on = absurd asked
+until_asked side old input left rest before after seat saved taken lines ends.Full runs takes query asked goes_on = absurd asked
+until_asked side old input left rest before after seat saved taken lines (ends.Asked line) runs takes query asked goes_on = record {
   saved = saved;
   left = left;
   runs = runs;
   behind = (subst (λ ls. TakesLines left ls rest) asked takes, one_query line (subst (λ ls. list_any is_query ls ≡ true) asked query));
+  may_be_left = goes_on;
 }
   where
     one_query : (given : List ℕ) → list_any is_query (given ∷ []) ≡ true → is_query given ≡ true
@@ -92,7 +98,18 @@ until_asked side old input left rest before after seat saved taken lines (ends.A
         by true is = is
         by false is = absurd (let no : false ≡ true = sym (rw is refl) ∙ any in cc)
 
-pub some_run : (side : Side) (old : LiveState) (input left : Option (List (List ℕ))) (before between after : Option (List ℕ)) (reached : LiveState) (next : List (List ℕ)) (fault : LiveFault)
-    → RunsTo side old input left before between reached → LeavesStep side reached next between after fault → RunsSome side old input before after fault
-some_run side old input left before between after reached next fault runs leaves =
-    record { left = left; between = between; reached = reached; runs = runs; next = next; leaves = leaves }
+pub some_run : (side : Side) (old : LiveState) (input left : Option (List (List ℕ))) (before between after : Option (List ℕ)) (reached : LiveState) (next : List (List ℕ))
+    (rest : Option (List (List ℕ))) (fault : LiveFault)
+    → RunsTo side old input left before between reached → TakesLines left next rest → LeavesStep side reached next between after fault → RunsSome side old input before after fault
+some_run side old input left before between after reached next rest fault runs takes leaves =
+    record { left = left; between = between; reached = reached; runs = runs; next = next; rest = rest; takes = takes; leaves = leaves }
+
+-- no line was taken: the reader failed, memory ran out, or there are too many
+pub none_taken : (side : Side) (old : LiveState) (input left : Option (List (List ℕ))) (before between : Option (List ℕ)) (reached : LiveState) (fault : LiveFault)
+    → RunsTo side old input left before between reached → (fault ≡ faults.Read) ⊎ (fault ≡ faults.OutOfMemory) → RunsSome side old input before between fault
+none_taken side old input left before between reached fault runs (inl is) =
+    some_run side old input left before between between reached [] left fault runs (takes_none left)
+    (subst (λ why. LeavesStep side reached [] between between why) (sym is) (keeps_all between))
+none_taken side old input left before between reached fault runs (inr is) =
+    some_run side old input left before between between reached [] left fault runs (takes_none left)
+    (subst (λ why. LeavesStep side reached [] between between why) (sym is) (keeps_all between))

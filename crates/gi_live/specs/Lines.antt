@@ -1,5 +1,5 @@
 -- The lines of what an office is given.
-use Rattle.std.specs.Prelude.{◌≡◌, ◌==◌, if◌then◌else◌, List, [], ◌∷◌, ◌++◌, ℕ, Bool, codes, nat_eq, Option, Some, None}
+use Rattle.std.specs.Prelude.{◌≡◌, ◌==◌, if◌then◌else◌, List, [], ◌∷◌, ◌++◌, ◌||◌, ℕ, Bool, codes, nat_eq, Option, Some, None}
 use Rattle.std.specs.List.{list_any, onto_first, starts_with}
 use Rattle.std.specs.Option.{option_map, option_to_list}
 use Rattle.gi_text.specs.Lines.{line_feed}
@@ -20,6 +20,14 @@ query_starts = codes "outgoing" ∷ codes "facts" ∷ codes "report" ∷ codes "
 -- A line that begins with one of these is a query, if it is a request at all.
 abbrev pub is_query : List ℕ → Bool
 is_query given = list_any (λ word. starts_with nat_eq given word) query_starts
+
+-- a line that begins so asks for a halt, if it is a request at all
+abbrev pub is_halt : List ℕ → Bool
+is_halt given = starts_with nat_eq given (codes "halt")
+
+-- it is taken by itself
+abbrev pub is_alone : List ℕ → Bool
+is_alone given = is_halt given || is_query given
 
 -- The lines that are left of an input: one that was read and is kept back, if any, and those of what the reader has left, where that is
 -- known.

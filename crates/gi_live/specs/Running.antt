@@ -1,5 +1,5 @@
 -- What an office that runs makes of its lines, piece by piece.
-use Rattle.std.specs.Prelude.{◌≡◌, ℕ, ◌+◌, ◌≤◌, List, [], ◌∷◌, ◌++◌, Bool, true, false, drop, length, take, Option, Result, Ok, Err, flat_map}
+use Rattle.std.specs.Prelude.{◌≡◌, ℕ, ◌+◌, ◌<◌, ◌≤◌, List, [], ◌∷◌, ◌++◌, Bool, true, false, drop, length, take, Option, Result, Ok, Err, flat_map}
 use Rattle.std.specs.List.{list_all, list_any}
 use Rattle.std.specs.Io.KnownBytes.{Appends, Keeps}
 use Rattle.gi_office.specs.Keeping.{SeatState}
@@ -11,7 +11,7 @@ use Rattle.gi_pairs.specs.declared.side.Side.{Side}
 use Rattle.gi_serving.specs.Asking.{NotesMarks}
 use Rattle.gi_live.specs.Coming.{ComeAll}
 use Rattle.gi_live.specs.Telling.{may_tell_of, saved_by, step_text}
-use Rattle.gi_live.specs.Lines.{TakesLines, is_query}
+use Rattle.gi_live.specs.Lines.{TakesLines, is_halt, is_query}
 use Rattle.gi_live.specs.declared.came.Came.{Came}
 use Rattle.gi_live.specs.declared.live_fault.LiveFault.{LiveFault}
 use Rattle.gi_live.specs.declared.live_fault.LiveFault.TheVariants as faults
@@ -37,13 +37,19 @@ is_stopped _ = false
 abbrev pub has_halted : List Note → Bool
 has_halted notes = list_any (λ note. is_stopped note.reply.answer) notes
 
+-- Behind 100,000 notes a step is made by an office that is halted alone.
+abbrev pub HasRoom : SeatState → Type 0
+HasRoom seat = has_halted seat.notes ≡ false → length seat.notes < 100_000
+
 -- What came of each of these lines, in order, was noted by the seat, then marks of saved facts and nothing else; and the text has the
 -- answer to each line, each of a fact that is saved, and then what these facts let out. There is a query among the lines only where the
--- office is halted.
+-- office is halted, and a halt is by itself.
 pub record Steps (side : Side) (old : LiveState) (lines : List (List ℕ)) (text : List ℕ) (new : LiveState) : Type 0 where
   pub cames : List Came
   pub between : SeatState
   pub queries : list_any is_query lines ≡ true → has_halted old.seat.notes ≡ true
+  pub halts : list_any is_halt lines ≡ true → length lines ≡ 1
+  pub room : HasRoom old.seat
   pub came : ComeAll side old.seat lines cames between
   pub marked : NotesMarks between new.seat
   pub saved : new.saved ≡ saved_by old.saved (notes_since between new.seat)
@@ -118,4 +124,6 @@ pub record RunsSome (side : Side) (old : LiveState) (input : Option (List (List 
   pub reached : LiveState
   pub runs : RunsTo side old input left before between reached
   pub next : List (List ℕ)
+  pub rest : Option (List (List ℕ))
+  pub takes : TakesLines left next rest
   pub leaves : LeavesStep side reached next between after fault

@@ -8,7 +8,7 @@ use Rattle.gi_office.specs.Settling.{AreSettled}
 use Rattle.gi_pairs.specs.declared.side.Side.{Side}
 use Rattle.gi_live.specs.Answering.{AnswersLine, IsEnding}
 use Rattle.gi_live.specs.Lines.{IsAtEnd, TakesLines, given_lines, is_query}
-use Rattle.gi_live.specs.Running.{LiveState, Runs, RunsSome, RunsTo, joined, live}
+use Rattle.gi_live.specs.Running.{LiveState, Runs, RunsSome, RunsTo, has_halted, joined, live}
 use Rattle.gi_live.specs.declared.live_fault.LiveFault.{LiveFault}
 use Rattle.gi_live.specs.declared.live_fault.LiveFault.TheVariants as faults
 use Rattle.gi_live.specs.declared.running.End.{End}
@@ -28,12 +28,19 @@ LeftBehind left rest ends.Input = IsAtEnd left × TakesLines left [] rest
 LeftBehind left rest ends.Full = rest ≡ left
 LeftBehind left rest (ends.Asked line) = TakesLines left (line ∷ []) rest × (is_query line ≡ true)
 
+-- An office that is halted is left at the end of its input alone.
+abbrev pub MayBeLeft : SeatState → End → Type 0
+MayBeLeft seat ends.Input = Unit {0}
+MayBeLeft seat ends.Full = has_halted seat.notes ≡ false
+MayBeLeft seat (ends.Asked line) = has_halted seat.notes ≡ false
+
 -- steps of first lines, and why they ended
 pub record RunsUntil (side : Side) (old : LiveState) (input rest : Option (List (List ℕ))) (before after : Option (List ℕ)) (seat : SeatState) (taken : ℕ) (end : End) : Type 0 where
   pub saved : ℕ
   pub left : Option (List (List ℕ))
   pub runs : RunsTo side old input left before after (live seat saved taken)
   pub behind : LeftBehind left rest end
+  pub may_be_left : MayBeLeft seat end
 
 -- no line is left behind those that were, where these are known
 abbrev pub EndsAt : Option (List (List ℕ)) → Option (List (List ℕ)) → Type 0

@@ -3,7 +3,7 @@
 ghost use Rattle.std.specs.Prelude.{◌≡◌, ◌⊎◌, ◌≤◌, [], IfErr, IfOk, None, OnOk, length, true};
 ghost use Rattle.std.specs.Io.Buffered.{reader_remaining};
 ghost use Rattle.std.specs.List.{list_any};
-ghost use Rattle.gi_live.specs.Lines.{IsAtEnd, TakesLines, TakesNext, is_query as is_query_of, lines_left};
+ghost use Rattle.gi_live.specs.Lines.{IsAtEnd, TakesLines, TakesNext, is_alone as is_alone_of, is_query as is_query_of, lines_left};
 
 use crate::live_fault::LiveFault;
 use gi_text::LINE_FEED;
@@ -69,9 +69,6 @@ pub const MOST_LINES: usize = 64;
 /// How many bytes of lines are answered together: behind so many no further line is added.
 const MOST_BYTES: usize = 1_048_576;
 
-/// What asks for a halt, which saves nothing of what came before it.
-const HALT: &[u8] = b"halt";
-
 /// What asks for a resending, of which what is not saved is no part.
 const RESEND: &[u8] = b"resend";
 
@@ -97,18 +94,18 @@ pub(crate) fn has_query(lines: &[InputLine]) -> bool
     false
 }
 
-/// Whether a line is taken together with none before it.
-fn begins(line: &[u8]) -> bool
-    ensures { is_query_of line.now ≡ true → result ≡ true }
+/// Whether a line is taken by itself.
+fn is_alone(line: &[u8]) -> bool
+    ensures { result ≡ is_alone_of line.now }
 {
-    line.starts_with(HALT) || line.starts_with(RESEND) || is_query(line)
+    line.starts_with(b"halt") || is_query(line)
 }
 
-/// Whether a line is taken together with none behind it.
-fn ends(line: &[u8]) -> bool
-    ensures { is_query_of line.now ≡ true → result ≡ true }
+/// Whether a line is taken together with none before it.
+fn begins(line: &[u8]) -> bool
+    ensures { is_alone_of line.now ≡ true → result ≡ true }
 {
-    line.starts_with(HALT) || is_query(line)
+    line.starts_with(RESEND) || is_alone(line)
 }
 
 /// Takes the next line, and the lines behind it which the input holds already, so that no answer waits for a line that may
@@ -125,7 +122,7 @@ pub fn next_lines<I: Read>(
     requires none { lines.old.items ≡ [] }
     ensures taken { OnOk result (TakesLines (lines_left kept.old (reader_remaining I.remaining input.old)) lines.new.items (lines_left kept.new (reader_remaining I.remaining input.new))) }
     ensures few { OnOk result (length lines.new.items ≤ 64) }
-    ensures alone { OnOk result (list_any is_query_of lines.new.items ≡ true → length lines.new.items ≡ 1) }
+    ensures alone { OnOk result (list_any is_alone_of lines.new.items ≡ true → length lines.new.items ≡ 1) }
     ensures fault { IfErr result (λ fault. (fault ≡ LiveFault.Read) ⊎ (fault ≡ LiveFault.OutOfMemory)) }
     ensures end { OnOk result (lines.new.items ≡ [] → IsAtEnd (lines_left kept.old (reader_remaining I.remaining input.old))) }
 {
@@ -138,7 +135,7 @@ pub fn next_lines<I: Read>(
             *kept = Some(line);
             return Ok(());
         }
-        let is_last = ends(line.as_slice()) || line.as_slice().len() >= MOST_BYTES - bytes;
+        let is_last = is_alone(line.as_slice()) || line.as_slice().len() >= MOST_BYTES - bytes;
         if !is_last {
             bytes += line.as_slice().len();
         }

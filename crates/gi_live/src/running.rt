@@ -1,13 +1,13 @@
 //! An office that runs: the lines that come, in steps, and what is written of each.
 
-ghost use Rattle.std.specs.Prelude.{◌≡◌, ◌⊎◌, ◌+◌, ◌<◌, ◌≤◌, ◌^◌, IfErr, IfOk, OnOk, drop, length, true};
+ghost use Rattle.std.specs.Prelude.{◌≡◌, ◌⊎◌, ◌+◌, ◌<◌, ◌≤◌, ◌^◌, IfErr, IfOk, OnOk, drop, false, length, true};
 ghost use Rattle.std.specs.List.{list_all, list_any};
 ghost use Rattle.std.specs.Io.Buffered.{reader_remaining};
 ghost use Rattle.std.specs.Io.KnownBytes.{Appends};
 ghost use Rattle.gi_serving.specs.Asking.{NotesMarks};
 ghost use Rattle.gi_serving.specs.Ending.{place_of};
-ghost use Rattle.gi_live.specs.Lines.{is_query, lines_left};
-ghost use Rattle.gi_live.specs.Running.{LeavesStep, LeavesTold, RunsSome, WritesStep, first_fault as first_fault_of, has_halted as has_halted_in, is_stopped as is_stopped_by, live, notes_since};
+ghost use Rattle.gi_live.specs.Lines.{is_halt, is_query, lines_left};
+ghost use Rattle.gi_live.specs.Running.{HasRoom, LeavesStep, LeavesTold, RunsSome, WritesStep, first_fault as first_fault_of, has_halted as has_halted_in, is_stopped as is_stopped_by, live, notes_since};
 ghost use Rattle.gi_live.specs.Stretches.{IsAsked, RunsUntil};
 ghost use Rattle.gi_live.specs.Telling.{may_tell_of, saved_by as saved_by_of, step_text as step_text_of};
 
@@ -121,6 +121,8 @@ fn step<R: Role, L: Ledger, B: Turns, W: Wait, O: Write>(
 ) -> (Seat<L>, u32, Result<(), LiveFault>)
     requires room { before + length lines.now + 1 < 2 ^ 64 }
     requires queries { list_any is_query lines.now ≡ true → has_halted_in seat.notes ≡ true }
+    requires halts { list_any is_halt lines.now ≡ true → length lines.now ≡ 1 }
+    requires has_room { HasRoom seat }
     ensures place { place_of result.0 ≡ place_of seat }
     ensures steps { OnOk result.2 (WritesStep R.SIDE (live seat saved before) lines.now (O.contents output.old) (O.contents output.new) (live result.0 result.1 (before + length lines.now))) }
     ensures leaves { IfErr result.2 (LeavesStep R.SIDE (live seat saved before) lines.now (O.contents output.old) (O.contents output.new)) }
@@ -163,6 +165,14 @@ fn has_halted(notes: &[Note]) -> bool
     false
 }
 
+/// Whether a stretch ends behind these notes.
+fn is_full(notes: &[Note]) -> bool
+    ensures room { result ≡ false → has_halted_in notes.now ≡ false → length notes.now < 100_000 }
+    ensures runs { result ≡ true → has_halted_in notes.now ≡ false }
+{
+    notes.len() >= MOST_NOTED && !has_halted(notes)
+}
+
 /// Why a stretch ends.
 #[derive(Drop)]
 pub(crate) enum End {
@@ -188,7 +198,7 @@ fn asked(lines: Vec<InputLine>) -> End
 /// Runs the office over the lines behind so many, from a seat of it, with its book, where so many facts are saved. Each line is
 /// answered once, in order: it asks for a call, which is made, and what came of it is written once what it recorded is saved. The
 /// lines that have come are taken together, 64 at most, and saved together. A stretch ends at the end of the input, at a
-/// query, unless the office is halted, and behind 100,000 notes. Else the fault is the first: what was written before it is
+/// query and behind 100,000 notes, unless the office is halted, of which there are 2^24 steps at most (`Read`). Else the fault is the first: what was written before it is
 /// whole. The seat comes back, and how many lines are answered.
 pub(crate) fn run<R: Role, L: Ledger, B: Turns, W: Wait, I: Read, O: Write>(
     rt: &W,
@@ -203,6 +213,7 @@ pub(crate) fn run<R: Role, L: Ledger, B: Turns, W: Wait, I: Read, O: Write>(
     output: &mut O,
 ) -> (Seat<L>, u64, Result<End, LiveFault>)
     requires room { before < 2 ^ 62 }
+    requires begins { HasRoom seat }
     ensures place { place_of result.0 ≡ place_of seat }
     ensures few { result.1 ≤ before + 2 ^ 30 }
     ensures until { IfOk result.2 (RunsUntil R.SIDE (live seat saved before) (lines_left kept.old (reader_remaining I.remaining input.old)) (lines_left kept.new (reader_remaining I.remaining input.new)) (O.contents output.old) (O.contents output.new) result.0 result.1) }
@@ -231,9 +242,12 @@ pub(crate) fn run<R: Role, L: Ledger, B: Turns, W: Wait, I: Read, O: Write>(
         if let Err(fault) = end {
             return (seat, taken, Err(fault));
         }
-        if seat.notes().len() >= MOST_NOTED && !has_halted(seat.notes()) {
+        if is_full(seat.notes()) {
             return (seat, taken, Ok(End::Full));
         }
+    }
+    if has_halted(seat.notes()) {
+        return (seat, taken, Err(LiveFault::Read));
     }
     (seat, taken, Ok(End::Full))
 }

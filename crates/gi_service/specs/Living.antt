@@ -4,16 +4,22 @@ use Rattle.std.specs.Io.KnownBytes.{Keeps}
 use Rattle.gi_pairs.specs.Code.{IsCode}
 use Rattle.gi_pairs.specs.declared.side.Side.{Side}
 use Rattle.gi_commands.specs.Fault.{no_code}
-use Rattle.gi_desk.specs.Machine.{DeskState}
+use Rattle.gi_desk.specs.Machine.{DeskState, bad_fact}
 use Rattle.gi_live.specs.Lines.{lines_left}
-use Rattle.gi_live.specs.Stretches.{RunsInPart, RunsWhole}
+use Rattle.gi_live.specs.Stretches.{IsPaused, RunsInPart, RunsWhole}
 use Rattle.gi_service.specs.Stations.{IsStationFault}
 use Rattle.gi_service.specs.declared.program_fault.ProgramFault.{ProgramFault}
 use Rattle.gi_service.specs.declared.program_fault.ProgramFault.TheVariants.{Closed, Command, Live, Served}
 
--- all lines of the input were taken, from some desk, and what came of them was written
-abbrev pub RunsOffice : Side → Option (List ℕ) → Option (List ℕ) → Option (List ℕ) → Type 0
-RunsOffice side input before after = (desk : DeskState) × RunsWhole side desk input before after
+-- the desk with which a run begins: it is of the point, all its facts are saved, it is not halted, and a desk would record them so
+pub record Begins (side : Side) (point : List ℕ) (desk : DeskState) : Type 0 where
+  pub point_is : desk.point ≡ point
+  pub paused : IsPaused desk
+  pub legal : bad_fact side desk.point desk.facts ≡ None
+
+-- all lines of the input were taken, from such a desk, and what came of them was written
+abbrev pub RunsOffice : Side → List ℕ → Option (List ℕ) → Option (List ℕ) → Option (List ℕ) → Type 0
+RunsOffice side point input before after = (desk : DeskState) × Begins side point desk × RunsWhole side desk input before after
 
 -- the point is no code; or the side has no desk
 abbrev pub IsFirstOfficeFault : Side → List ℕ → ProgramFault → Type 0
@@ -23,8 +29,8 @@ IsFirstOfficeFault side point (Live why) = Unit {0}
 IsFirstOfficeFault side point (Closed why) = Unit {0}
 
 -- Before the run nothing is written. Of a run that was cut off the output has what was told before; of one whose book was not closed, all.
-abbrev pub LeavesOffice : Side → Option (List ℕ) → Option (List ℕ) → Option (List ℕ) → ProgramFault → Type 0
-LeavesOffice side input before after (Command why) = Keeps before after
-LeavesOffice side input before after (Served why) = ⊥
-LeavesOffice side input before after (Live why) = (desk : DeskState) × RunsInPart side desk (lines_left None input) before after why
-LeavesOffice side input before after (Closed why) = RunsOffice side input before after
+abbrev pub LeavesOffice : Side → List ℕ → Option (List ℕ) → Option (List ℕ) → Option (List ℕ) → ProgramFault → Type 0
+LeavesOffice side point input before after (Command why) = Keeps before after
+LeavesOffice side point input before after (Served why) = ⊥
+LeavesOffice side point input before after (Live why) = (desk : DeskState) × Begins side point desk × RunsInPart side desk (lines_left None input) before after why
+LeavesOffice side point input before after (Closed why) = RunsOffice side point input before after

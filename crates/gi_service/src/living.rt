@@ -61,9 +61,9 @@ fn run_side<R: Role, T: Wait, I: Read, W: Write>(
     input: &mut BufReader<I>,
     output: &mut W,
 ) -> Result<(), ProgramFault>
-    ensures runs { OnOk result (RunsOffice R.SIDE (reader_remaining I.remaining input.old) (W.contents output.old) (W.contents output.new)) }
+    ensures runs { OnOk result (RunsOffice R.SIDE point (reader_remaining I.remaining input.old) (W.contents output.old) (W.contents output.new)) }
     ensures first { IfErr result (IsFirstOfficeFault R.SIDE point) }
-    ensures leaves { IfErr result (LeavesOffice R.SIDE (reader_remaining I.remaining input.old) (W.contents output.old) (W.contents output.new)) }
+    ensures leaves { IfErr result (LeavesOffice R.SIDE point (reader_remaining I.remaining input.old) (W.contents output.old) (W.contents output.new)) }
 {
     let file = run.book.file;
     match is_new::<R>(rt, file, point) {
@@ -82,6 +82,7 @@ fn run_side<R: Role, T: Wait, I: Read, W: Write>(
         Ok(station) => station,
         Err(fault) => return Err(ProgramFault::Command(fault)),
     };
+    desk.reveal_invariant();
     match serve_lines(threads, rt.alloc(), desk, book, input, output) {
         // (a book that failed is left as it is: to close it would begin its log anew)
         Ok(()) => match close_book(rt, file) {
@@ -104,9 +105,9 @@ pub fn run_office<T: Wait, I: Read, W: Write>(
     input: &mut I,
     output: &mut W,
 ) -> Result<(), ProgramFault>
-    ensures runs { OnOk result (RunsOffice run.now.side (I.remaining input.old) (W.contents output.old) (W.contents output.new)) }
+    ensures runs { OnOk result (RunsOffice run.now.side run.now.book.point.now (I.remaining input.old) (W.contents output.old) (W.contents output.new)) }
     ensures first { IfErr result (IsFirstOfficeFault run.now.side run.now.book.point.now) }
-    ensures leaves { IfErr result (LeavesOffice run.now.side (I.remaining input.old) (W.contents output.old) (W.contents output.new)) }
+    ensures leaves { IfErr result (LeavesOffice run.now.side run.now.book.point.now (I.remaining input.old) (W.contents output.old) (W.contents output.new)) }
     ensures code { ¬ (IsCode run.now.book.point.now) → result ≡ Err (Command no_code) }
 {
     let point = match Code::read(run.book.point) {

@@ -1,7 +1,7 @@
 use Rattle.std.proofs.Common.{◌≡◌, ◌<◌, ◌≤◌, false, length}
 use Rattle.std.specs.Io.Buffered.{reader_remaining}
 use Rattle.std.specs.List.{list_any}
-use Rattle.gi_live.specs.Lines.{TakesLines, is_query, lines_left}
+use Rattle.gi_live.specs.Lines.{TakesLines, is_alone, lines_left}
 use Rattle.gi_live.proofs.input.next_lines.Given as goal
 
 abbrev pub invariant-loop : goal.invariant-loop
@@ -11,5 +11,5 @@ invariant-loop g l = record {
   begun : l.counter ≡ 0 → (l.input ≡ l.initial.input) × (l.kept ≡ l.initial.kept);
   few : length l.lines.items ≤ l.counter;
   some : 0 < l.counter → 0 < length l.lines.items;
-  calls : list_any is_query l.lines.items ≡ false;
+  together : list_any is_alone l.lines.items ≡ false;
 }

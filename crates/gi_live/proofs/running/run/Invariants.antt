@@ -2,7 +2,7 @@ use Rattle.std.proofs.Common.{◌≡◌, ◌≤◌, ◌*◌, ◌+◌}
 use Rattle.std.specs.Io.Buffered.{reader_remaining}
 use Rattle.gi_serving.specs.Ending.{place_of}
 use Rattle.gi_live.specs.Lines.{lines_left}
-use Rattle.gi_live.specs.Running.{RunsTo, live}
+use Rattle.gi_live.specs.Running.{HasRoom, RunsTo, live}
 use Rattle.gi_live.proofs.running.run.Given as goal
 
 abbrev pub invariant-loop : goal.invariant-loop
@@ -11,4 +11,5 @@ invariant-loop g l = record {
   few : l.taken ≤ l.before + 64 * l.counter;
   runs : RunsTo g.R.Role.SIDE (live l.initial.seat l.initial.saved l.before) (lines_left l.initial.kept (reader_remaining g.I.Read.remaining l.initial.input))
       (lines_left l.kept (reader_remaining g.I.Read.remaining l.input)) (g.O.Write.contents l.initial.output) (g.O.Write.contents l.output) (live l.seat l.saved l.taken);
+  room : HasRoom l.seat;
 }
