@@ -13,7 +13,7 @@
 //! number is no higher than that of the last mark which the seat has noted, and a packet is let out by such a mark, or by a
 //! reply that repeats what is saved. One line that comes alone is answered at once, and waits for no other.
 //!
-//! An office keeps each call until it is settled. So a run is a list of stretches: behind 100,000 calls, and at each query, the
+//! An office keeps each call until it is settled. So a run is a list of stretches: behind 100,000 notes of its seat, and at each query, the
 //! office is settled and the next one opened over its desk, all of whose facts are saved. A query is answered of that desk.
 //!
 //! ```text
