@@ -82,12 +82,13 @@ service_words service = record {
 }
 
 -- how one operator's office runs: of this side, with its book in this file, for this point; for so many seconds a book that is in
--- use is tried again
+-- use is tried again; and whether it is told the time by the machine's clock
 pub record OfficeWords : Type 0 where
   pub side : Side
   pub file : List ℕ
   pub point : List ℕ
   pub wait : ℕ
+  pub by_clock : Bool
 
 abbrev pub office_words : OfficeRun → OfficeWords
 office_words run = record {
@@ -95,6 +96,7 @@ office_words run = record {
   file = run.book.file.now;
   point = run.book.point.now;
   wait = run.wait;
+  by_clock = run.by_clock;
 }
 
 -- any of the commands: one of these, one operator's office, or both offices run by a script

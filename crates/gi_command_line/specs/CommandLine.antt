@@ -65,11 +65,12 @@ the_audit = with_rule (with_rule (with_rule (new_app (codes "audit")) (needed (c
 abbrev pub the_book : App
 the_book = with_rule (with_rule (new_app (codes "book")) (word (codes "FILE"))) (option (codes "expect"))
 
--- the side; its book and the point, which are both needed, and how long is waited for the book
+-- the side; its book and the point, which are both needed, how long is waited for the book, and whether it goes by the clock
 abbrev pub the_office : App
 the_office =
     let of_side = with_rule (new_app (codes "office")) (word (codes "SIDE")) in
-    with_rule (with_rule (with_rule of_side (needed (codes "book"))) (needed (codes "point"))) (option (codes "wait"))
+    let in_book = with_rule (with_rule of_side (needed (codes "book"))) (needed (codes "point")) in
+    with_rule (with_rule in_book (option (codes "wait"))) (flag (codes "clock"))
 
 -- the sessions and the books; how long is waited for these, and whether only old ones are taken
 abbrev pub the_serve : App
@@ -205,7 +206,13 @@ abbrev pub office_of : List Row → Option Side → Option ℕ → Wanted
 office_of rows None wait = at_once mistaken
 office_of rows (Some side) None = at_once mistaken
 office_of rows (Some side) (Some wait) =
-    office (record { side = side; file = value_of (codes "book") rows; point = value_of (codes "point") rows; wait = wait })
+    office (record {
+      side = side;
+      file = value_of (codes "book") rows;
+      point = value_of (codes "point") rows;
+      wait = wait;
+      by_clock = is_set (first_of (codes "clock") rows);
+    })
 
 abbrev pub office_asked : List Row → Wanted
 office_asked rows = office_of rows (side_named (value_of (codes "SIDE") rows)) (wait_asked (first_of (codes "wait") rows))

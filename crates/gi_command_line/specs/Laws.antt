@@ -216,8 +216,11 @@ ExpectedIsItsText =
 abbrev pub words_of_office : List ℕ → Side → List (List ℕ) → List (List ℕ)
 words_of_office program side more = program ∷ codes "office" ∷ side_text side ∷ more
 
+abbrev pub runs_so : Bool → (side : Side) (file point : List ℕ) → ℕ → Wanted
+runs_so by_clock side file point wait = office (record { side = side; file = file; point = point; wait = wait; by_clock = by_clock })
+
 abbrev pub runs : (side : Side) (file point : List ℕ) → ℕ → Wanted
-runs side file point wait = office (record { side = side; file = file; point = point; wait = wait })
+runs side file point wait = runs_so false side file point wait
 
 -- a side with its book and its point asks for its office, for no wait; with `--wait`, for these seconds
 abbrev pub OfficeIsTaken : Type 0
@@ -227,6 +230,12 @@ abbrev pub OfficeWaitIsTaken : Type 0
 OfficeWaitIsTaken =
     (program file point wait : List ℕ) (side : Side) (seconds : ℕ) → wait_named wait ≡ Some seconds
     → AreTaken (words_of_office program side (with_value (codes "wait") wait ∷ book_words file point)) (runs side file point seconds)
+
+-- with `--clock`, by the machine's clock
+abbrev pub OfficeClockIsTaken : Type 0
+OfficeClockIsTaken =
+    (program file point : List ℕ) (side : Side)
+    → AreTaken (words_of_office program side (codes "--clock" ∷ book_words file point)) (runs_so true side file point no_wait)
 
 -- each in two words too, as `office I --book day-I.db --point BORDER-1`, where the file's name begins with `day`, and the point
 -- with `BORDER`

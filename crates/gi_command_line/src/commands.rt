@@ -78,7 +78,8 @@ One operator's office, of SIDE `I` or `M`, which runs as long as standard input 
 book, an SQLite database, which is made where it is not there, and CODE is the interconnection point
 that it is of. With --wait a book that another process has open is tried again for SECONDS (0 to 3600;
 0 where no number is given) before it is Busy. Each line of standard input is a request: a call, in the
-words that a script has behind its SIDE, or a question.
+words that a script has behind its SIDE, or a query. With --clock a line `due MOMENT` comes beside
+these each minute, the first one at once, by the machine's clock.
 
   contract PORTFOLIO DAY DIRECTION FIRM INTERRUPTIBLE      kWh/h in each hour
   notice DAY DIRECTION FIRST LAST FIRM INTERRUPTIBLE       hours, and per mille
@@ -87,6 +88,7 @@ words that a script has behind its SIDE, or a question.
   close DAY CYCLE [RULE]                                   1 or 2; 2 where it is left out
   resend DAY CYCLE
   halt
+  due MOMENT                                               closes what is due at YYYY-MM-DDTHH:MMZ
   outgoing N                                               what the facts from number N on let out
   facts
   report KIND                                              open or confirmed
@@ -107,16 +109,19 @@ portfolio or to the other operator, `peer`:
   {\"fact\":2,\"message\":{..},\"to\":\"A\"}
 
 It comes behind the answer of its fact. No `recorded` and no packet is written before its fact stands in
-the book. A question is answered of what stands there. A reader that died goes on by `outgoing`, from
+the book. A query is answered of what stands there. `due` closes in order each cycle that has started
+and is not closed, of the gas days from the one before MOMENT's to two after it; how many these are is
+told, and then what each came to, as `closed`. A reader that died goes on by `outgoing`, from
 the last fact of which it saw a packet. At the end of standard input all is saved, the book is closed,
 and a last line tells how many facts it has, how many are saved, and how many cycles are confirmed.
 
 Faults, the first of: CodeText (CODE is no code); Head, Store, Version, Gap N, Damaged N, Lost N,
 OtherBook SIDE POINT, BadFact N or Busy, as `serve` tells them of one book; then, behind the lines of
-what was done, Read, Write, Store (a save failed; what was saved before is written) or OutOfMemory.
+what was done, Read, Write, Store (a save failed; what was saved before is written), SeatFull, Unsaved
+or Unsettled (an office gave up, which no run should meet) or OutOfMemory.
 
-Exit status: 0 done, 1 CodeText, Read or Write, 2 wrong command line, 3 any other fault of the book, 4
-want of memory.
+Exit status: 0 done, 1 CodeText, Read, Write or an office that gave up, 2 wrong command line, 3 any
+other fault of the book, 4 want of memory.
 
 Example: gi_dispatch office I --book day-I.db --point BORDER-1 < requests";
 
@@ -387,7 +392,9 @@ fn office_command<'a>(alloc: Global) -> Result<Command<'a>, AllocError>
     let point = "The point that the office is of";
     let command = with_arg(command, needed(alloc, "point", "CODE", point));
     let wait = "How long a book in use is tried again, 0 to 3600";
-    with_arg(command, option(alloc, "wait", "SECONDS", wait))
+    let command = with_arg(command, option(alloc, "wait", "SECONDS", wait));
+    let clock = "Closes what is due by the machine's clock";
+    with_arg(command, flag(alloc, "clock", clock))
 }
 
 fn report_command<'a>(alloc: Global) -> Result<Command<'a>, AllocError>

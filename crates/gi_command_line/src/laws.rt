@@ -1,5 +1,5 @@
 //! What holds of all words. These functions do nothing; their clauses are the laws.
-ghost use Rattle.gi_command_line.specs.Laws.{AboutBookIsTaken, AboutBookNeedsAFile, AuditInWordsIsTaken, AuditIsTaken, AuditNeedsBothBooks, BookInWordsIsTaken, BookIsTaken, BookNeedsItsPoint, ExpectedIsItsText, ExpectedIsNamed, ExpectedIsTaken, ExpectedIsWrong, ExplainIsTaken, ExplainNeedsACycle, ExplainNeedsAnHour, ExplainedBookIsTaken, FormatIsTaken, HourIsMissing, HoursIsTaken, HoursNeedADay, MatchIsTaken, OfficeInWordsIsTaken, OfficeIsOfNoSide, OfficeIsTaken, OfficeNeedsASide, OfficeNeedsItsBook, OfficeNeedsItsPoint, OfficeWaitIsTaken, OfficeWaitIsWrong, OldInMemoryIsTaken, OldIsTaken, PlainAboutBookIsTaken, PlainExplainIsTaken, ReportIsTaken, ReportNeedsASide, ServeIsTaken, SimulateIsTaken, TraceIsTaken, WaitIsItsText, WaitIsNamed, WaitIsTaken, WaitIsWrong};
+ghost use Rattle.gi_command_line.specs.Laws.{AboutBookIsTaken, AboutBookNeedsAFile, AuditInWordsIsTaken, AuditIsTaken, AuditNeedsBothBooks, BookInWordsIsTaken, BookIsTaken, BookNeedsItsPoint, ExpectedIsItsText, ExpectedIsNamed, ExpectedIsTaken, ExpectedIsWrong, ExplainIsTaken, ExplainNeedsACycle, ExplainNeedsAnHour, ExplainedBookIsTaken, FormatIsTaken, HourIsMissing, HoursIsTaken, HoursNeedADay, MatchIsTaken, OfficeClockIsTaken, OfficeInWordsIsTaken, OfficeIsOfNoSide, OfficeIsTaken, OfficeNeedsASide, OfficeNeedsItsBook, OfficeNeedsItsPoint, OfficeWaitIsTaken, OfficeWaitIsWrong, OldInMemoryIsTaken, OldIsTaken, PlainAboutBookIsTaken, PlainExplainIsTaken, ReportIsTaken, ReportNeedsASide, ServeIsTaken, SimulateIsTaken, TraceIsTaken, WaitIsItsText, WaitIsNamed, WaitIsTaken, WaitIsWrong};
 
 /// The program's name, alone or with the word `match`, is a right command line, and asks for `match`.
 pub fn match_is_taken()
@@ -35,11 +35,13 @@ pub fn simulate_is_taken()
 {}
 
 /// So is the program's name with the word `office`, a side, its book's file and its point, which asks for
-/// just that office, and for no wait; with `--wait`, for a wait of these seconds. A side or seconds that are
+/// just that office, for no wait, and by no clock; with `--wait`, for a wait of these seconds, and with
+/// `--clock`, by the machine's clock. A side or seconds that are
 /// none are a wrong command line; without the side, the book or the point, that is missing.
 pub fn office_is_taken()
     ensures taken { OfficeIsTaken }
     ensures waits { OfficeWaitIsTaken }
+    ensures by_clock { OfficeClockIsTaken }
     ensures in_words { OfficeInWordsIsTaken }
     ensures of_no_side { OfficeIsOfNoSide }
     ensures needs_seconds { OfficeWaitIsWrong }

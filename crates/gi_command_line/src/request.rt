@@ -104,6 +104,8 @@ pub struct OfficeRun<'a> {
     pub book: BookFile<'a>,
     /// How long a book that is in use is tried again.
     pub wait: WaitSeconds,
+    /// Whether it is told the time by the machine's clock.
+    pub by_clock: bool,
 }
 
 /// What is wrong with the words of a command, where `clap` objects to nothing.

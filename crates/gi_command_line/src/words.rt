@@ -234,6 +234,7 @@ fn office_of<'a>(matches: &ArgMatches<'a>) -> Task<'a>
             point: word_of(matches, "point"),
         },
         wait,
+        by_clock: is_set(matches, "clock"),
     })
 }
 

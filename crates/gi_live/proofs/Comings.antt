@@ -1,7 +1,6 @@
 -- One line more, and what came of it.
-use Rattle.std.proofs.Common.{◌≡◌, ℕ, suc, ◌+◌, List, [], ◌∷◌, ◌++◌, length, refl, ap, sym, subst, arith, take_all, Option, Some, None, Result, Ok, Err, IfOk, IfErr}
+use Rattle.std.proofs.Common.{◌≡◌, ℕ, suc, ◌+◌, List, [], ◌∷◌, ◌++◌, length, refl, ap, sym, subst, arith, take_all, Option, Result, Ok, Err, IfOk, IfErr}
 use Rattle.std.specs.Prelude.{IsOk}
-use Rattle.std.specs.Io.KnownBytes.{Keeps}
 use Rattle.gi_pairs.specs.declared.side.Side.{Side}
 use Rattle.gi_office.specs.Keeping.{SeatState}
 use Rattle.gi_live.specs.Coming.{ComeAll, IsAskingFault, IsCome}
@@ -10,6 +9,7 @@ use Rattle.gi_live.specs.Telling.{saved_by, step_text}
 use Rattle.gi_live.specs.declared.live_fault.LiveFault.{LiveFault}
 use Rattle.gi_live.specs.declared.live_fault.LiveFault.TheVariants as faults
 use Rattle.gi_live.specs.declared.came.Came.{Came}
+use Rattle.gi_live.proofs.Runnings.{keeps_same}
 
 pub come_more : (side : Side) (old : SeatState) (lines : List (List ℕ)) (cames : List Came) (between : SeatState) (line : List ℕ) (came : Came) (new : SeatState)
     → ComeAll side old lines cames between → IsCome side between line came new → ComeAll side old (lines ++ line ∷ []) (cames ++ came ∷ []) new
@@ -40,17 +40,9 @@ asking_leaves side old lines output (faults.Turn why) is = absurd is
 asking_leaves side old lines output faults.Unsaved is = absurd is
 asking_leaves side old lines output faults.Write is = absurd is
 asking_leaves side old lines output faults.Read is = absurd is
-asking_leaves side old lines output faults.SeatFull is = keeps output
-  where
-    keeps : (o : Option (List ℕ)) → Keeps o o
-    keeps None = tt
-    keeps (Some bytes) = refl
+asking_leaves side old lines output faults.SeatFull is = keeps_same output
 asking_leaves side old lines output (faults.Unsettled why) is = absurd is
-asking_leaves side old lines output faults.OutOfMemory is = keeps output
-  where
-    keeps : (o : Option (List ℕ)) → Keeps o o
-    keeps None = tt
-    keeps (Some bytes) = refl
+asking_leaves side old lines output faults.OutOfMemory is = keeps_same output
 
 -- what is left of a step's text
 leaves_one : (side : Side) (old : LiveState) (lines : List (List ℕ)) (text : List ℕ) (before after : Option (List ℕ)) (fault : LiveFault)

@@ -1,6 +1,6 @@
 -- One part more.
-use Rattle.std.proofs.Common.{◌≡◌, arith, ℕ, List, [], ◌∷◌, ◌++◌, Bool, true, false, refl, sym, ap, subst, ◌∙◌, append_assoc, inl, inr, Option, Some, None, Result, Ok, Err, IfErr, IfOk, OnOk}
-use Rattle.std.specs.Io.KnownBytes.{Appends, Keeps}
+use Rattle.std.proofs.Common.{◌≡◌, ◌+◌, arith, ℕ, List, [], ◌∷◌, ◌++◌, Bool, true, false, refl, sym, ap, subst, ◌∙◌, append_assoc, append-nil, inl, inr, Option, None, Result, Ok, Err, IfErr, IfOk, OnOk}
+use Rattle.std.specs.Io.KnownBytes.{Appends}
 use Rattle.gi_desk.specs.Machine.{DeskState}
 use Rattle.gi_office.specs.Keeping.{SeatState}
 use Rattle.gi_office.specs.Opening.{new_seat}
@@ -8,17 +8,13 @@ use Rattle.gi_pairs.specs.declared.side.Side.{Side}
 use Rattle.gi_live.specs.Lines.{TakesLines, lines_left}
 use Rattle.gi_live.specs.Running.{HasRoom, RunsSome, joined, live}
 use Rattle.gi_live.specs.Answering.{AnswersLine, LeavesAnswer, WritesAnswer, WritesEnding}
-use Rattle.gi_live.specs.Stretches.{Answered, EndsAt, EndsLife, GoesFurther, GoesSome, GoesTo, IsPaused, IsSettlingFault, LeavesBetween, LeavesPart, Part, Parts, Pause, RunsUntil, RunsWhole, StretchesUntil, begun, pause}
+use Rattle.gi_live.specs.Stretches.{Answered, AnswersHere, EndsAt, EndsLife, GoesFurther, GoesSome, GoesTo, IsPaused, IsSettlingFault, LeavesBetween, LeavesHere, LeavesPart, LeftBehind, Part, Parts, Pause, RunsUntil, RunsWhole, StretchesUntil, begun, pause}
 use Rattle.gi_live.specs.declared.live_fault.LiveFault.{LiveFault}
 use Rattle.gi_live.specs.declared.live_fault.LiveFault.TheVariants as faults
 use Rattle.gi_live.specs.declared.running.End.{End}
 use Rattle.gi_live.specs.declared.running.End.TheVariants as ends
 use Rattle.gi_live.proofs.LineLemmas.{ends_at, takes_both, takes_none, takes_same, takes_whole}
-use Rattle.gi_live.proofs.Runnings.{appends_both, appends_none}
-
-pub keeps_same : (output : Option (List ℕ)) → Keeps output output
-keeps_same None = tt
-keeps_same (Some bytes) = refl
+use Rattle.gi_live.proofs.Runnings.{appends_both, appends_none, keeps_same}
 
 -- ---- one after the other
 
@@ -63,26 +59,18 @@ goes_some side old input left before between after reached fault first some = re
 }
 
 -- nothing was made before
-pub leaves_here : (side : Side) (old : Pause) (input : Option (List (List ℕ))) (before after : Option (List ℕ)) (fault : LiveFault)
+pub goes_nowhere : (side : Side) (old : Pause) (input : Option (List (List ℕ))) (before after : Option (List ℕ)) (fault : LiveFault)
     → LeavesPart side old input before after fault → GoesSome side old input before after fault
-leaves_here side old input before after fault leaves =
+goes_nowhere side old input before after fault leaves =
     record { left = input; between = before; reached = old; goes = goes_none side old input before; leaves = leaves }
-
-all_of_one : (lines : List (List ℕ)) → lines ++ [] ≡ lines
-all_of_one [] = refl
-all_of_one (line ∷ lines) = ap (λ l. line ∷ l) (all_of_one lines)
-
-text_of_one : (text : List ℕ) → text ++ [] ≡ text
-text_of_one [] = refl
-text_of_one (byte ∷ text) = ap (λ l. byte ∷ l) (text_of_one text)
 
 pub goes_one : (side : Side) (old : Pause) (input left : Option (List (List ℕ))) (before after : Option (List ℕ)) (lines : List (List ℕ)) (text : List ℕ) (new : Pause)
     → Part side old lines text new → TakesLines input lines left → Appends before after text → GoesTo side old input left before after new
 goes_one side old input left before after lines text new part takes written = record {
   parts = lines ∷ [];
   text = text;
-  goes = (text, [], new, sym (text_of_one text), part, (refl, refl));
-  taken = subst (λ all. TakesLines input all left) (sym (all_of_one lines)) takes;
+  goes = (text, [], new, sym (append-nil text), part, (refl, refl));
+  taken = subst (λ all. TakesLines input all left) (sym (append-nil lines)) takes;
   written = written;
 }
 
@@ -103,18 +91,18 @@ stretched side old input rest before after seat taken end desk runs life = recor
 -- its office was not opened
 pub not_opened : (side : Side) (old : Pause) (input : Option (List (List ℕ))) (before : Option (List ℕ)) (fault : LiveFault)
     → fault ≡ faults.OutOfMemory → GoesSome side old input before before fault
-not_opened side old input before fault is = leaves_here side old input before before fault (inl (inl is, keeps_same before))
+not_opened side old input before fault is = goes_nowhere side old input before before fault (inl (inl is, keeps_same before))
 
 -- a step was not made whole
 pub not_run : (side : Side) (old : Pause) (input : Option (List (List ℕ))) (before after : Option (List ℕ)) (fault : LiveFault)
     → RunsSome side (begun old) input before after fault → GoesSome side old input before after fault
-not_run side old input before after fault some = leaves_here side old input before after fault (inr (inr (inl some)))
+not_run side old input before after fault some = goes_nowhere side old input before after fault (inr (inr (inl some)))
 
 -- its office was not taken apart
 pub not_settled : (side : Side) (old : Pause) (input rest : Option (List (List ℕ))) (before after : Option (List ℕ)) (seat : SeatState) (taken : ℕ) (end : End) (fault : LiveFault)
     → RunsUntil side (begun old) input rest before after seat taken end → IsSettlingFault fault → GoesSome side old input before after fault
 not_settled side old input rest before after seat taken end fault runs why =
-    leaves_here side old input before after fault (inr (inr (inr (record { left = runs.left; reached = _; runs = runs.runs; why = why }))))
+    goes_nowhere side old input before after fault (inr (inr (inr (inl (record { left = runs.left; reached = _; runs = runs.runs; why = why })))))
 
 pub new_room : (seat : SeatState) → seat ≡ new_seat 16 1 → HasRoom seat
 new_room seat is = rw is (λ goes_on. omega arith)
@@ -161,17 +149,19 @@ goes_further side old input rest before between after desk taken ends.Full last 
     (subst (λ p. GoesTo side old input rest before between p) (sym further.0)
     (subst (λ ls. GoesTo side old input ls before between (pause desk taken)) (sym is.behind) (goes_stretch side old input rest before between desk taken ends.Full is)))
 goes_further side old input rest before between after desk taken (ends.Asked line) last now over is further =
-    let answer = further.3 in
+    let answer = further.4 in
     let asked : Answered side (pause desk taken) (line ∷ []) answer.0 (pause last now) =
-    record { paused = paused_of; line = line; are = refl; is_query = is.behind.1; answers = answer.1; new_is = further.0 } in
+    record { paused = further.2; line = line; are = refl; is_query = is.behind.1; answers = answer.1; lines_are = further.0 } in
     goes_both side old input is.left rest before between after (pause desk taken) (pause last now) (goes_stretch side old input rest before between desk taken (ends.Asked line) is)
     (goes_one side (pause desk taken) is.left rest between after (line ∷ []) answer.0 (pause last now) (inr asked) is.behind.0 answer.2)
-  where
-    same : last ≡ desk
-    same = ap (λ (p : Pause). p.desk) further.0
 
-    paused_of : IsPaused desk
-    paused_of = subst (λ d. IsPaused d) same further.2
+-- a query was answered, over the same desk
+pub asked_further : (side : Side) (desk same : DeskState) (taken : ℕ) (line : List ℕ) (end : End) (before after : Option (List ℕ)) (new : DeskState)
+    → end ≡ ends.Asked line → same ≡ desk → IsPaused desk → ((text : List ℕ) × AnswersHere side (pause same taken) line text new × Appends before after text) → IsPaused new
+    → GoesFurther side (pause desk taken) end before after new (taken + 1) false
+asked_further side desk same taken line end before after new asked is paused answers paused_new =
+    subst (λ e. GoesFurther side (pause desk taken) e before after new (taken + 1) false) (sym asked)
+    (refl, refl, paused, paused_new, subst (λ d. (text : List ℕ) × AnswersHere side (pause d taken) line text new × Appends before after text) is answers)
 
 -- the input is at its end where all is over
 pub over_at_end : (side : Side) (old at : Pause) (input rest : Option (List (List ℕ))) (before between after : Option (List ℕ)) (desk : DeskState) (taken : ℕ) (end : End)
@@ -187,27 +177,33 @@ pub paused_else : (side : Side) (at : Pause) (between after : Option (List ℕ))
     → GoesFurther side at end between after last now over → over ≡ false → IsPaused last
 paused_else side at between after ends.Input last now over further going = absurd (let bad : true ≡ false = sym further.1 ∙ going in cc)
 paused_else side at between after ends.Full last now over further going = further.3
-paused_else side at between after (ends.Asked line) last now over further going = further.2
+paused_else side at between after (ends.Asked line) last now over further going = further.3
 
-leaves_between : (side : Side) (old : Pause) (input : Option (List (List ℕ))) (before after : Option (List ℕ)) (fault : LiveFault)
-    → LeavesBetween old.desk before after fault → LeavesPart side old input before after fault
-leaves_between side old input before after faults.OutOfMemory leaves = inl (inl refl, leaves)
-leaves_between side old input before after faults.Unsaved leaves = inl (inr (inr (refl, leaves.1)), leaves.0)
-leaves_between side old input before after faults.Write leaves = inr (inl refl)
-leaves_between side old input before after faults.Read leaves = absurd leaves
-leaves_between side old input before after (faults.Turn why) leaves = absurd leaves
-leaves_between side old input before after faults.SeatFull leaves = absurd leaves
-leaves_between side old input before after (faults.Unsettled why) leaves = absurd leaves
+leaves_here : (side : Side) (old : Pause) (input : Option (List (List ℕ))) (before after : Option (List ℕ)) (fault : LiveFault)
+    → LeavesHere old.desk before after fault → LeavesPart side old input before after fault
+leaves_here side old input before after faults.OutOfMemory leaves = inl (inl refl, leaves)
+leaves_here side old input before after faults.Unsaved leaves = inl (inr (inr (refl, leaves.1)), leaves.0)
+leaves_here side old input before after faults.Write leaves = inr (inl refl)
+leaves_here side old input before after faults.Read leaves = absurd leaves
+leaves_here side old input before after (faults.Turn why) leaves = absurd leaves
+leaves_here side old input before after faults.SeatFull leaves = absurd leaves
+leaves_here side old input before after (faults.Unsettled why) leaves = absurd leaves
+
+leaves_between : (side : Side) (old : Pause) (left rest : Option (List (List ℕ))) (end : End) (before after : Option (List ℕ)) (fault : LiveFault)
+    → LeftBehind left rest end → LeavesBetween side old end before after fault → LeavesPart side old left before after fault
+leaves_between side old left rest end before after fault behind (inl here) = leaves_here side old left before after fault here
+leaves_between side old left rest end before after fault behind (inr (line, moment, is, asks, leaves)) =
+    inr (inr (inr (inr (record { line = line; rest = rest; takes = (subst (λ e. LeftBehind left rest e) is behind).0; moment = moment; asks = asks; leaves = leaves }))))
 
 -- behind the stretch it was not made
 pub not_further : (side : Side) (old : Pause) (input rest : Option (List (List ℕ))) (before between after : Option (List ℕ)) (desk : DeskState) (taken : ℕ) (end : End) (fault : LiveFault)
-    → StretchesUntil side old input rest before between desk taken end → LeavesBetween desk between after fault → GoesSome side old input before after fault
+    → StretchesUntil side old input rest before between desk taken end → LeavesBetween side (pause desk taken) end between after fault → GoesSome side old input before after fault
 not_further side old input rest before between after desk taken end fault is leaves = record {
   left = is.left;
   between = between;
   reached = pause desk taken;
   goes = goes_stretch side old input rest before between desk taken end is;
-  leaves = leaves_between side (pause desk taken) is.left between after fault leaves;
+  leaves = leaves_between side (pause desk taken) is.left rest end between after fault is.behind leaves;
 }
 
 -- ---- what is written

@@ -5,3 +5,5 @@ mod Lives
 mod Runnings
 mod Goings
 mod Queried
+mod Closings
+mod Dues

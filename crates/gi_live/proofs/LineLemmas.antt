@@ -1,5 +1,5 @@
 -- A line that is read up to its line feed, and with it, is the first one of what is left.
-use Rattle.std.proofs.Common.{◌≡◌, ℕ, Bool, true, false, ◌==◌, ◌||◌, List, [], ◌∷◌, ◌++◌, refl, ap, sym, subst, ◌∙◌, Option, Some, None, IfSome, append_assoc}
+use Rattle.std.proofs.Common.{◌≡◌, ℕ, Bool, true, false, ◌==◌, ◌||◌, List, [], ◌∷◌, ◌++◌, refl, ap, sym, subst, ◌∙◌, Option, Some, None, IfSome, append_assoc, append-nil}
 use Rattle.std.specs.List.{list_any, onto_first}
 use Rattle.std.specs.Io.BufRead.{take_through, drop_through, DropsThrough}
 use Rattle.gi_live.specs.Lines.{IsAtEnd, TakesLines, TakesNext, given_lines, is_alone, is_halt, is_query, lines_left}
@@ -89,15 +89,11 @@ takes_both (Some all) (Some middle) None taken more first next = absurd next
 takes_both (Some all) (Some middle) (Some left) taken more first next =
     first ∙ ap (λ ls. taken ++ ls) next ∙ sym (append_assoc taken more left)
 
-none_more : (xs : List (List ℕ)) → xs ++ [] ≡ xs
-none_more [] = refl
-none_more (x ∷ xs) = ap (λ l. x ∷ l) (none_more xs)
-
 -- the same where no further line was taken
 pub takes_same : (old between new : Option (List (List ℕ))) (taken : List (List ℕ)) → TakesLines old taken between → TakesLines between [] new
     → TakesLines old taken new
 takes_same old between new taken first next =
-    subst (λ ls. TakesLines old ls new) (none_more taken) (takes_both old between new taken [] first next)
+    subst (λ ls. TakesLines old ls new) (append-nil taken) (takes_both old between new taken [] first next)
 
 -- the line that was kept back is the next one
 pub takes_kept : (line : List ℕ) (remaining : Option (List ℕ)) → TakesLines (lines_left (Some line) remaining) (line ∷ []) (lines_left None remaining)
@@ -116,7 +112,7 @@ pub takes_all : (input : Option (List ℕ)) (left : Option (List (List ℕ))) (a
     → IfSome input (λ bytes. given_lines bytes ≡ all)
 takes_all None left all takes end = tt
 takes_all (Some bytes) None all takes end = absurd takes
-takes_all (Some bytes) (Some rest) all takes end = takes ∙ ap (λ ls. all ++ ls) end ∙ none_more all
+takes_all (Some bytes) (Some rest) all takes end = takes ∙ ap (λ ls. all ++ ls) end ∙ append-nil all
 
 -- the end of what is left, where the input is known
 pub ends_at : (input left rest : Option (List (List ℕ))) (lines : List (List ℕ)) → TakesLines input lines left → IsAtEnd left → TakesLines left [] rest → EndsAt input rest

@@ -1,10 +1,10 @@
 -- What the words of a query ask, by the first one, and what a line asks that is ended.
-use Rattle.std.proofs.Common.{◌≡◌, ℕ, List, refl, subst, sym, ◌∙◌, Option, Some, None}
+use Rattle.std.proofs.Common.{◌≡◌, ℕ, ℤ, List, refl, subst, sym, ◌∙◌, Option, Some, None}
 use Rattle.gi_explanations.specs.declared.question.Question.{Question}
 use Rattle.gi_script.specs.Reading.{Finds}
 use Rattle.gi_live.specs.Answering.{AsksGiven}
 use Rattle.gi_live.specs.Lines.{IsEnded}
-use Rattle.gi_live.specs.Queries.{AsksQuery, SaysKind, SaysQuantity, SaysQuery, SaysStart}
+use Rattle.gi_live.specs.Queries.{AsksQuery, SaysKind, SaysMoment, SaysQuantity, SaysQuery, SaysStart}
 use Rattle.gi_live.specs.declared.query.Query.{Query}
 use Rattle.gi_live.specs.declared.query.Query.TheVariants as queries
 use Rattle.gi_live.specs.declared.query.QueryWord.{QueryWord}
@@ -26,6 +26,13 @@ no_quantity word words found is none quantity = rw (is, none) (λ query says. qu
 pub quantity : (word : QueryWord) (words : List (List ℕ)) (question : Question) → word ≡ query_words.Explain → SaysQuantity words question
     → SaysQuery word words (queries.Explain question)
 quantity word words question is says = rw is (question, refl, says)
+
+pub no_moment : (word : QueryWord) (words : List (List ℕ)) (found : Option Query) → word ≡ query_words.Due → found ≡ None → Finds (SaysMoment words) None
+    → Finds (SaysQuery word words) found
+no_moment word words found is none moment = rw (is, none) (λ query says. moment says.0 says.2)
+
+pub moment : (word : QueryWord) (words : List (List ℕ)) (at : ℤ) → word ≡ query_words.Due → SaysMoment words at → SaysQuery word words (queries.Due at)
+moment word words at is says = rw is (at, refl, says)
 
 pub given_is : (given text : List ℕ) (found : Option Query) → IsEnded given text → Finds (AsksQuery text) found → Finds (AsksGiven given) found
 given_is given text (Some query) ended asks = (text, ended, asks)

@@ -1,5 +1,5 @@
 -- One step more.
-use Rattle.std.proofs.Common.{◌≡◌, ℕ, Bool, true, false, List, [], ◌∷◌, ◌++◌, refl, sym, ap, subst, ◌∙◌, append_assoc, ◌⊎◌, inl, inr, Option, Some, None}
+use Rattle.std.proofs.Common.{◌≡◌, ℕ, Bool, true, false, List, [], ◌∷◌, ◌++◌, refl, sym, ap, subst, ◌∙◌, append_assoc, append-nil, ◌⊎◌, inl, inr, Option, Some, None}
 use Rattle.std.specs.List.{list_any}
 use Rattle.std.specs.Io.KnownBytes.{Appends, Keeps}
 use Rattle.gi_office.specs.Keeping.{SeatState}
@@ -13,22 +13,14 @@ use Rattle.gi_live.specs.declared.live_fault.LiveFault.{LiveFault}
 use Rattle.gi_live.specs.declared.live_fault.LiveFault.TheVariants as faults
 use Rattle.gi_live.proofs.LineLemmas.{takes_both, takes_none}
 
-append_none : (xs : List ℕ) → xs ++ [] ≡ xs
-append_none [] = refl
-append_none (x ∷ xs) = ap (λ l. x ∷ l) (append_none xs)
-
-none_of_lines : (xs : List (List ℕ)) → xs ++ [] ≡ xs
-none_of_lines [] = refl
-none_of_lines (x ∷ xs) = ap (λ l. x ∷ l) (none_of_lines xs)
-
 joined_more : (pieces : List (List (List ℕ))) (piece : List (List ℕ)) → joined (pieces ++ piece ∷ []) ≡ joined pieces ++ piece
-joined_more [] piece = none_of_lines piece
+joined_more [] piece = append-nil piece
 joined_more (first ∷ pieces) piece = ap (λ l. first ++ l) (joined_more pieces piece) ∙ sym (append_assoc first (joined pieces) piece)
 
 runs_more : (side : Side) (old : LiveState) (pieces : List (List (List ℕ))) (text : List ℕ) (between : LiveState) (piece : List (List ℕ)) (more : List ℕ) (new : LiveState)
     → Runs side old pieces text between → Steps side between piece more new → Runs side old (pieces ++ piece ∷ []) (text ++ more) new
 runs_more side old [] text between piece more new runs step =
-    (more, [], new, ap (λ l. l ++ more) runs.0 ∙ sym (append_none more), subst (λ state. Steps side state piece more new) runs.1 step, (refl, refl))
+    (more, [], new, ap (λ l. l ++ more) runs.0 ∙ sym (append-nil more), subst (λ state. Steps side state piece more new) runs.1 step, (refl, refl))
 runs_more side old (first ∷ pieces) text between piece more new runs step = (
   runs.0,
   runs.1 ++ more,
@@ -40,7 +32,7 @@ runs_more side old (first ∷ pieces) text between piece more new runs step = (
 
 pub appends_none : (old : Option (List ℕ)) → Appends old old []
 appends_none None = tt
-appends_none (Some xs) = sym (append_none xs)
+appends_none (Some xs) = sym (append-nil xs)
 
 pub appends_both : (old between new : Option (List ℕ)) (xs ys : List ℕ) → Appends old between xs → Appends between new ys → Appends old new (xs ++ ys)
 appends_both None between new xs ys first next = tt
@@ -48,9 +40,9 @@ appends_both (Some bytes) None new xs ys first next = absurd first
 appends_both (Some bytes) (Some middle) None xs ys first next = absurd next
 appends_both (Some bytes) (Some middle) (Some all) xs ys first next = next ∙ ap (λ l. l ++ ys) first ∙ append_assoc bytes xs ys
 
-keeps_all : (output : Option (List ℕ)) → Keeps output output
-keeps_all None = tt
-keeps_all (Some bytes) = refl
+pub keeps_same : (output : Option (List ℕ)) → Keeps output output
+keeps_same None = tt
+keeps_same (Some bytes) = refl
 
 -- no step was made yet
 pub none_run : (side : Side) (old : LiveState) (input : Option (List (List ℕ))) (before : Option (List ℕ)) → RunsTo side old input input before before old
@@ -109,7 +101,7 @@ pub none_taken : (side : Side) (old : LiveState) (input left : Option (List (Lis
     → RunsTo side old input left before between reached → (fault ≡ faults.Read) ⊎ (fault ≡ faults.OutOfMemory) → RunsSome side old input before between fault
 none_taken side old input left before between reached fault runs (inl is) =
     some_run side old input left before between between reached [] left fault runs (takes_none left)
-    (subst (λ why. LeavesStep side reached [] between between why) (sym is) (keeps_all between))
+    (subst (λ why. LeavesStep side reached [] between between why) (sym is) (keeps_same between))
 none_taken side old input left before between reached fault runs (inr is) =
     some_run side old input left before between between reached [] left fault runs (takes_none left)
-    (subst (λ why. LeavesStep side reached [] between between why) (sym is) (keeps_all between))
+    (subst (λ why. LeavesStep side reached [] between between why) (sym is) (keeps_same between))

@@ -1,5 +1,5 @@
 -- The answers to queries, of a desk as it stands between two stretches, and the last line of a run.
-use Rattle.std.specs.Prelude.{◌≡◌, ◌⊎◌, ◌≤◌, ◌<◌, ℕ, zero, suc, ◌-◌, ◌==◌, List, [], ◌∷◌, ◌++◌, codes, filter, length, map, nat_le, take, if◌then◌else◌, Option, None, Some}
+use Rattle.std.specs.Prelude.{◌≡◌, ◌⊎◌, ◌≤◌, ◌<◌, ℕ, ℤ, zero, suc, ◌-◌, ◌==◌, List, [], ◌∷◌, ◌++◌, codes, filter, length, map, nat_le, take, if◌then◌else◌, Option, None, Some}
 use Rattle.std.specs.Fmt.{decimal}
 use Rattle.std.specs.Io.KnownBytes.{Appends, Keeps}
 use Rattle.json.specs.Print.{print}
@@ -92,16 +92,22 @@ explained_text line text =
 
 -- ---- any of them
 
--- what is told of a desk to a query on the line of this number
+-- What is told of a desk to a query on the line of this number. Of cycles that are due nothing is told, but they are closed.
 abbrev pub Tells : Side → DeskState → ℕ → Query → List ℕ → Type 0
 Tells side desk line (queries.Outgoing from) text = text ≡ outgoing_text side desk line from
 Tells side desk line queries.Facts text = text ≡ facts_text desk line
 Tells side desk line (queries.Report kind) text = (lines : List ℕ) × IsRows side desk kind lines × (text ≡ report_text line kind lines)
 Tells side desk line (queries.Explain question) text = text ≡ explained_text line (explanation side desk question)
+Tells side desk line (queries.Due moment) text = ⊥
 
 -- a line that is ended asks it
 abbrev pub AsksGiven : List ℕ → Query → Type 0
 AsksGiven given query = (line : List ℕ) × IsEnded given line × AsksQuery line query
+
+-- a line that is not too long asks that the cycles be closed which are due at the moment
+pub record AsksDue (given : List ℕ) (moment : ℤ) : Type 0 where
+  pub within : length given ≤ most_line
+  pub asks : AsksGiven given (queries.Due moment)
 
 -- a line that is not too long is the query that it asks
 pub record AnswersQuery (side : Side) (desk : DeskState) (number : ℕ) (given text : List ℕ) : Type 0 where

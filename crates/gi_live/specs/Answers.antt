@@ -1,6 +1,8 @@
 -- The lines that a running office writes: what came of each line that it was given, and each packet that it lets out.
 use Rattle.std.specs.Prelude.{ℕ, List, [], ◌++◌, codes, Option, None, Some}
 use Rattle.std.specs.Fmt.{decimal}
+use Rattle.gi_day.specs.Day.{day_text}
+use Rattle.gi_pairs.specs.declared.cycle_id.CycleId.{CycleId}
 use Rattle.gi_desk.specs.FaultText.{refusal_text}
 use Rattle.gi_desk.specs.declared.packet.Packet.{Packet}
 use Rattle.gi_desk.specs.declared.packet.Recipient.{Recipient}
@@ -28,6 +30,17 @@ answer_text line (Saved n) portfolio = codes "{\"answer\":\"saved\",\"fact\":" +
 answer_text line Resent portfolio = codes "{\"answer\":\"resent\",\"line\":" ++ (decimal line ++ codes "}\n")
 answer_text line Stopped portfolio = codes "{\"answer\":\"stopped\",\"line\":" ++ (decimal line ++ codes "}\n")
 answer_text line (Refused refusal) portfolio = refused_text line (refusal_text refusal) portfolio
+
+-- `{"answer":"due","cycles":2,"line":7}`: how many cycles are closed, each of which has an answer of its own
+abbrev pub due_text : ℕ → ℕ → List ℕ
+due_text line cycles = codes "{\"answer\":\"due\",\"cycles\":" ++ (decimal cycles ++ (codes ",\"line\":" ++ (decimal line ++ codes "}\n")))
+
+-- `{"answer":"closed","cycle":35,"day":"2026-01-15","fact":9,"line":7}`: a cycle that is closed since it is due
+abbrev pub closed_text : ℕ → CycleId → Answer → List ℕ
+closed_text line id (Recorded n) =
+    codes "{\"answer\":\"closed\",\"cycle\":" ++ (decimal id.cycle ++ (codes ",\"day\":\"" ++ (day_text id.day
+    ++ (codes "\",\"fact\":" ++ (decimal n ++ (codes ",\"line\":" ++ (decimal line ++ codes "}\n")))))))
+closed_text line id answer = answer_text line answer None
 
 -- ---- a packet
 

@@ -16,7 +16,7 @@ use Rattle.gi_simulation.specs.Refused.{portfolio_in}
 use Rattle.gi_live.specs.Lines.{IsEnded}
 use Rattle.gi_live.specs.Queries.{AsksQuery}
 use Rattle.gi_live.specs.declared.came.Came.{Came}
-use Rattle.gi_live.specs.declared.came.Came.TheVariants.{Unread, Answered}
+use Rattle.gi_live.specs.declared.came.Came.TheVariants.{Unread, Answered, Due, Closed}
 use Rattle.gi_live.specs.declared.live_fault.LiveFault.{LiveFault}
 use Rattle.gi_live.specs.declared.live_fault.LiveFault.TheVariants as faults
 use Rattle.gi_live.specs.declared.came.UnreadLine.{UnreadLine}
@@ -40,12 +40,16 @@ named_beside call answer = None
 -- the reply, and the portfolio that is named beside the last one of these notes
 abbrev pub IsNamed : List Note → Reply → Came → Type 0
 IsNamed notes reply (Unread reason) = ⊥
+IsNamed notes reply (Due cycles) = ⊥
+IsNamed notes reply (Closed id told) = ⊥
 IsNamed notes reply (Answered told portfolio) =
     (told ≡ reply) × ((before : List Note) (last : Note) → notes ≡ before ++ last ∷ [] → portfolio ≡ named_beside last.call last.reply.answer)
 
 -- The call is made from the seat, which notes it with the reply, and the portfolio is named that belongs there.
 abbrev pub IsMade : Side → SeatState → Call → Came → SeatState → Type 0
 IsMade side old call (Unread reason) new = ⊥
+IsMade side old call (Due cycles) new = ⊥
+IsMade side old call (Closed id reply) new = ⊥
 IsMade side old call (Answered reply portfolio) new =
     (receipt : Receipt) × IsReceipt side old call receipt × (new ≡ noted old call receipt) × (reply ≡ receipt.reply)
     × (portfolio ≡ named_beside call receipt.reply.answer)
@@ -64,6 +68,8 @@ IsCome side old given (Unread Halted) new = (length given ≤ most_line) × ((li
 IsCome side old given (Unread Unreadable) new =
     (length given ≤ most_line) × ((line : List ℕ) (call : Call) → IsEnded given line → ¬ Asks line call)
     × ((line : List ℕ) (query : Query) → IsEnded given line → ¬ AsksQuery line query) × (new ≡ old)
+IsCome side old given (Due cycles) new = ⊥
+IsCome side old given (Closed id reply) new = ⊥
 IsCome side old given (Answered reply portfolio) new =
     (length given ≤ most_line) × ((line : List ℕ) × (call : Call) × IsEnded given line × Asks line call × IsMade side old call (Answered reply portfolio) new)
 

@@ -1,6 +1,8 @@
 pub mod Answering
 pub mod Answers
+pub mod Closing
 pub mod Coming
+pub mod Due
 pub mod FaultText
 pub mod Lines
 pub mod Queries

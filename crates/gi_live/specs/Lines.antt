@@ -15,7 +15,7 @@ IsEnded given line = given ≡ line ++ line_feed ∷ []
 
 -- the words with which a query begins; no call does
 abbrev pub query_starts : List (List ℕ)
-query_starts = codes "outgoing" ∷ codes "facts" ∷ codes "report" ∷ codes "explain" ∷ []
+query_starts = codes "outgoing" ∷ codes "facts" ∷ codes "report" ∷ codes "explain" ∷ codes "due" ∷ []
 
 -- A line that begins with one of these is a query, if it is a request at all.
 abbrev pub is_query : List ℕ → Bool

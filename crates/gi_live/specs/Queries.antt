@@ -1,8 +1,9 @@
 -- What a line asks of a running office beside a call.
-use Rattle.std.specs.Prelude.{◌≡◌, ◌≤◌, ℕ, List, [], ◌∷◌, codes, find, Option, Some}
+use Rattle.std.specs.Prelude.{◌≡◌, ◌≤◌, ℕ, ℤ, List, [], ◌∷◌, codes, find, Option, Some}
 use Rattle.std.specs.Int.{IsInRange}
 use Rattle.std.specs.Str.{IsUtf8, bytes_eq}
 use Rattle.gi_explanations.specs.declared.question.Question.{Question}
+use Rattle.gi_moments.specs.Moment.{IsMomentText}
 use Rattle.gi_script.specs.Grammar.{IsCodeWord, IsDayWord, IsDirectionWord}
 use Rattle.gi_script.specs.Numbers.{IsCount, IsNumber, most_byte}
 use Rattle.gi_script.specs.Words.{words_of}
@@ -20,9 +21,10 @@ word_text query_words.Outgoing = codes "outgoing"
 word_text query_words.Facts = codes "facts"
 word_text query_words.Report = codes "report"
 word_text query_words.Explain = codes "explain"
+word_text query_words.Due = codes "due"
 
 abbrev pub all_words : List QueryWord
-all_words = query_words.Outgoing ∷ query_words.Facts ∷ query_words.Report ∷ query_words.Explain ∷ []
+all_words = query_words.Outgoing ∷ query_words.Facts ∷ query_words.Report ∷ query_words.Explain ∷ query_words.Due ∷ []
 
 -- the word of that text
 unfoldable pub query_word : List ℕ → Option QueryWord
@@ -68,12 +70,19 @@ pub record SaysQuantity (words : List (List ℕ)) (question : Question) : Type 0
   pub cycles : question.id.cycle ≤ 36
   pub hours : IsInRange 1 25 question.hour
 
+-- `MOMENT`
+pub record SaysMoment (words : List (List ℕ)) (moment : ℤ) : Type 0 where
+  pub word : List ℕ
+  pub are : words ≡ word ∷ []
+  pub is_moment : IsMomentText word moment
+
 -- what the words behind the first one ask
 abbrev pub SaysQuery : QueryWord → List (List ℕ) → Query → Type 0
 SaysQuery query_words.Outgoing words query = (number : ℕ) × (query ≡ queries.Outgoing number) × SaysStart words number
 SaysQuery query_words.Facts words query = (query ≡ queries.Facts) × (words ≡ [])
 SaysQuery query_words.Report words query = (kind : Report) × (query ≡ queries.Report kind) × SaysKind words kind
 SaysQuery query_words.Explain words query = (question : Question) × (query ≡ queries.Explain question) × SaysQuantity words question
+SaysQuery query_words.Due words query = (moment : ℤ) × (query ≡ queries.Due moment) × SaysMoment words moment
 
 -- A line asks it: it is UTF-8, and its words are parted by one space each.
 pub record AsksQuery (line : List ℕ) (query : Query) : Type 0 where

@@ -1,12 +1,15 @@
 -- Stretches: an office over a desk, which runs over some lines and is settled; and what is made between two of them.
-use Rattle.std.specs.Prelude.{◌≡◌, ◌⊎◌, ℕ, ◌+◌, List, [], ◌∷◌, ◌++◌, Bool, false, length, true, Option, None, Some, IfSome}
+use Rattle.std.specs.Prelude.{◌≡◌, ◌⊎◌, ℕ, ℤ, ◌+◌, List, [], ◌∷◌, ◌++◌, Bool, false, length, true, Option, None, Some, IfSome}
 use Rattle.std.specs.Io.KnownBytes.{Appends, Keeps}
 use Rattle.gi_desk.specs.Machine.{DeskState}
 use Rattle.gi_office.specs.Keeping.{HeldInvariant, HeldState, SeatState}
 use Rattle.gi_office.specs.Opening.{new_seat}
 use Rattle.gi_office.specs.Settling.{AreSettled}
+use Rattle.gi_pairs.specs.declared.cycle_id.CycleId.{CycleId}
 use Rattle.gi_pairs.specs.declared.side.Side.{Side}
-use Rattle.gi_live.specs.Answering.{AnswersLine, IsEnding}
+use Rattle.gi_live.specs.Answering.{AnswersLine, AsksDue, IsEnding}
+use Rattle.gi_live.specs.Closing.{Closings, ClosingsSome}
+use Rattle.gi_live.specs.Due.{AreDue}
 use Rattle.gi_live.specs.Lines.{IsAtEnd, TakesLines, given_lines, is_query}
 use Rattle.gi_live.specs.Running.{LiveState, Runs, RunsSome, RunsTo, has_halted, joined, live}
 use Rattle.gi_live.specs.declared.live_fault.LiveFault.{LiveFault}
@@ -93,30 +96,68 @@ pub record StretchesUntil (side : Side) (old : Pause) (input rest : Option (List
 
 -- ---- a query
 
--- It is answered of the desk, all of whose facts are saved, and no call is made.
+-- The cycles that are due were closed, by an office over the desk, which was settled then.
+pub record DueClosed (side : Side) (old : Pause) (moment : ℤ) (text : List ℕ) (desk : DeskState) : Type 0 where
+  pub ids : List CycleId
+  pub due : AreDue old.desk.facts moment ids
+  pub seat : SeatState
+  pub closings : Closings side (new_seat 16 1) old.desk.saved (old.lines + 1) ids text seat
+  pub life : EndsLife side seat desk
+
+-- The line is answered of the desk, and no call is made; or it asks for what is due, which is closed.
+abbrev pub AnswersHere : Side → Pause → List ℕ → List ℕ → DeskState → Type 0
+AnswersHere side old line text desk =
+    (AnswersLine side old.desk (old.lines + 1) line text × (desk ≡ old.desk)) ⊎ ((moment : ℤ) × AsksDue line moment × DueClosed side old moment text desk)
+
+-- a query over a desk, all of whose facts are saved
 pub record Answered (side : Side) (old : Pause) (lines : List (List ℕ)) (text : List ℕ) (new : Pause) : Type 0 where
   pub paused : IsPaused old.desk
   pub line : List ℕ
   pub are : lines ≡ line ∷ []
   pub is_query : is_query line ≡ true
-  pub answers : AnswersLine side old.desk (old.lines + 1) line text
-  pub new_is : new ≡ pause old.desk (old.lines + 1)
+  pub answers : AnswersHere side old line text new.desk
+  pub lines_are : new.lines ≡ old.lines + 1
 
 -- What is made behind a stretch, by why it ended: all is over, or a further one can be opened over the desk, once the query is answered.
 abbrev pub GoesFurther : Side → Pause → End → Option (List ℕ) → Option (List ℕ) → DeskState → ℕ → Bool → Type 0
 GoesFurther side old ends.Input before after desk taken over = (pause desk taken ≡ old) × (over ≡ true) × (after ≡ before)
 GoesFurther side old ends.Full before after desk taken over = (pause desk taken ≡ old) × (over ≡ false) × (after ≡ before) × IsPaused desk
 GoesFurther side old (ends.Asked line) before after desk taken over =
-    (pause desk taken ≡ pause old.desk (old.lines + 1)) × (over ≡ false) × IsPaused desk
-    × ((text : List ℕ) × AnswersLine side old.desk (old.lines + 1) line text × Appends before after text)
+    (taken ≡ old.lines + 1) × (over ≡ false) × IsPaused old.desk × IsPaused desk
+    × ((text : List ℕ) × AnswersHere side old line text desk × Appends before after text)
 
 -- What is written where it is not made: nothing, where memory ran out, or the desk is halted or has facts that are not saved. What a
 -- writer holds that failed is not said.
-abbrev pub LeavesBetween : DeskState → Option (List ℕ) → Option (List ℕ) → LiveFault → Type 0
-LeavesBetween desk before after faults.OutOfMemory = Keeps before after
-LeavesBetween desk before after faults.Unsaved = Keeps before after × ¬ (IsPaused desk)
-LeavesBetween desk before after faults.Write = Unit {0}
-LeavesBetween desk before after _ = ⊥
+abbrev pub LeavesHere : DeskState → Option (List ℕ) → Option (List ℕ) → LiveFault → Type 0
+LeavesHere desk before after faults.OutOfMemory = Keeps before after
+LeavesHere desk before after faults.Unsaved = Keeps before after × ¬ (IsPaused desk)
+LeavesHere desk before after faults.Write = Unit {0}
+LeavesHere desk before after _ = ⊥
+
+-- the closings of the cycles that are due were made, and not all was saved, or their office was not taken apart
+pub record DueCut (side : Side) (old : Pause) (moment : ℤ) (text : List ℕ) : Type 0 where
+  pub ids : List CycleId
+  pub due : AreDue old.desk.facts moment ids
+  pub closings : ClosingsSome side (new_seat 16 1) old.desk.saved (old.lines + 1) ids text
+
+-- what these wrote
+abbrev pub WritesCut : Side → Pause → ℤ → Option (List ℕ) → Option (List ℕ) → Type 0
+WritesCut side old moment before after = (text : List ℕ) × DueCut side old moment text × Appends before after text
+
+-- What is written where the cycles that are due are not closed, or not all is saved; nothing where that could not begin.
+abbrev pub LeavesDue : Side → Pause → ℤ → Option (List ℕ) → Option (List ℕ) → LiveFault → Type 0
+LeavesDue side old moment before after (faults.Turn fault) = WritesCut side old moment before after
+LeavesDue side old moment before after faults.Unsaved = WritesCut side old moment before after
+LeavesDue side old moment before after (faults.Unsettled fault) = WritesCut side old moment before after
+LeavesDue side old moment before after faults.OutOfMemory = Keeps before after ⊎ WritesCut side old moment before after
+LeavesDue side old moment before after faults.SeatFull = Keeps before after
+LeavesDue side old moment before after faults.Write = Unit {0}
+LeavesDue side old moment before after faults.Read = ⊥
+
+abbrev pub LeavesBetween : Side → Pause → End → Option (List ℕ) → Option (List ℕ) → LiveFault → Type 0
+LeavesBetween side old end before after fault =
+    LeavesHere old.desk before after fault
+    ⊎ ((line : List ℕ) × (moment : ℤ) × (end ≡ ends.Asked line) × AsksDue line moment × LeavesDue side old moment before after fault)
 
 -- ---- one after the other
 
@@ -150,13 +191,22 @@ pub record IsLeft (side : Side) (old : Pause) (input : Option (List (List ℕ)))
   pub runs : RunsTo side (begun old) input left before after reached
   pub why : IsSettlingFault fault
 
+-- the line that was taken asks for what is due, which was not closed, or not all of it saved
+pub record IsCut (side : Side) (old : Pause) (input : Option (List (List ℕ))) (before after : Option (List ℕ)) (fault : LiveFault) : Type 0 where
+  pub line : List ℕ
+  pub rest : Option (List (List ℕ))
+  pub takes : TakesLines input (line ∷ []) rest
+  pub moment : ℤ
+  pub asks : AsksDue line moment
+  pub leaves : LeavesDue side old moment before after fault
+
 -- What is written where a part is not made whole: nothing, where memory ran out before it, the input has too many lines, or the desk that
 -- came back is halted or has facts that are not saved; the steps before the one that was not made whole; those whose office was not taken
--- apart. What a writer holds that failed is not said.
+-- apart; the closings of what is due. What a writer holds that failed is not said.
 abbrev pub LeavesPart : Side → Pause → Option (List (List ℕ)) → Option (List ℕ) → Option (List ℕ) → LiveFault → Type 0
 LeavesPart side old input before after fault =
     (((fault ≡ faults.OutOfMemory) ⊎ ((fault ≡ faults.Read) ⊎ ((fault ≡ faults.Unsaved) × ¬ (IsPaused old.desk)))) × Keeps before after)
-    ⊎ ((fault ≡ faults.Write) ⊎ (RunsSome side (begun old) input before after fault ⊎ IsLeft side old input before after fault))
+    ⊎ ((fault ≡ faults.Write) ⊎ (RunsSome side (begun old) input before after fault ⊎ (IsLeft side old input before after fault ⊎ IsCut side old input before after fault)))
 
 -- parts of first lines, and a further one that was not made whole
 pub record GoesSome (side : Side) (old : Pause) (input : Option (List (List ℕ))) (before after : Option (List ℕ)) (fault : LiveFault) : Type 0 where

@@ -1,12 +1,12 @@
 -- What is written of what came of the lines, and of what was saved.
 use Rattle.std.specs.Prelude.{ℕ, ◌+◌, List, [], ◌∷◌, ◌++◌, codes, flat_map, Bool, true, nat_le, if◌then◌else◌, Option, None, Some}
-use Rattle.gi_live.specs.Answers.{answer_text, packet_text, refused_text}
+use Rattle.gi_live.specs.Answers.{answer_text, closed_text, due_text, packet_text, refused_text}
 use Rattle.gi_desk.specs.declared.packet.Packet.{Packet}
 use Rattle.gi_desk.specs.declared.reply.Answer.{Answer}
 use Rattle.gi_desk.specs.declared.reply.Answer.TheVariants as answers
 use Rattle.gi_office.specs.declared.note.Note.{Note}
 use Rattle.gi_live.specs.declared.came.Came.{Came}
-use Rattle.gi_live.specs.declared.came.Came.TheVariants.{Unread, Answered}
+use Rattle.gi_live.specs.declared.came.Came.TheVariants.{Unread, Answered, Due, Closed}
 use Rattle.gi_live.specs.declared.came.UnreadLine.{UnreadLine}
 use Rattle.gi_live.specs.declared.came.UnreadLine.TheVariants.{Unreadable, TooLarge, Halted}
 
@@ -44,6 +44,8 @@ may_tell saved _ = true
 abbrev pub may_tell_of : ℕ → Came → Bool
 may_tell_of saved (Unread line) = true
 may_tell_of saved (Answered reply portfolio) = may_tell saved reply.answer
+may_tell_of saved (Due cycles) = true
+may_tell_of saved (Closed id reply) = may_tell saved reply.answer
 
 -- ---- the text
 
@@ -55,15 +57,24 @@ packets_text fact packets = flat_map (packet_text fact) packets
 abbrev pub came_text : ℕ → Came → List ℕ
 came_text line (Unread reason) = refused_text line (unread_text reason) None
 came_text line (Answered reply portfolio) = answer_text line reply.answer portfolio ++ packets_text (fact_in reply.answer) reply.out
+came_text line (Due cycles) = due_text line cycles
+came_text line (Closed id reply) = closed_text line id reply.answer ++ packets_text (fact_in reply.answer) reply.out
 
 -- the same, where it may be told
 abbrev pub told_text : ℕ → ℕ → Came → List ℕ
 told_text saved line came = if may_tell_of saved came then came_text line came else []
 
+-- the number of the line of which the next one comes: what comes of cycles that are due is all of one line
+abbrev pub line_behind : ℕ → Came → ℕ
+line_behind line (Unread reason) = line + 1
+line_behind line (Answered reply portfolio) = line + 1
+line_behind line (Due cycles) = line
+line_behind line (Closed id reply) = line
+
 -- what came of the lines from this number on, in order
 abbrev pub cames_text : ℕ → ℕ → List Came → List ℕ
 cames_text saved line [] = []
-cames_text saved line (came ∷ cames) = told_text saved line came ++ cames_text saved (line + 1) cames
+cames_text saved line (came ∷ cames) = told_text saved line came ++ cames_text saved (line_behind line came) cames
 
 -- what the mark of a saved fact let out
 abbrev pub mark_text : Note → List ℕ

@@ -1,12 +1,12 @@
 //! The answers to queries, of a desk as it stands between two stretches.
 
-ghost use Rattle.std.specs.Prelude.{◌≡◌, ◌≤◌, ◌++◌, ◌∷◌, [], IfErr, IfOk, None, OnOk, Some, filter, length, map, string_bytes};
+ghost use Rattle.std.specs.Prelude.{◌≡◌, ◌≤◌, ◌++◌, ◌∷◌, [], ℤ, MatchOption, IfErr, IfOk, None, OnOk, Some, filter, length, map, string_bytes};
 ghost use Rattle.std.specs.Option.{option_copied};
 ghost use Rattle.json.specs.Print.{print};
 ghost use Rattle.json.specs.Token.{Token};
 ghost use Rattle.gi_reports.specs.Counts.{is_confirmed};
 ghost use Rattle.gi_script.specs.Reading.{Finds};
-ghost use Rattle.gi_live.specs.Answering.{AnswersLine, AsksGiven, IsEnding, IsRows, LeavesAnswer, Tells, WritesAnswer, WritesEnding, comma_for as comma_for_of, explained_text, fact_line, fact_lines, facts_text, outgoing_at, outgoing_of, outgoing_text, report_start, report_text, rows_text};
+ghost use Rattle.gi_live.specs.Answering.{AnswersLine, AsksDue, AsksGiven, IsEnding, IsRows, LeavesAnswer, Tells, WritesAnswer, WritesEnding, comma_for as comma_for_of, explained_text, fact_line, fact_lines, facts_text, outgoing_at, outgoing_of, outgoing_text, report_start, report_text, rows_text};
 ghost use Rattle.gi_live.specs.Answers.{refused_text};
 ghost use Rattle.gi_live.specs.Queries.{kind_text as kind_text_of};
 ghost use Rattle.gi_live.specs.declared.query.Query.TheVariants as queries;
@@ -22,6 +22,7 @@ use gi_desk::{Desk, Fact, Role};
 use gi_explanations::{Question, explanation};
 use gi_exports::{confirmed_json, open_json};
 use gi_facts::encode_fact;
+use gi_moments::Moment;
 use gi_pairs::CycleId;
 use gi_reports::closed_cycles;
 use gi_text::LINE_FEED;
@@ -241,6 +242,7 @@ fn query_text<R: Role>(
     line: u64,
     query: &Query,
 ) -> Result<Vec<u8>, AllocError>
+    requires { (moment : ℤ) → ¬ (query.now ≡ queries.Due moment) }
     ensures { IfOk result (λ text. Tells R.SIDE desk.now line query.now text.items) }
 {
     match query {
@@ -248,6 +250,7 @@ fn query_text<R: Role>(
         Query::Facts => facts(alloc, desk, line),
         Query::Report(kind) => desk_report(alloc, desk, line, *kind),
         Query::Explain(question) => desk_explanation(alloc, desk, line, question),
+        Query::Due(_) => unreachable!(),
     }
 }
 
@@ -264,12 +267,36 @@ fn query_in(line: &[u8]) -> Option<Query>
     read_query(text_of(line)?)
 }
 
+fn moment_in(query: Query) -> Option<Moment>
+    ensures { MatchOption result ((moment : ℤ) → ¬ (query ≡ queries.Due moment)) (λ moment. query ≡ queries.Due moment) }
+{
+    match query {
+        Query::Due(moment) => Some(moment),
+        _ => None,
+    }
+}
+
+/// The moment at which a line asks for what is due.
+pub(crate) fn due_in(line: &InputLine) -> Option<Moment>
+    ensures { MatchOption result ((moment : ℤ) → ¬ AsksDue line.now moment) (AsksDue line.now) }
+{
+    let line = line.as_slice();
+    if line.len() > MOST_LINE {
+        return None;
+    }
+    match query_in(line) {
+        Some(query) => moment_in(query),
+        None => None,
+    }
+}
+
 fn line_answer<R: Role>(
     alloc: Global,
     desk: &Desk<R>,
     number: u64,
     line: &[u8],
 ) -> Result<Vec<u8>, AllocError>
+    requires { (moment : ℤ) → ¬ AsksDue line.now moment }
     ensures { IfOk result (λ text. AnswersLine R.SIDE desk.now number line.now text.items) }
 {
     if line.len() > MOST_LINE {
@@ -281,7 +308,8 @@ fn line_answer<R: Role>(
     }
 }
 
-/// Writes the answer to a query, which stands on the line of this number. `OutOfMemory`, where nothing is written, and `Write`.
+/// Writes the answer to a query, which stands on the line of this number and does not ask for what is due. `OutOfMemory`, where nothing is
+/// written, and `Write`.
 pub(crate) fn answer_query<R: Role, O: Write>(
     alloc: Global,
     desk: &Desk<R>,
@@ -289,6 +317,7 @@ pub(crate) fn answer_query<R: Role, O: Write>(
     line: &InputLine,
     output: &mut O,
 ) -> Result<(), LiveFault>
+    requires { (moment : ℤ) → ¬ AsksDue line.now moment }
     ensures written { OnOk result (WritesAnswer R.SIDE desk.now number line.now (O.contents output.old) (O.contents output.new)) }
     ensures leaves { IfErr result (LeavesAnswer (O.contents output.old) (O.contents output.new)) }
 {

@@ -60,7 +60,7 @@ fn came_of(alloc: Global, notes: &[Note], receipt: Receipt) -> Result<Came, Live
     }
 }
 
-fn fault_of(fault: OfficeFault) -> LiveFault
+pub(crate) fn fault_of(fault: OfficeFault) -> LiveFault
     ensures { IsAskingFault result }
 {
     match fault {
@@ -142,7 +142,7 @@ fn ask<R: Role, L: Ledger, W: Wait>(
 }
 
 /// Puts what came of a line behind what came of those before it.
-fn add(cames: &mut Vec<Came>, came: Result<Came, LiveFault>) -> Result<(), LiveFault>
+pub(crate) fn add(cames: &mut Vec<Came>, came: Result<Came, LiveFault>) -> Result<(), LiveFault>
     ensures added { OnOk result (IfOk came (λ came. cames.new.items ≡ cames.old.items ++ came ∷ [])) }
     ensures ok { OnOk result (IsOk came) }
     ensures fault { IfErr came IsAskingFault → IfErr result IsAskingFault }

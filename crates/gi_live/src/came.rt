@@ -1,5 +1,5 @@
 use gi_desk::Reply;
-use gi_pairs::Code;
+use gi_pairs::{Code, CycleId};
 
 /// Why a line is not read.
 #[derive(Clone, Copy, Debug, PartialEq, Eq)]
@@ -21,5 +21,14 @@ pub enum Came {
     Answered {
         reply: Reply,
         portfolio: Option<Code>,
+    },
+    /// So many cycles are due, of each of which it is told then what came of its closing.
+    Due {
+        cycles: u64,
+    },
+    /// The office's reply to the closing of a cycle that is due.
+    Closed {
+        id: CycleId,
+        reply: Reply,
     },
 }

@@ -80,6 +80,7 @@ pub(crate) fn is_query(line: &[u8]) -> bool
         || line.starts_with(b"facts")
         || line.starts_with(b"report")
         || line.starts_with(b"explain")
+        || line.starts_with(b"due")
 }
 
 /// Whether one of the lines is a query.

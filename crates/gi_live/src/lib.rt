@@ -28,6 +28,8 @@ mod answer;
 mod answering;
 mod asking;
 mod came;
+mod closing;
+mod due;
 mod input;
 mod live_fault;
 mod living;

@@ -4,13 +4,18 @@ ghost use Rattle.std.specs.Prelude.{◌≡◌, ◌≤◌, ◌<◌, ◌+◌, ◌^
 ghost use Rattle.std.specs.Io.Buffered.{reader_remaining};
 ghost use Rattle.gi_office.specs.Opening.{new_seat};
 ghost use Rattle.gi_live.specs.Lines.{lines_left};
-ghost use Rattle.gi_live.specs.Stretches.{EndsAt, EndsLife, GoesFurther, GoesSome, GoesTo, IsPaused, IsSettlingFault, LeavesBetween, RunsInPart, RunsWhole, StretchesUntil, pause};
+ghost use Rattle.gi_live.specs.Stretches.{AnswersHere, DueClosed, EndsAt, EndsLife, GoesFurther, GoesSome, GoesTo, IsPaused, IsSettlingFault, LeavesBetween, LeavesDue, RunsInPart, RunsWhole, StretchesUntil, pause};
+ghost use Rattle.std.specs.Io.KnownBytes.{Appends};
+ghost use Rattle.std.specs.Prelude.{List, ℕ};
 
-use crate::answering::{answer_query, tell_end};
+use crate::answering::{answer_query, due_in, tell_end};
+use crate::closing::close_cycles;
+use crate::due::due_cycles;
 use crate::input::InputLine;
 use crate::live_fault::LiveFault;
 use crate::running::{End, run};
 use gi_desk::{Desk, Role};
+use gi_moments::Moment;
 use gi_office::{Office, Seat};
 use gi_serving::Turns;
 use std::alloc::Global;
@@ -126,17 +131,110 @@ fn resumed<R: Role>(desk: Desk<R>) -> Result<Desk<R>, LiveFault>
     }
 }
 
-/// What is made between a stretch and the next one, by why it ended: a query is answered.
-fn between<R: Role, O: Write>(
+/// Closes the cycles that are due at the moment, by an office over the desk behind so many lines, which is settled then. The desk comes back.
+fn close_due<R: Role, L: Ledger, B: Turns, T: Wait, O: Write>(
+    rt: &T,
+    alloc: Global,
+    blank: Blank,
+    desk: Desk<R>,
+    book: &mut B,
+    before: u64,
+    moment: Moment,
+    output: &mut O,
+) -> Result<Desk<R>, LiveFault>
+    requires name { blank.name ≡ L.name }
+    requires whole { blank.parts ≡ L.parts }
+    requires parts { blank.parts ≡ 16 }
+    requires paused { IsPaused desk }
+    requires room { before + 1 < 2 ^ 63 }
+    ensures closed { IfOk result (λ new. (text : List ℕ) × DueClosed R.SIDE (pause desk before) moment text new × Appends (O.contents output.old) (O.contents output.new) text) }
+    ensures paused { IfOk result IsPaused }
+    ensures leaves { IfErr result (LeavesDue R.SIDE (pause desk before) moment (O.contents output.old) (O.contents output.new)) }
+{
+    let Ok(ids) = due_cycles(alloc, &desk, moment) else {
+        drop(desk);
+        return Err(LiveFault::OutOfMemory);
+    };
+    let saved = desk.saved();
+    let (office, seat) = match opened::<R, L>(alloc, blank, desk) {
+        Ok(opened) => opened,
+        Err(fault) => {
+            drop(ids);
+            return Err(fault);
+        }
+    };
+    let (seat, end) = close_cycles(
+        rt,
+        alloc,
+        &office,
+        book,
+        seat,
+        saved,
+        before + 1,
+        &ids,
+        output,
+    );
+    drop(ids);
+    if let Err(fault) = end {
+        drop((office, seat));
+        return Err(fault);
+    }
+    match settled(alloc, office, seat) {
+        Ok(desk) => resumed(desk),
+        Err(fault) => Err(fault),
+    }
+}
+
+/// What is made of a query behind so many lines, over a desk, and the desk that comes back.
+fn answered<R: Role, B: Turns, T: Wait, O: Write>(
+    rt: &T,
     alloc: Global,
     desk: Desk<R>,
+    book: &mut B,
+    before: u64,
+    line: &InputLine,
+    output: &mut O,
+) -> Result<Desk<R>, LiveFault>
+    requires paused { IsPaused desk }
+    requires room { before + 1 < 2 ^ 63 }
+    ensures answers { IfOk result (λ new. (text : List ℕ) × AnswersHere R.SIDE (pause desk before) line.now text new × Appends (O.contents output.old) (O.contents output.new) text) }
+    ensures paused { IfOk result IsPaused }
+    ensures leaves { IfErr result (LeavesBetween R.SIDE (pause desk before) (End.Asked line.now) (O.contents output.old) (O.contents output.new)) }
+{
+    if let Some(moment) = due_in(line) {
+        return close_due::<R, Brand, B, T, O>(
+            rt,
+            alloc,
+            Blank::new(16),
+            desk,
+            book,
+            before,
+            moment,
+            output,
+        );
+    }
+    match answer_query(alloc, &desk, before + 1, line, output) {
+        Ok(()) => Ok(desk),
+        Err(fault) => {
+            drop(desk);
+            Err(fault)
+        }
+    }
+}
+
+/// What is made between a stretch and the next one, by why it ended: a query is answered, and what is due is closed.
+fn between<R: Role, B: Turns, T: Wait, O: Write>(
+    rt: &T,
+    alloc: Global,
+    desk: Desk<R>,
+    book: &mut B,
     taken: u64,
     end: End,
     output: &mut O,
 ) -> Result<(Desk<R>, u64, bool), LiveFault>
-    requires room { taken < 2 ^ 63 }
+    requires room { taken + 1 < 2 ^ 63 }
     ensures further { IfOk result (λ it. GoesFurther R.SIDE (pause desk taken) end (O.contents output.old) (O.contents output.new) it.0 it.1 it.2) }
-    ensures leaves { IfErr result (LeavesBetween desk (O.contents output.old) (O.contents output.new)) }
+    ensures leaves { IfErr result (LeavesBetween R.SIDE (pause desk taken) end (O.contents output.old) (O.contents output.new)) }
 {
     let line = match end {
         End::Input => return Ok((desk, taken, true)),
@@ -150,14 +248,11 @@ fn between<R: Role, O: Write>(
             return Err(fault);
         }
     };
-    let answered = answer_query(alloc, &desk, taken + 1, &line, output);
+    let answered = answered(rt, alloc, desk, book, taken, &line, output);
     drop(line);
     match answered {
-        Ok(()) => Ok((desk, taken + 1, false)),
-        Err(fault) => {
-            drop(desk);
-            Err(fault)
-        }
+        Ok(desk) => Ok((desk, taken + 1, false)),
+        Err(fault) => Err(fault),
     }
 }
 
@@ -194,7 +289,7 @@ fn part<R: Role, B: Turns, T: Wait, I: Read, O: Write>(
         Ok(stretch) => stretch,
         Err(fault) => return Err(fault),
     };
-    between(alloc, desk, taken, end, output)
+    between(rt, alloc, desk, book, taken, end, output)
 }
 
 fn run_parts<R: Role, B: Turns, T: Wait, I: Read, O: Write>(

@@ -2,9 +2,10 @@
 
 ghost use Rattle.std.specs.Prelude.{◌≡◌};
 ghost use Rattle.gi_script.specs.Reading.{Finds};
-ghost use Rattle.gi_live.specs.Queries.{AsksQuery, SaysKind, SaysQuantity, SaysQuery, SaysStart, kind_named as kind_of, query_word as query_word_of};
+ghost use Rattle.gi_live.specs.Queries.{AsksQuery, SaysKind, SaysMoment, SaysQuantity, SaysQuery, SaysStart, kind_named as kind_of, query_word as query_word_of};
 
 use gi_explanations::Question;
+use gi_moments::Moment;
 use gi_pairs::{CycleId, Pair};
 use gi_script::Words;
 
@@ -27,6 +28,8 @@ pub enum Query {
     Report(Report),
     /// What a quantity comes from.
     Explain(Question),
+    /// That the cycles be closed which are due at the moment.
+    Due(Moment),
 }
 
 /// The word with which a query begins.
@@ -36,6 +39,7 @@ pub enum QueryWord {
     Facts,
     Report,
     Explain,
+    Due,
 }
 
 #[tactic(auto, unfolding(crate::specs::Queries::query_word))]
@@ -47,6 +51,7 @@ fn query_word(text: &str) -> Option<QueryWord>
         "facts" => Some(QueryWord::Facts),
         "report" => Some(QueryWord::Report),
         "explain" => Some(QueryWord::Explain),
+        "due" => Some(QueryWord::Due),
         _ => None,
     }
 }
@@ -111,6 +116,16 @@ fn quantity(mut words: Words<'_>) -> Option<Question>
     })
 }
 
+fn moment(mut words: Words<'_>) -> Option<Moment>
+    ensures { Finds (SaysMoment words.entry) result }
+{
+    let moment = Moment::read(words.next()?)?;
+    if !words.is_empty() {
+        return None;
+    }
+    Some(moment)
+}
+
 /// What the words behind the first one ask.
 fn query_of(word: QueryWord, words: Words<'_>) -> Option<Query>
     ensures { Finds (SaysQuery word words.entry) result }
@@ -121,6 +136,7 @@ fn query_of(word: QueryWord, words: Words<'_>) -> Option<Query>
         QueryWord::Facts => None,
         QueryWord::Report => Some(Query::Report(kind(words)?)),
         QueryWord::Explain => Some(Query::Explain(quantity(words)?)),
+        QueryWord::Due => Some(Query::Due(moment(words)?)),
     }
 }
 

@@ -77,7 +77,7 @@ fn first_fault(
 }
 
 /// Saves all, and writes what came of the lines from this number on, and what was let out.
-fn save_and_tell<R: Role, L: Ledger, B: Turns, W: Wait, O: Write>(
+pub(crate) fn save_and_tell<R: Role, L: Ledger, B: Turns, W: Wait, O: Write>(
     rt: &W,
     alloc: Global,
     office: &Office<R, L>,

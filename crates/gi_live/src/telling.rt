@@ -1,10 +1,10 @@
 //! What is written of what came of lines, and of what was saved.
 
-ghost use Rattle.std.specs.Prelude.{◌≡◌, ◌+◌, ◌<◌, ◌^◌, ◌++◌, IfOk, OnOk, flat_map, length};
+ghost use Rattle.std.specs.Prelude.{◌≡◌, ◌+◌, ◌<◌, ◌≤◌, ◌^◌, ◌++◌, IfOk, OnOk, flat_map, length};
 ghost use Rattle.std.specs.List.{list_all};
-ghost use Rattle.gi_live.specs.Telling.{came_text as came_text_of, cames_text as cames_text_of, fact_in as fact_in_of, mark_text, may_tell as may_tell_of_answer, may_tell_of, packets_text as packets_text_of, saved_after as saved_after_of, saved_by as saved_by_of, step_text as step_text_of, told_text, unread_text};
+ghost use Rattle.gi_live.specs.Telling.{came_text as came_text_of, cames_text as cames_text_of, fact_in as fact_in_of, line_behind as line_behind_of, mark_text, may_tell as may_tell_of_answer, may_tell_of, packets_text as packets_text_of, saved_after as saved_after_of, saved_by as saved_by_of, step_text as step_text_of, told_text, unread_text};
 
-use crate::answer::{answer_line, refused_line};
+use crate::answer::{answer_line, closed_line, due_line, refused_line};
 use crate::came::{Came, UnreadLine};
 use crate::packet::packet_line;
 use gi_desk::{Answer, Packet};
@@ -55,6 +55,8 @@ fn may_tell(saved: u32, came: &Came) -> bool
     match came {
         Came::Unread(_) => true,
         Came::Answered { reply, .. } => may_tell_answer(saved, reply.answer),
+        Came::Due { .. } => true,
+        Came::Closed { reply, .. } => may_tell_answer(saved, reply.answer),
     }
 }
 
@@ -108,6 +110,27 @@ fn add_came(alloc: Global, text: &mut Vec<u8>, line: u64, came: &Came) -> Result
             text.extend_from_slice(answer.as_bytes())?;
             add_packets(alloc, text, fact_in(reply.answer), reply.out.as_slice())
         }
+        Came::Due { cycles } => {
+            let due = due_line(alloc, line, *cycles)?;
+            text.extend_from_slice(due.as_bytes())
+        }
+        Came::Closed { id, reply } => {
+            let closed = closed_line(alloc, line, *id, reply.answer)?;
+            text.extend_from_slice(closed.as_bytes())?;
+            add_packets(alloc, text, fact_in(reply.answer), reply.out.as_slice())
+        }
+    }
+}
+
+/// The number of the line of which the next one comes: what comes of cycles that are due is all of one line.
+fn line_behind(line: u64, came: &Came) -> u64
+    requires { line + 1 < 2 ^ 64 }
+    ensures value { result ≡ line_behind_of line came.now }
+    ensures next { result ≤ line + 1 }
+{
+    match came {
+        Came::Unread(_) | Came::Answered { .. } => line + 1,
+        Came::Due { .. } | Came::Closed { .. } => line,
     }
 }
 
@@ -140,7 +163,7 @@ fn add_cames(
     let mut number = line;
     for came in cames {
         add_told(alloc, text, saved, number, came)?;
-        number += 1;
+        number = line_behind(number, came);
     }
     Ok(())
 }

@@ -1,4 +1,4 @@
-use Rattle.std.proofs.Common.{◌≡◌, ◌∙◌, ◌++◌, ap, codes, List, [], ◌∷◌, ℕ, Option, None, Some, refl}
+use Rattle.std.proofs.Common.{◌≡◌, ◌∙◌, ◌++◌, ap, codes, List, [], ◌∷◌, ℕ, Option, None, Some, true, refl}
 use Rattle.clap.proofs.OnLiterals.{clap_on_literals}
 use Rattle.clap.specs.declared.error.kind.ErrorKind.TheVariants.{MissingRequiredArgument}
 use Rattle.gi_pairs.specs.Side.{side_named}
@@ -6,7 +6,7 @@ use Rattle.gi_pairs.specs.declared.side.Side.{Side}
 use Rattle.gi_pairs.specs.declared.side.Side.TheVariants.{I, M}
 use Rattle.gi_command_line.specs.Asked.{Wanted, at_once, mistaken}
 use Rattle.gi_command_line.specs.CommandLine.{asked, objections}
-use Rattle.gi_command_line.specs.Laws.{book_in_words, book_words, words_of_office, runs, with_value}
+use Rattle.gi_command_line.specs.Laws.{book_in_words, book_words, words_of_office, runs, runs_so, with_value}
 use Rattle.gi_command_line.specs.Wait.{wait_named}
 use Rattle.gi_command_line.proofs.laws.office_is_taken.Goals as goal
 
@@ -39,6 +39,19 @@ asks_to_wait : (program file point wait : List ℕ) (side : Side)
 unfolding clap_on_literals side_named
 asks_to_wait program file point wait I = refl
 asks_to_wait program file point wait M = refl
+
+abbrev by_clock : (program file point : List ℕ) → Side → List (List ℕ)
+by_clock program file point side = words_of_office program side (codes "--clock" ∷ book_words file point)
+
+no_objection_to_clock : (program file point : List ℕ) (side : Side) → objections (by_clock program file point side) ≡ []
+unfolding clap_on_literals side_named
+no_objection_to_clock program file point I = refl
+no_objection_to_clock program file point M = refl
+
+asks_by_clock : (program file point : List ℕ) (side : Side) → asked (by_clock program file point side) ≡ runs_so true side file point 0
+unfolding clap_on_literals side_named
+asks_by_clock program file point I = refl
+asks_by_clock program file point M = refl
 
 no_objection_in_words : (program file point : List ℕ) (side : Side) → objections (words_of_office program side (book_in_words file point)) ≡ []
 unfolding clap_on_literals side_named
@@ -82,6 +95,9 @@ returns-clause-taken c = λ program file point side. (no_objection program file 
 pub returns-clause-waits : goal.returns-clause-waits
 returns-clause-waits c = λ program file point wait side seconds named.
     (no_objection_to_wait program file point wait side, asks_to_wait program file point wait side ∙ ap (asked_by file point (Some side)) named)
+
+pub returns-clause-by_clock : goal.returns-clause-by_clock
+returns-clause-by_clock c = λ program file point side. (no_objection_to_clock program file point side, asks_by_clock program file point side)
 
 pub returns-clause-in_words : goal.returns-clause-in_words
 returns-clause-in_words c = λ program file point side. (no_objection_in_words program file point side, asks_in_words program file point side)

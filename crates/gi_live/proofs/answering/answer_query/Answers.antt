@@ -1,5 +1,10 @@
 use Rattle.gi_live.proofs.Goings.{writes_answer}
+use Rattle.std.proofs.Common.{subst}
+use Rattle.gi_live.specs.Answering.{AsksDue}
 use Rattle.gi_live.proofs.answering.answer_query.Goals as goal
+
+pub line_answer-requires : goal.line_answer-requires
+line_answer-requires g c moment asks = c.requires moment (subst (λ line. AsksDue line moment) c.as_slice.ensures asks)
 
 pub returns-in-Ok-clause-written : goal.returns-in-Ok-clause-written
 returns-in-Ok-clause-written g c =

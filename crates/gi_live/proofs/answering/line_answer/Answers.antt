@@ -1,6 +1,11 @@
-use Rattle.std.proofs.Common.{inl, inr}
+use Rattle.std.proofs.Common.{inl, inr, subst}
 use Rattle.std.proofs.lemmas.Result.{IfOk-weaker}
+use Rattle.gi_live.specs.Answering.{AsksGiven}
 use Rattle.gi_live.proofs.answering.line_answer.Goals as goal
+
+pub query_text-requires : goal.query_text-requires
+query_text-requires g c moment is =
+    c.requires moment (record { within = c.if-line-gt-MOST_LINE.false; asks = subst (λ query. AsksGiven c.args.line.now query) is c.in-Some.ensures })
 
 pub returns-in-Some : goal.returns-in-Some
 returns-in-Some g c =

@@ -1,6 +1,6 @@
 use Rattle.std.proofs.Common.{arith}
 use Rattle.gi_live.specs.Stretches.{pause}
-use Rattle.gi_live.proofs.Goings.{goes_both, goes_some, not_ended, whole_run}
+use Rattle.gi_live.proofs.Goings.{goes_both, goes_some, not_ended, too_many, whole_run}
 use Rattle.gi_live.proofs.living.run_parts.Goals as goal
 
 pub returns-in-Err-clause-part : goal.returns-in-Err-clause-part
@@ -24,3 +24,6 @@ loop-preserved g c = record {
   few = omega (arith, c.loop.invariant.few, c.in-Ok.ensures.few);
   goes = goes_both g.R.Role.SIDE (pause c.args.desk 0) _ _ _ _ _ _ (pause c.loop.desk c.loop.taken) (pause c.in-Ok.part.0 c.in-Ok.part.1) c.loop.invariant.goes c.in-Ok.ensures.goes;
 }
+
+pub returns-clause-part : goal.returns-clause-part
+returns-clause-part g c = too_many g.R.Role.SIDE (pause c.args.desk 0) _ _ _ _ (pause c.loop.desk c.loop.taken) c.loop.invariant.goes

@@ -1,4 +1,4 @@
-use Rattle.gi_live.proofs.Queried.{no_kind, no_quantity, no_start, quantity}
+use Rattle.gi_live.proofs.Queried.{moment, no_kind, no_moment, no_quantity, no_start, quantity}
 use Rattle.gi_live.proofs.query.query_of.Goals as goal
 
 pub returns-in_err-start-in-Outgoing : goal.returns-in_err-start-in-Outgoing
@@ -16,3 +16,10 @@ returns-in_err-quantity-in-Explain c =
 
 pub returns-in_ok-quantity-in-Explain : goal.returns-in_ok-quantity-in-Explain
 returns-in_ok-quantity-in-Explain c = quantity c.args.word c.args.words c.in_ok-quantity-in-Explain.field-0 c.in-Explain.is c.in_ok-quantity-in-Explain.ensures
+
+pub returns-in_err-moment-in-Due : goal.returns-in_err-moment-in-Due
+returns-in_err-moment-in-Due c =
+    no_moment c.args.word c.args.words c.from_residual-in_err-moment-in-Due.result c.in-Due.is c.from_residual-in_err-moment-in-Due.ensures c.in_err-moment-in-Due.ensures
+
+pub returns-in_ok-moment-in-Due : goal.returns-in_ok-moment-in-Due
+returns-in_ok-moment-in-Due c = moment c.args.word c.args.words c.in_ok-moment-in-Due.field-0 c.in-Due.is c.in_ok-moment-in-Due.ensures
