@@ -65,12 +65,12 @@ the_audit = with_rule (with_rule (with_rule (new_app (codes "audit")) (needed (c
 abbrev pub the_book : App
 the_book = with_rule (with_rule (new_app (codes "book")) (word (codes "FILE"))) (option (codes "expect"))
 
--- the side; its book and the point, which are both needed, how long is waited for the book, and whether it goes by the clock
+-- the side; its book and the point, which are both needed, whether it goes by the clock, and how long is waited for the book
 abbrev pub the_office : App
 the_office =
     let of_side = with_rule (new_app (codes "office")) (word (codes "SIDE")) in
     let in_book = with_rule (with_rule of_side (needed (codes "book"))) (needed (codes "point")) in
-    with_rule (with_rule in_book (option (codes "wait"))) (flag (codes "clock"))
+    with_rule (with_rule in_book (flag (codes "clock"))) (option (codes "wait"))
 
 -- the sessions and the books; how long is waited for these, and whether only old ones are taken
 abbrev pub the_serve : App

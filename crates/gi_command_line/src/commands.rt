@@ -391,10 +391,10 @@ fn office_command<'a>(alloc: Global) -> Result<Command<'a>, AllocError>
     let command = with_arg(command, needed(alloc, "book", "FILE", book));
     let point = "The point that the office is of";
     let command = with_arg(command, needed(alloc, "point", "CODE", point));
-    let wait = "How long a book in use is tried again, 0 to 3600";
-    let command = with_arg(command, option(alloc, "wait", "SECONDS", wait));
     let clock = "Closes what is due by the machine's clock";
-    with_arg(command, flag(alloc, "clock", clock))
+    let command = with_arg(command, flag(alloc, "clock", clock));
+    let wait = "How long a book in use is tried again, 0 to 3600";
+    with_arg(command, option(alloc, "wait", "SECONDS", wait))
 }
 
 fn report_command<'a>(alloc: Global) -> Result<Command<'a>, AllocError>

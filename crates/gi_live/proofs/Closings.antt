@@ -1,12 +1,13 @@
 -- One closing more, and what is written of them.
-use Rattle.std.proofs.Common.{◌≡◌, ℕ, List, [], ◌∷◌, ◌++◌, true, refl, ap, subst, ◌∙◌, Option, Result, Ok, Err, IfOk, IfErr, OnOk}
+use Rattle.std.proofs.Common.{◌≡◌, arith, append-nil, ℕ, List, [], ◌∷◌, ◌++◌, true, refl, ap, subst, ◌∙◌, Option, Result, Ok, Err, IfOk, IfErr, OnOk}
+use Rattle.std.proofs.lemmas.List.Elements.{All-nil}
 use Rattle.std.specs.Prelude.{IsOk}
 use Rattle.std.specs.List.{list_all}
 use Rattle.std.specs.Io.KnownBytes.{Appends}
 use Rattle.gi_office.specs.Keeping.{SeatState}
 use Rattle.gi_pairs.specs.declared.cycle_id.CycleId.{CycleId}
 use Rattle.gi_pairs.specs.declared.side.Side.{Side}
-use Rattle.gi_serving.specs.Asking.{NotesMarks}
+use Rattle.gi_serving.specs.Asking.{IsSilent, NotesMarks, NotesTurns}
 use Rattle.gi_live.specs.Closing.{CloseAll, CloseDue, Closings, ClosingsSome, IsClosing, LeavesClosings, WritesClosings}
 use Rattle.gi_live.specs.Coming.{IsAskingFault}
 use Rattle.gi_live.specs.Running.{LeavesTold, notes_since}
@@ -51,10 +52,10 @@ writes_closings side old saved line ids all between new now before after (Err fa
 
 -- and where not all is saved
 closings_some : (side : Side) (old : SeatState) (saved line : ℕ) (ids : List CycleId) (all : List Came) (between last : SeatState) (now : ℕ)
-    → CloseDue side old ids all between → now ≡ saved_by saved (notes_since between last)
+    → CloseDue side old ids all between → NotesTurns between last → now ≡ saved_by saved (notes_since between last)
     → ClosingsSome side old saved line ids (step_text now line all (notes_since between last))
-closings_some side old saved line ids all between last now closed is =
-    record { all = all; between = between; last = last; closed = closed; text_is = ap (λ n. step_text n line all (notes_since between last)) is }
+closings_some side old saved line ids all between last now closed noted is =
+    record { all = all; between = between; last = last; closed = closed; noted = noted; text_is = ap (λ n. step_text n line all (notes_since between last)) is }
 
 leaves_one : (side : Side) (old : SeatState) (saved line : ℕ) (ids : List CycleId) (text : List ℕ) (before after : Option (List ℕ)) (fault : LiveFault)
     → ClosingsSome side old saved line ids text → LeavesTold text before after fault → LeavesClosings side old saved line ids before after fault
@@ -68,11 +69,11 @@ leaves_one side old saved line ids text before after faults.OutOfMemory some tol
 
 pub leaves_closings : (side : Side) (old : SeatState) (saved line : ℕ) (ids : List CycleId) (all : List Came) (between last : SeatState) (now : ℕ) (before after : Option (List ℕ))
     (result : Result (Unit {0}) LiveFault)
-    → CloseDue side old ids all between → now ≡ saved_by saved (notes_since between last)
+    → CloseDue side old ids all between → NotesTurns between last → now ≡ saved_by saved (notes_since between last)
     → IfErr result (LeavesTold (step_text now line all (notes_since between last)) before after) → IfErr result (LeavesClosings side old saved line ids before after)
-leaves_closings side old saved line ids all between last now before after (Ok done) closed is told = tt
-leaves_closings side old saved line ids all between last now before after (Err fault) closed is told =
-    leaves_one side old saved line ids _ before after fault (closings_some side old saved line ids all between last now closed is) told
+leaves_closings side old saved line ids all between last now before after (Ok done) closed noted is told = tt
+leaves_closings side old saved line ids all between last now before after (Err fault) closed noted is told =
+    leaves_one side old saved line ids _ before after fault (closings_some side old saved line ids all between last now closed noted is) told
 
 -- none was closed
 pub none_closed : (side : Side) (old : SeatState) (saved line : ℕ) (ids : List CycleId) (output : Option (List ℕ)) (fault : LiveFault)
@@ -85,6 +86,16 @@ none_closed side old saved line ids output faults.SeatFull is = keeps_same outpu
 none_closed side old saved line ids output (faults.Unsettled why) is = absurd is
 none_closed side old saved line ids output faults.OutOfMemory is = keeps_same output
 
+of_marks : (old new : SeatState) → NotesMarks old new → NotesTurns old new
+of_marks old new noted = record {
+  marks = noted.marks;
+  are_marks = noted.are_marks;
+  last = [];
+  silent = All-nil IsSilent;
+  few = omega arith;
+  notes_are = ap (λ (seat : SeatState). seat.notes) noted.new_is ∙ ap (λ l. old.notes ++ l) (sym (append-nil noted.marks));
+}
+
 -- all were made, and that is what there is where not all is saved
 pub all_as_some : (side : Side) (old : SeatState) (saved line : ℕ) (ids : List CycleId) (text : List ℕ) (new : SeatState)
     → Closings side old saved line ids text new → ClosingsSome side old saved line ids text
@@ -93,5 +104,6 @@ all_as_some side old saved line ids text new is = record {
   between = is.between;
   last = new;
   closed = is.closed;
+  noted = of_marks is.between new is.marked;
   text_is = is.text_is ∙ ap (λ n. step_text n line is.all (notes_since is.between new)) is.now_is;
 }

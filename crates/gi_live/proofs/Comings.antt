@@ -3,6 +3,7 @@ use Rattle.std.proofs.Common.{◌≡◌, ℕ, suc, ◌+◌, List, [], ◌∷◌,
 use Rattle.std.specs.Prelude.{IsOk}
 use Rattle.gi_pairs.specs.declared.side.Side.{Side}
 use Rattle.gi_office.specs.Keeping.{SeatState}
+use Rattle.gi_serving.specs.Asking.{NotesTurns}
 use Rattle.gi_live.specs.Coming.{ComeAll, IsAskingFault, IsCome}
 use Rattle.gi_live.specs.Running.{LeavesStep, LeavesTold, LiveState, StepsSome, live, notes_since}
 use Rattle.gi_live.specs.Telling.{saved_by, step_text}
@@ -62,9 +63,9 @@ leaves_all side old lines text before after (Err fault) some told = leaves_one s
 
 -- what came of all lines, as some of them
 pub steps_some : (side : Side) (seat : SeatState) (saved lines_before : ℕ) (lines : List (List ℕ)) (cames : List Came) (between last : SeatState) (now : ℕ)
-    → ComeAll side seat lines cames between → now ≡ saved_by saved (notes_since between last)
+    → ComeAll side seat lines cames between → NotesTurns between last → now ≡ saved_by saved (notes_since between last)
     → StepsSome side (live seat saved lines_before) lines (step_text now (lines_before + 1) cames (notes_since between last))
-steps_some side seat saved lines_before lines cames between last now all is =
+steps_some side seat saved lines_before lines cames between last now all noted is =
     let same = come_length side seat lines cames between all in
     record {
       cames = cames;
@@ -72,5 +73,6 @@ steps_some side seat saved lines_before lines cames between last now all is =
       last = last;
       came = subst (λ ls. ComeAll side seat ls cames between) (sym (take_all (length cames) lines (omega (arith, same)))) all;
       within = omega (arith, same);
+      noted = noted;
       text_is = ap (λ n. step_text n (lines_before + 1) cames (notes_since between last)) is;
     }

@@ -10,7 +10,7 @@ use Rattle.gi_office.specs.declared.receipt.Receipt.{Receipt}
 use Rattle.gi_pairs.specs.declared.cycle_id.CycleId.{CycleId}
 use Rattle.gi_pairs.specs.declared.side.Side.{Side}
 use Rattle.gi_processing.specs.declared.rule.Rule.TheVariants as rules
-use Rattle.gi_serving.specs.Asking.{NotesMarks}
+use Rattle.gi_serving.specs.Asking.{NotesMarks, NotesTurns}
 use Rattle.gi_live.specs.Running.{notes_since}
 use Rattle.gi_live.specs.Telling.{may_tell_of, saved_by, step_text}
 use Rattle.gi_live.specs.declared.came.Came.{Came}
@@ -51,12 +51,13 @@ pub record Closings (side : Side) (old : SeatState) (saved line : ℕ) (ids : Li
   pub answered : list_all (may_tell_of now) all ≡ true
   pub text_is : text ≡ step_text now line all (notes_since between new)
 
--- Where not all was saved: the text has the answers that may be told, by how many facts are saved, and what was let out since.
+-- Where not all was saved: marks of saved facts were noted, and one call at most that let out nothing; the text has the answers that may be told, by how many facts are saved, and what was let out since.
 pub record ClosingsSome (side : Side) (old : SeatState) (saved line : ℕ) (ids : List CycleId) (text : List ℕ) : Type 0 where
   pub all : List Came
   pub between : SeatState
   pub last : SeatState
   pub closed : CloseDue side old ids all between
+  pub noted : NotesTurns between last
   pub text_is : text ≡ step_text (saved_by saved (notes_since between last)) line all (notes_since between last)
 
 abbrev pub WritesClosings : Side → SeatState → ℕ → ℕ → List CycleId → Option (List ℕ) → Option (List ℕ) → SeatState → Type 0

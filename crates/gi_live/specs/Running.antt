@@ -8,7 +8,7 @@ use Rattle.gi_desk.specs.declared.reply.Answer.TheVariants as answers
 use Rattle.gi_office.specs.declared.note.Note.{Note}
 use Rattle.gi_office.specs.declared.save_fault.SaveFault.{SaveFault}
 use Rattle.gi_pairs.specs.declared.side.Side.{Side}
-use Rattle.gi_serving.specs.Asking.{NotesMarks}
+use Rattle.gi_serving.specs.Asking.{NotesMarks, NotesTurns}
 use Rattle.gi_live.specs.Coming.{ComeAll}
 use Rattle.gi_live.specs.Telling.{may_tell_of, saved_by, step_text}
 use Rattle.gi_live.specs.Lines.{TakesLines, is_halt, is_query}
@@ -57,14 +57,16 @@ pub record Steps (side : Side) (old : LiveState) (lines : List (List ℕ)) (text
   pub lines_are : new.lines ≡ old.lines + length lines
   pub text_is : text ≡ step_text new.saved (old.lines + 1) cames (notes_since between new.seat)
 
--- Where a step ended early: some of its lines came to something, the first ones in order, and the text has the answers among these that may
--- be told, by how many facts are saved, and what was let out since.
+-- Where a step ended early: some of its lines came to something, the first ones in order, then marks of saved facts were noted and one call at
+-- most that let out nothing; and the text has the answers among these that may be told, by how many facts are saved, and what was let out
+-- since.
 pub record StepsSome (side : Side) (old : LiveState) (lines : List (List ℕ)) (text : List ℕ) : Type 0 where
   pub cames : List Came
   pub between : SeatState
   pub last : SeatState
   pub came : ComeAll side old.seat (take (length cames) lines) cames between
   pub within : length cames ≤ length lines
+  pub noted : NotesTurns between last
   pub text_is : text ≡ step_text (saved_by old.saved (notes_since between last)) (old.lines + 1) cames (notes_since between last)
 
 -- what is told of a step: the fault of the writing, or else of the saving, or that not all could be told

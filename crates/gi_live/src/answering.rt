@@ -280,11 +280,11 @@ fn moment_in(query: Query) -> Option<Moment>
 pub(crate) fn due_in(line: &InputLine) -> Option<Moment>
     ensures { MatchOption result ((moment : ℤ) → ¬ AsksDue line.now moment) (AsksDue line.now) }
 {
-    let line = line.as_slice();
-    if line.len() > MOST_LINE {
+    let given = line.as_slice();
+    if given.len() > MOST_LINE {
         return None;
     }
-    match query_in(line) {
+    match query_in(given) {
         Some(query) => moment_in(query),
         None => None,
     }

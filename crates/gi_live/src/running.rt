@@ -4,7 +4,7 @@ ghost use Rattle.std.specs.Prelude.{◌≡◌, ◌⊎◌, ◌+◌, ◌<◌, ◌�
 ghost use Rattle.std.specs.List.{list_all, list_any};
 ghost use Rattle.std.specs.Io.Buffered.{reader_remaining};
 ghost use Rattle.std.specs.Io.KnownBytes.{Appends};
-ghost use Rattle.gi_serving.specs.Asking.{NotesMarks};
+ghost use Rattle.gi_serving.specs.Asking.{NotesMarks, NotesTurns};
 ghost use Rattle.gi_serving.specs.Ending.{place_of};
 ghost use Rattle.gi_live.specs.Lines.{is_halt, is_query, lines_left};
 ghost use Rattle.gi_live.specs.Running.{HasRoom, LeavesStep, LeavesTold, RunsSome, WritesStep, first_fault as first_fault_of, has_halted as has_halted_in, is_stopped as is_stopped_by, live, notes_since};
@@ -92,6 +92,7 @@ pub(crate) fn save_and_tell<R: Role, L: Ledger, B: Turns, W: Wait, O: Write>(
     ensures place { place_of result.0 ≡ place_of seat }
     ensures saved { result.1 ≡ saved_by_of saved (notes_since seat result.0) }
     ensures marks { OnOk result.2 (NotesMarks seat result.0) }
+    ensures notes { NotesTurns seat result.0 }
     ensures answered { OnOk result.2 (list_all (may_tell_of result.1) cames.items ≡ true) }
     ensures written { OnOk result.2 (Appends (O.contents output.old) (O.contents output.new) (step_text_of result.1 line cames.items (notes_since seat result.0))) }
     ensures leaves { IfErr result.2 (LeavesTold (step_text_of result.1 line cames.items (notes_since seat result.0)) (O.contents output.old) (O.contents output.new)) }

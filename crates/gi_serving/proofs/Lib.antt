@@ -6,3 +6,4 @@ mod Ordering
 mod Places
 mod Turning
 mod Walking
+mod Noting

@@ -54,7 +54,7 @@ whatever : {A E : Type 0} (P : Type 0) (r : Result A E) → P → OnOk r P
 whatever P (Ok x) h = h
 whatever P (Err e) h = tt
 
-all_marked : (side : Side) (n : ℕ) (facts : List Fact) (receipts : List Receipt) (old new : SeatState) → AreMarked side n facts receipts old new → NotesMarks old new
+pub all_marked : (side : Side) (n : ℕ) (facts : List Fact) (receipts : List Receipt) (old new : SeatState) → AreMarked side n facts receipts old new → NotesMarks old new
 all_marked side n [] [] old new h = kept old new h
 all_marked side n [] (receipt ∷ receipts) old new h = absurd h
 all_marked side n (fact ∷ facts) [] old new h = absurd h

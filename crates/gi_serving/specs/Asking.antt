@@ -1,5 +1,5 @@
 -- What is made of the last seat of a side, which is the main one: a call, or the turns that save; and what it was let out.
-use Rattle.std.specs.Prelude.{◌≡◌, ◌⊎◌, ℕ, List, [], ◌∷◌, ◌++◌, ◌+◌, ◌-◌, All, is_some, length, slice_get, IfSome, drop, flat_map, Bool, true, false, Option, None, Some, Result, Ok, Err}
+use Rattle.std.specs.Prelude.{◌≡◌, ◌⊎◌, ◌≤◌, ℕ, List, [], ◌∷◌, ◌++◌, ◌+◌, ◌-◌, All, is_some, length, slice_get, IfSome, drop, flat_map, Bool, true, false, Option, None, Some, Result, Ok, Err}
 use Rattle.gi_carrier.specs.Carrier.{given}
 use Rattle.gi_desk.specs.declared.call.Call.{Call}
 use Rattle.gi_desk.specs.declared.call.Call.TheVariants as calls
@@ -113,6 +113,19 @@ pub record NotesMarks (old new : SeatState) : Type 0 where
   pub marks : List Note
   pub are_marks : All IsMark marks
   pub new_is : new ≡ record old { notes = old.notes ++ marks; amount = old.amount + length marks }
+
+-- the call let out nothing
+abbrev pub IsSilent : Note → Type 0
+IsSilent note = note.reply.out ≡ []
+
+-- Turns were made from a seat, whatever they came to: it noted marks, then one call at most that let out nothing, as a halt is, and nothing else.
+pub record NotesTurns (old new : SeatState) : Type 0 where
+  pub marks : List Note
+  pub are_marks : All IsMark marks
+  pub last : List Note
+  pub silent : All IsSilent last
+  pub few : length last ≤ 1
+  pub notes_are : new.notes ≡ old.notes ++ (marks ++ last)
 
 -- A turn was made, and this is told of it: whether it saved a fact, or its fault. `takes` says what a turn may make of a seat.
 pub record IsTurned (takes : SeatState → Result Turn SaveFault → SeatState → Type 0) (old : SeatState) (told : Result Bool SaveFault) (new : SeatState) : Type 0 where

@@ -6,7 +6,7 @@ ghost use Rattle.gi_carrier.specs.Carrier.{given};
 ghost use Rattle.gi_carrier.specs.Kept.{bytes_of};
 ghost use Rattle.gi_office.specs.Opening.{new_seats};
 ghost use Rattle.gi_simulation.specs.Simulation.{moved_on, new_link};
-ghost use Rattle.gi_serving.specs.Asking.{Answers, AsksLast, Carries, EndsAtLast, EndsTurns, LetsOut, MakesAt, MakesSeats, MarksLast, NotesMarks, Sends, out_behind, way_after};
+ghost use Rattle.gi_serving.specs.Asking.{Answers, AsksLast, Carries, EndsAtLast, EndsTurns, LetsOut, MakesAt, MakesSeats, MarksLast, NotesMarks, NotesTurns, Sends, out_behind, way_after};
 ghost use Rattle.gi_serving.specs.Ending.{AreSamePlaces, IsTurnFault, place_of};
 ghost use Rattle.gi_serving.specs.Faulting.{EndBy, GoWell};
 ghost use Rattle.gi_serving.specs.Making.{state_of};
@@ -89,6 +89,7 @@ pub fn saved_all<R: Role, L: Ledger, B: Turns, W: Wait>(
 ) -> (Seat<L>, Result<(), SaveFault>)
     ensures place { place_of result.0 ≡ place_of seat }
     ensures marks { OnOk result.1 (NotesMarks seat result.0) }
+    ensures notes { NotesTurns seat result.0 }
     ensures fault { IfErr result.1 IsTurnFault }
     ensures last { EndsTurns (B.takes R.SIDE) book.new result.1 result.0 }
     ensures well { OnOk result.1 (GoWell (B.takes R.SIDE) book.old book.new) }

@@ -21,7 +21,7 @@ pub trait Turns {
     ghost use Rattle.gi_office.specs.declared.save_fault.SaveFault.{SaveFault};
     ghost use Rattle.gi_office.specs.declared.turn.Turn.{Turn};
     ghost use Rattle.gi_pairs.specs.declared.side.Side.{Side};
-    ghost use Rattle.gi_serving.specs.Asking.{IsTurned, NotesMarks};
+    ghost use Rattle.gi_serving.specs.Asking.{IsTurned, NotesMarks, NotesTurns};
     ghost use Rattle.gi_serving.specs.Ending.{IsTurnFault, place_of};
 
     /// It is loaded, and these are its facts.
@@ -39,6 +39,7 @@ pub trait Turns {
     ) -> (Seat<L>, Result<bool, SaveFault>)
         ensures place { place_of result.0 ≡ place_of seat }
         ensures marks { OnOk result.1 (NotesMarks seat result.0) }
+        ensures notes { NotesTurns seat result.0 }
         ensures fault { IfErr result.1 IsTurnFault }
         ensures turn { IsTurned (takes R.SIDE self.old self.new) seat result.1 result.0 };
 }

@@ -18,7 +18,7 @@ returns-in-Ok-clause-leaves g c =
     let closed = subst (λ result. IfOk result (λ cames. CloseDue side c.args.seat c.args.ids.now cames.items c.close_all-seat.result.0)) c.in-Ok.is c.close_all-seat.ensures.came in
     let told = c.save_and_tell-seat.ensures in
     leaves_closings side c.args.seat c.args.saved c.args.line c.args.ids.now c.in-Ok.cames.items c.close_all-seat.result.0 c.save_and_tell-seat.result.0 c.save_and_tell-seat.result.1 _ _
-    c.save_and_tell-seat.result.2 closed told.saved told.leaves
+    c.save_and_tell-seat.result.2 closed told.notes told.saved told.leaves
 
 pub returns-in-Err-clause-leaves : goal.returns-in-Err-clause-leaves
 returns-in-Err-clause-leaves g c =

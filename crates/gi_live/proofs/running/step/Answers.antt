@@ -14,7 +14,7 @@ returns-in-Ok-clause-leaves g c =
     let side = g.R.Role.SIDE in
     let came = subst (λ result. IfOk result (λ cames. ComeAll side c.args.seat c.args.lines.now cames.items c.ask_all-seat.result.0)) c.in-Ok.is c.ask_all-seat.ensures.came in
     leaves_all side _ c.args.lines.now _ _ _ c.save_and_tell.result.2
-    (steps_some side c.args.seat c.args.saved c.args.before c.args.lines.now c.in-Ok.cames.items c.ask_all-seat.result.0 c.save_and_tell.result.0 c.save_and_tell.result.1 came c.save_and_tell.ensures.saved)
+    (steps_some side c.args.seat c.args.saved c.args.before c.args.lines.now c.in-Ok.cames.items c.ask_all-seat.result.0 c.save_and_tell.result.0 c.save_and_tell.result.1 came c.save_and_tell.ensures.notes c.save_and_tell.ensures.saved)
     c.save_and_tell.ensures.leaves
 
 pub returns-in-Err-clause-leaves : goal.returns-in-Err-clause-leaves

@@ -1,5 +1,6 @@
 use Rattle.std.proofs.Common.{◌∙◌, false, refl, true}
 use Rattle.gi_serving.proofs.Faulting.{ended_by, none_made, one_more}
+use Rattle.gi_serving.proofs.Noting.{noted_more}
 use Rattle.gi_serving.proofs.Turning.{marks_more, none_marked}
 use Rattle.gi_serving.proofs.running.saved_all.Goals as goal
 
@@ -38,3 +39,9 @@ pub returns-in-Err-clause-ended : goal.returns-in-Err-clause-ended
 returns-in-Err-clause-ended g c =
     ended_by (g.B.Turns.takes g.R.Role.SIDE) c.args.book.now c.loop.book c.turned-back.new.self c.in-Err.fault c.loop.main c.turned-back.result.0
     c.loop.invariant.well (rw c.in-Err.is at c.turned-back.ensures.turn)
+
+pub returns-in-Ok-false-clause-notes : goal.returns-in-Ok-false-clause-notes
+returns-in-Ok-false-clause-notes g c = noted_more c.args.seat c.loop.main c.turned-back.result.0 c.loop.invariant.marks c.turned-back.ensures.notes
+
+pub returns-in-Err-clause-notes : goal.returns-in-Err-clause-notes
+returns-in-Err-clause-notes g c = noted_more c.args.seat c.loop.main c.turned-back.result.0 c.loop.invariant.marks c.turned-back.ensures.notes

@@ -1,6 +1,7 @@
 use Rattle.std.proofs.Common.{Bool, OnOk, Result, sym, subst}
 use Rattle.gi_office.specs.declared.save_fault.SaveFault.{SaveFault}
 use Rattle.gi_serving.specs.Asking.{NotesMarks}
+use Rattle.gi_serving.proofs.Noting.{turn_notes}
 use Rattle.gi_serving.proofs.Places.{turned}
 use Rattle.gi_serving.proofs.Turning.{turn_marks}
 use Rattle.gi_serving.proofs.turns.BookStoreTurns.turned.Goals as goal
@@ -15,3 +16,6 @@ returns-clause-marks g c =
 
 pub returns-clause-turn : goal.returns-clause-turn
 returns-clause-turn g c = record { turn = c.save_turn-seat.result.1; took = c.save_turn-seat.ensures; told_is = c.saved.ensures.value }
+
+pub returns-clause-notes : goal.returns-clause-notes
+returns-clause-notes g c = turn_notes g.R.Role.SIDE _ _ _ c.args.seat c.save_turn-seat.result.1 c.save_turn-seat.result.0 c.save_turn-seat.ensures
