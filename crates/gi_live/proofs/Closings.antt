@@ -1,5 +1,5 @@
 -- One closing more, and what is written of them.
-use Rattle.std.proofs.Common.{◌≡◌, arith, append-nil, ℕ, List, [], ◌∷◌, ◌++◌, true, refl, ap, subst, ◌∙◌, Option, Result, Ok, Err, IfOk, IfErr, OnOk}
+use Rattle.std.proofs.Common.{sym, ◌≡◌, arith, append-nil, ℕ, List, [], ◌∷◌, ◌++◌, true, refl, ap, subst, ◌∙◌, Option, Result, Ok, Err, IfOk, IfErr, OnOk}
 use Rattle.std.proofs.lemmas.List.Elements.{All-nil}
 use Rattle.std.specs.Prelude.{IsOk}
 use Rattle.std.specs.List.{list_all}
