@@ -1,5 +1,5 @@
 -- What one running office writes of its input, and the faults of that in their order.
-use Rattle.std.specs.Prelude.{◌≡◌, ◌⊎◌, ℕ, List, None, Option}
+use Rattle.std.specs.Prelude.{◌≡◌, ◌⊎◌, ℕ, Bool, true, false, List, None, Option}
 use Rattle.std.specs.Io.KnownBytes.{Keeps}
 use Rattle.gi_pairs.specs.Code.{IsCode}
 use Rattle.gi_pairs.specs.declared.side.Side.{Side}
@@ -16,6 +16,11 @@ pub record Begins (side : Side) (point : List ℕ) (desk : DeskState) : Type 0 w
   pub point_is : desk.point ≡ point
   pub paused : IsPaused desk
   pub legal : bad_fact side desk.point desk.facts ≡ None
+
+-- What is known of the input of an office: of one that goes by the clock, whose lines come among the input's, nothing.
+abbrev pub input_of : Bool → Option (List ℕ) → Option (List ℕ)
+input_of true remaining = None
+input_of false remaining = remaining
 
 -- all lines of the input were taken, from such a desk, and what came of them was written
 abbrev pub RunsOffice : Side → List ℕ → Option (List ℕ) → Option (List ℕ) → Option (List ℕ) → Type 0

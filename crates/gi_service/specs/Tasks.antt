@@ -6,7 +6,7 @@ use Rattle.gi_commands.specs.Commands.{Does, HasNoCode, IsFaultOf, Leaves, MayRe
 use Rattle.gi_commands.specs.Fault.{no_code}
 use Rattle.gi_commands.specs.Leaving.{LeavesNothing}
 use Rattle.gi_store.specs.Source.{Source}
-use Rattle.gi_service.specs.Living.{IsFirstOfficeFault, LeavesOffice, RunsOffice}
+use Rattle.gi_service.specs.Living.{IsFirstOfficeFault, LeavesOffice, RunsOffice, input_of}
 use Rattle.gi_service.specs.Serving.{IsFirstServeFault, LeavesServed, Serves}
 use Rattle.gi_service.specs.declared.program_fault.ProgramFault.{ProgramFault}
 use Rattle.gi_service.specs.declared.program_fault.ProgramFault.TheVariants.{Command}
@@ -17,7 +17,7 @@ use Rattle.gi_service.specs.declared.program_fault.ProgramFault.TheVariants.{Com
 abbrev pub DoesTask : Source → Wanted → Option (List ℕ) → Option (List ℕ) → Option (List ℕ) → Type 0
 DoesTask from (at_once asked) remaining old new = Does from asked remaining old new
 DoesTask from (serve service) remaining old new = IfSome remaining (λ input. Serves service.sessions input old new)
-DoesTask from (office run) remaining old new = RunsOffice run.side run.point remaining old new
+DoesTask from (office run) remaining old new = RunsOffice run.side run.point (input_of run.by_clock remaining) old new
 
 -- the first fault
 abbrev pub IsTaskFault : Source → Wanted → Option (List ℕ) → ProgramFault → Type 0
@@ -31,7 +31,7 @@ abbrev pub LeavesTask : Source → Wanted → Option (List ℕ) → Option (List
 LeavesTask from (at_once asked) remaining old new (Command why) = Leaves from asked remaining old new why
 LeavesTask from (at_once asked) remaining old new _ = ⊥
 LeavesTask from (serve service) remaining old new why = LeavesServed service.sessions remaining old new why
-LeavesTask from (office run) remaining old new why = LeavesOffice run.side run.point remaining old new why
+LeavesTask from (office run) remaining old new why = LeavesOffice run.side run.point (input_of run.by_clock remaining) old new why
 
 -- after a fault of a command nothing is written, but where a writer failed
 abbrev pub LeavesNothingBut : Option (List ℕ) → Option (List ℕ) → ProgramFault → Type 0

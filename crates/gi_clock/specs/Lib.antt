@@ -1,0 +1,3 @@
+pub mod Minutes
+pub mod Handing
+pub mod HeldRepr
