@@ -19,6 +19,7 @@ use std::convert::AsStr;
 use std::io::{Read, Write};
 use std::sync::Wait;
 use std::thread::Threads;
+use std::time::Clock;
 
 /// Writes what `clap` says in place of a command: help and the version to the output, and what is
 /// wrong with the words to the errors.
@@ -64,7 +65,7 @@ pub fn dispatch<
     R: Read,
     W: Write,
     E: Write,
-    T: Threads + Wait + Sync,
+    T: Threads + Wait + Clock + Copy + Send + Sync + 'static,
     V: Watch,
 >(
     rt: &HostRuntime,

@@ -22,6 +22,8 @@ use gi_pairs::{Code, Side};
 use gi_store::{Owner, close_book};
 use std::io::{BufReader, IsTerminal, Read, Write};
 use std::sync::Wait;
+use std::thread::Threads;
+use std::time::Clock;
 
 /// How many bytes of the input are read at once: so many lines can be answered together.
 const READ_AT_ONCE: usize = 1_048_576;
@@ -119,7 +121,7 @@ fn run_over<T: Wait, I: Read, W: Write>(
 
 /// Runs it over standard input, among whose lines come those of the machine's clock.
 #[tactic(auto, using(crate::proofs::Begun::unchanged))]
-fn run_by_clock<T: Wait, W: Write>(
+fn run_by_clock<T: Threads + Wait + Clock + Copy + Send + 'static, W: Write>(
     rt: &HostRuntime,
     threads: &T,
     run: &OfficeRun<'_>,
@@ -130,7 +132,7 @@ fn run_by_clock<T: Wait, W: Write>(
     ensures first { IfErr result (IsFirstOfficeFault run.now.side point) }
     ensures leaves { IfErr result (LeavesOffice run.now.side point None (W.contents output.old) (W.contents output.new)) }
 {
-    let mut input = match with_clock(*rt, rt.alloc(), rt.stdin()) {
+    let mut input = match with_clock(*threads, rt.alloc(), rt.stdin()) {
         Ok(input) => input,
         Err(_) => return Err(ProgramFault::Command(Fault::OutOfMemory)),
     };
@@ -145,7 +147,7 @@ fn run_by_clock<T: Wait, W: Write>(
 /// copy of the book, up to where nothing is made or changed; then what is told of the book as it is opened; what ended the
 /// run; and what kept the book from being closed.
 #[tactic(auto, using(crate::proofs::Begun::unchanged))]
-pub fn run_office<T: Wait, I: Read, W: Write>(
+pub fn run_office<T: Threads + Wait + Clock + Copy + Send + 'static, I: Read, W: Write>(
     rt: &HostRuntime,
     threads: &T,
     run: &OfficeRun<'_>,

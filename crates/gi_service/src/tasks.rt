@@ -12,10 +12,17 @@ use gi_store::BookSource;
 use std::io::{Read, Write};
 use std::sync::Wait;
 use std::thread::Threads;
+use std::time::Clock;
 
 /// Does what a command line asks for, and answers the fault, if any: see `perform`,
 /// `serve_script` and `run_office`. All but `serve` and `office` read books from `books`.
-pub fn perform_task<B: BookSource, R: Read, W: Write, T: Threads + Wait + Sync, V: Watch>(
+pub fn perform_task<
+    B: BookSource,
+    R: Read,
+    W: Write,
+    T: Threads + Wait + Clock + Copy + Send + Sync + 'static,
+    V: Watch,
+>(
     rt: &HostRuntime,
     threads: &T,
     watch: &mut V,
