@@ -1,0 +1,2 @@
+pub mod InForceLemmas
+pub mod KeyLemmas

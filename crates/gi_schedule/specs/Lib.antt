@@ -1,0 +1,4 @@
+pub mod InForce
+pub mod Wanted
+pub mod Keys
+pub mod Lines
