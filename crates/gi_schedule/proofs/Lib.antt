@@ -1,2 +1,3 @@
 pub mod InForceLemmas
 pub mod KeyLemmas
+pub mod LineLemmas

@@ -3,7 +3,7 @@
 ghost use Rattle.std.specs.Prelude.{◌≡◌, ◌+◌, ◌≤◌, IfOk, OnOk, length};
 ghost use Rattle.gi_desk.specs.Queries.{confirmed};
 ghost use Rattle.gi_pairs.specs.Limits.{most_rows};
-ghost use Rattle.gi_schedule.specs.Keys.{day_keys as keys_of_day, most_keys, table_keys, with_each};
+ghost use Rattle.gi_schedule.specs.Keys.{day_keys as keys_of_day, keys_if, most_keys, row_keys, table_keys, with_each};
 
 use crate::wanted::Wanted;
 use gi_day::GasDay;
@@ -33,6 +33,21 @@ fn add_table(keys: &mut BTreeSet<Key>, wanted: &Wanted, table: &Table) -> Result
     Ok(())
 }
 
+fn add_cycle<R: Role>(
+    keys: &mut BTreeSet<Key>,
+    desk: &Desk<R>,
+    wanted: &Wanted,
+    id: CycleId,
+) -> Result<(), AllocError>
+    ensures added { OnOk result (keys.new.keys ≡ with_each keys.old.keys (keys_if wanted.now.portfolio (confirmed R.SIDE desk.now id))) }
+    ensures few { OnOk result (length keys.new.keys ≤ length keys.old.keys + most_rows) }
+{
+    match desk.confirmed(id) {
+        Some(table) => add_table(keys, wanted, table),
+        None => Ok(()),
+    }
+}
+
 fn collected<R: Role>(
     alloc: Global,
     desk: &Desk<R>,
@@ -44,9 +59,7 @@ fn collected<R: Role>(
 {
     let mut keys = BTreeSet::new(alloc);
     for cycle in 0..LAST_CYCLE + 1 {
-        if let Some(table) = desk.confirmed(CycleId { day, cycle }) {
-            add_table(&mut keys, wanted, table)?;
-        }
+        add_cycle(&mut keys, desk, wanted, CycleId { day, cycle })?;
     }
     Ok(keys)
 }

@@ -4,7 +4,7 @@ ghost use Rattle.std.specs.Prelude.{◌≡◌, ◌≤◌, ◌++◌, IfOk, OnOk, 
 ghost use Rattle.gi_desk.specs.Queries.{confirmed};
 ghost use Rattle.gi_pairs.specs.Limits.{last_hour};
 ghost use Rattle.gi_schedule.specs.Keys.{most_keys};
-ghost use Rattle.gi_schedule.specs.Lines.{IsSchedule, day_lines as lines_of_day, hour_totals as totals_of_hours, is_listed as is_listed_of, key_lines as lines_of_key, keys_lines, lines_if, schedule};
+ghost use Rattle.gi_schedule.specs.Lines.{IsSchedule, day_lines as lines_of_day, hour_totals as totals_of_hours, is_listed as is_listed_of, is_number as is_number_of, key_lines as lines_of_key, keys_lines, lines_if, schedule};
 
 use crate::hour_in_force::HourInForce;
 use crate::in_force::{hours_in_force, last_confirmed, quantity_in_force};
@@ -106,10 +106,20 @@ fn add_day<R: Role>(
     add_listed(lines, desk, day, &keys, &hours)
 }
 
+fn is_number(n: u8, number: Option<u8>) -> bool
+    ensures { result ≡ is_number_of n number }
+{
+    match number {
+        Some(other) => n == other,
+        None => false,
+    }
+}
+
+#[tactic(auto, unfolding(crate::specs::Lines::is_listed))]
 fn is_listed<R: Role>(desk: &Desk<R>, wanted: &Wanted, id: &CycleId) -> bool
     ensures { result ≡ is_listed_of (confirmed R.SIDE desk.now) wanted.now id.now }
 {
-    wanted.has_day(id.day) && last_confirmed(desk, id.day) == Some(id.cycle)
+    wanted.has_day(id.day) && is_number(id.cycle, last_confirmed(desk, id.day))
 }
 
 /// The schedule of a side, each gas day that has a confirmed cycle in its order: the lines of each

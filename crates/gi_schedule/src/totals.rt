@@ -1,10 +1,10 @@
 //! The totals of a schedule.
 
-ghost use Rattle.std.specs.Prelude.{◌≡◌, ◌*◌, ◌≤◌, ◌++◌, ◌+◌, pos, ◌-ℤ◌, OnOk, length};
+ghost use Rattle.std.specs.Prelude.{◌≡◌, ◌*◌, ◌≤◌, ◌++◌, ◌∷◌, [], OnOk, length};
 ghost use Rattle.gi_desk.specs.Queries.{confirmed};
 ghost use Rattle.gi_pairs.specs.Limits.{last_hour};
 ghost use Rattle.gi_schedule.specs.Keys.{most_keys};
-ghost use Rattle.gi_schedule.specs.Lines.{counted as counted_of, day_total as total_of_day, hour_total as total_of_hour, most_hourly, total_lines};
+ghost use Rattle.gi_schedule.specs.Lines.{counted as counted_of, day_total as total_of_day, hour_total as total_of_hour, most_hourly, total_line, total_lines};
 
 use crate::hour_in_force::HourInForce;
 use crate::in_force::quantity_in_force;
@@ -65,6 +65,26 @@ pub(crate) fn day_total<R: Role>(
     total
 }
 
+fn add_total(
+    lines: &mut Vec<ScheduleLine>,
+    day: GasDay,
+    at: Option<HourInForce>,
+    flow: Flow,
+    quantity: i64,
+) -> Result<(), AllocError>
+    ensures { OnOk result (lines.new.items ≡ lines.old.items ++ total_line day at flow quantity ∷ []) }
+{
+    lines.push(ScheduleLine {
+        day,
+        cycle: at.map(|at| at.cycle),
+        flow,
+        pair: None,
+        hour: at.map(|at| at.hour),
+        quantity,
+    })?;
+    Ok(())
+}
+
 /// Adds the lines of what goes in each direction, and of the difference.
 pub(crate) fn add_totals(
     lines: &mut Vec<ScheduleLine>,
@@ -77,28 +97,11 @@ pub(crate) fn add_totals(
     requires matching { matching ≤ last_hour * most_hourly }
     ensures { OnOk result (lines.new.items ≡ lines.old.items ++ total_lines day at initiating matching) }
 {
-    let cycle = at.map(|at| at.cycle);
-    let hour = at.map(|at| at.hour);
+    let out = Flow::Gross(Direction::IM);
+    let back = Flow::Gross(Direction::MI);
     let initiating = initiating as i64;
     let matching = matching as i64;
-    let line = ScheduleLine {
-        day,
-        cycle,
-        flow: Flow::Gross(Direction::IM),
-        pair: None,
-        hour,
-        quantity: initiating,
-    };
-    lines.push(line)?;
-    lines.push(ScheduleLine {
-        flow: Flow::Gross(Direction::MI),
-        quantity: matching,
-        ..line
-    })?;
-    lines.push(ScheduleLine {
-        flow: Flow::Net,
-        quantity: initiating - matching,
-        ..line
-    })?;
-    Ok(())
+    add_total(lines, day, at, out, initiating)?;
+    add_total(lines, day, at, back, matching)?;
+    add_total(lines, day, at, Flow::Net, initiating - matching)
 }
