@@ -1,3 +1,6 @@
 pub mod InForceLemmas
 pub mod KeyLemmas
 pub mod LineLemmas
+pub mod ColumnLemmas
+pub mod SheetLemmas
+pub mod ObjectLemmas

@@ -2,3 +2,8 @@ pub mod InForce
 pub mod Wanted
 pub mod Keys
 pub mod Lines
+pub mod Columns
+pub mod Text
+pub mod Csv
+pub mod Sheet
+pub mod Json

@@ -26,6 +26,13 @@ abbrev pub flow_text : Flow → List ℕ
 flow_text (Gross direction) = direction_text direction
 flow_text Net = codes "net"
 
+-- the portfolios of the line's pair, where it is of one
+abbrev pub initiating_of : ScheduleLine → Option (List ℕ)
+initiating_of line = option_map (λ pair. pair.initiating) line.pair
+
+abbrev pub matching_of : ScheduleLine → Option (List ℕ)
+matching_of line = option_map (λ pair. pair.matching) line.pair
+
 -- ---- pairs
 
 -- what is in force for a pair and a direction in an hour

@@ -1,15 +1,24 @@
 //! The schedule of a side: for each hour of a gas day the confirmed quantities that are in force.
 #![tactic(auto)]
 
+mod columns;
+mod csv_report;
 mod hour_in_force;
 mod in_force;
+mod json_report;
 mod keys;
 mod listing;
+mod objects;
 mod schedule_line;
+mod sheet;
+mod text_report;
 mod totals;
 mod wanted;
 
+pub use csv_report::schedule_csv;
 pub use hour_in_force::HourInForce;
 pub use in_force::{cycle_in_force, quantity_in_force};
+pub use json_report::schedule_json;
 pub use schedule_line::{Flow, ScheduleLine};
+pub use text_report::schedule_report;
 pub use wanted::Wanted;

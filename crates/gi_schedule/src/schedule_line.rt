@@ -1,8 +1,8 @@
 ghost use Rattle.std.specs.Prelude.{◌≡◌};
-ghost use Rattle.gi_schedule.specs.Lines.{flow_text};
+ghost use Rattle.gi_schedule.specs.Lines.{flow_text, initiating_of, matching_of};
 
 use gi_day::GasDay;
-use gi_pairs::{Direction, Pair};
+use gi_pairs::{Code, Direction, Pair};
 
 /// Which way gas goes.
 #[derive(Clone, Copy)]
@@ -36,4 +36,26 @@ pub struct ScheduleLine {
     pub pair: Option<Pair>,
     pub hour: Option<u8>,
     pub quantity: i64,
+}
+
+impl ScheduleLine {
+    /// The portfolio at the initiating operator, where the line is of one pair.
+    pub(crate) fn initiating(&self) -> Option<Code>
+        ensures { result ≡ initiating_of self.now }
+    {
+        match self.pair {
+            Some(pair) => Some(pair.initiating),
+            None => None,
+        }
+    }
+
+    /// The portfolio at the matching operator, where the line is of one pair.
+    pub(crate) fn matching(&self) -> Option<Code>
+        ensures { result ≡ matching_of self.now }
+    {
+        match self.pair {
+            Some(pair) => Some(pair.matching),
+            None => None,
+        }
+    }
 }
