@@ -1,5 +1,5 @@
 -- What the columns of a schedule print.
-use Rattle.std.proofs.Common.{◌≡◌, ◌<◌, ℕ, suc, ℤ, pos, negsuc, ◌+◌, ◌^◌, ◌-◌, List, [], ◌∷◌, ◌++◌, length, cond, ◌||◌, nat_le, Bool, true, false, refl, ap, ◌∙◌, arith}
+use Rattle.std.proofs.Common.{◌≡◌, ◌<◌, ℕ, suc, ℤ, pos, negsuc, ◌+◌, ◌^◌, ◌-◌, List, [], ◌∷◌, ◌++◌, length, cond, ◌||◌, nat_le, Bool, true, false, refl, ap, ◌∙◌, arith, append-nil, append_assoc}
 use Rattle.std.proofs.Padding.{padded_integral_right, take_chars_all, repeat_ascii, char_count-nil, char_count-cons}
 use Rattle.std.proofs.lemmas.Bool.{lt-ltb}
 use Rattle.std.proofs.lemmas.Bool.Decides.{nat_tests}
@@ -11,11 +11,12 @@ use Rattle.gi_schedule.specs.Columns.{right_of}
 
 -- what `{:>12}` writes of a number that may be negative
 minus_is : (numeral : List ℕ) → padded_integral (format_spec 32 3 0 12 (2 ^ 64 - 1)) true [] numeral ≡ right_of 12 (45 ∷ numeral)
-unfolding padded_integral
+unfolding padded_integral char_count
 minus_is numeral =
     let padding = 12 - length numeral - 1 - 0 in
     let none : padding - padding ≡ 0 = omega arith in
-    rw (none, repeat_ascii padding 32 (omega arith)) ?
+    let same : padding ≡ 12 - suc (length numeral) = omega arith in
+    rw (none, repeat_ascii padding 32 (omega arith), same) (simp (append-nil, append_assoc))
 
 plus_is : (n : ℕ) → is_negative (pos n) ≡ false
 plus_is n = grind (arith, nat_tests)

@@ -4,15 +4,13 @@ use Rattle.std.specs.List.{sum_by}
 use Rattle.std.specs.Prelude.{Option}
 use Rattle.std.specs.Fmt.{signed_decimal}
 use Rattle.std.proofs.lemmas.List.Sums.{sum_by_more}
-use Rattle.gi_day.specs.Day.{day_text}
-use Rattle.gi_reports.specs.Columns.{left_in}
 use Rattle.jiff_core.specs.declared.civil.date.Date.{Date}
 use Rattle.gi_pairs.specs.declared.key.Key.{Key}
 use Rattle.gi_schedule.specs.InForce.{Confirmed, hours_in_force}
 use Rattle.gi_schedule.specs.Keys.{day_keys}
-use Rattle.gi_schedule.specs.Lines.{day_lines, initiating_of, matching_of, schedule}
-use Rattle.gi_schedule.specs.Columns.{code_or_all, flow_column, number_column, right_of}
-use Rattle.gi_schedule.specs.Text.{line_text}
+use Rattle.gi_schedule.specs.Lines.{day_lines, schedule}
+use Rattle.gi_schedule.specs.Columns.{number_column, right_of}
+use Rattle.gi_schedule.specs.Text.{front_text, line_text, pair_text}
 use Rattle.gi_schedule.specs.declared.schedule_line.ScheduleLine.{ScheduleLine}
 use Rattle.gi_schedule.specs.declared.hour_in_force.HourInForce.{HourInForce}
 
@@ -28,12 +26,10 @@ schedule_is confirmed portfolio day keys hours keys_are hours_are = λ t. day_li
 
 -- ---- the text of a line
 
-abbrev pub text_of_parts : ScheduleLine → Option (List ℕ) → Option (List ℕ) → ℤ → List ℕ
-text_of_parts line initiating matching quantity =
-    day_text line.day ++ (codes " " ++ (number_column line.cycle ++ (codes " " ++ (flow_column line.flow
-    ++ (codes " " ++ (left_in 16 (code_or_all initiating) ++ (codes " " ++ (left_in 16 (code_or_all matching)
-    ++ (codes " " ++ (number_column line.hour ++ (codes " " ++ (right_of 12 (signed_decimal quantity) ++ codes "\n"))))))))))))
+abbrev pub line_of_parts : List ℕ → List ℕ → Option ℕ → ℤ → List ℕ
+line_of_parts front pair hour quantity =
+    front ++ (codes " " ++ (pair ++ (codes " " ++ (number_column hour ++ (codes " " ++ (right_of 12 (signed_decimal quantity) ++ codes "\n"))))))
 
-pub same_line : (line : ScheduleLine) (initiating matching : Option (List ℕ)) (quantity : ℤ) → initiating ≡ initiating_of line → matching ≡ matching_of line → quantity ≡ line.quantity
-    → text_of_parts line initiating matching quantity ≡ line_text line
-same_line line initiating matching quantity first second third = λ t. text_of_parts line (first t) (second t) (third t)
+pub same_line : (line : ScheduleLine) (front pair : List ℕ) (quantity : ℤ) → front ≡ front_text line → pair ≡ pair_text line → quantity ≡ line.quantity
+    → line_of_parts front pair line.hour quantity ≡ line_text line
+same_line line front pair quantity front_is pair_is quantity_is = λ t. line_of_parts (front_is t) (pair_is t) line.hour (quantity_is t)

@@ -11,13 +11,18 @@ use Rattle.gi_schedule.specs.Lines.{IsSchedule, initiating_of, matching_of}
 use Rattle.gi_schedule.specs.declared.schedule_line.ScheduleLine.{ScheduleLine}
 use Rattle.gi_schedule.specs.declared.wanted.Wanted.{Wanted}
 
+-- `2026-01-15 35 IM `
+abbrev pub front_text : ScheduleLine → List ℕ
+front_text line = day_text line.day ++ (codes " " ++ (number_column line.cycle ++ (codes " " ++ flow_column line.flow)))
+
+-- `A                B               `
+abbrev pub pair_text : ScheduleLine → List ℕ
+pair_text line = left_in 16 (code_or_all (initiating_of line)) ++ (codes " " ++ left_in 16 (code_or_all (matching_of line)))
+
 -- `2026-01-15 35 IM  A                B                24            7`
 abbrev pub line_text : ScheduleLine → List ℕ
 line_text line =
-    day_text line.day ++ (codes " " ++ (number_column line.cycle ++ (codes " " ++ (flow_column line.flow
-    ++ (codes " " ++ (left_in 16 (code_or_all (initiating_of line))
-    ++ (codes " " ++ (left_in 16 (code_or_all (matching_of line))
-    ++ (codes " " ++ (number_column line.hour ++ (codes " " ++ (right_of 12 (signed_decimal line.quantity) ++ codes "\n"))))))))))))
+    front_text line ++ (codes " " ++ (pair_text line ++ (codes " " ++ (number_column line.hour ++ (codes " " ++ (right_of 12 (signed_decimal line.quantity) ++ codes "\n"))))))
 
 abbrev pub lines_text : List ScheduleLine → List ℕ
 lines_text lines = flat_map line_text lines

@@ -1,7 +1,7 @@
 //! A schedule in text.
 
 ghost use Rattle.std.specs.Prelude.{◌≡◌, IfOk, string_bytes};
-ghost use Rattle.gi_schedule.specs.Text.{IsScheduleText, line_text as text_of, lines_text as text_of_lines};
+ghost use Rattle.gi_schedule.specs.Text.{IsScheduleText, front_text as text_of_front, line_text as text_of, lines_text as text_of_lines, pair_text as text_of_pair};
 
 use crate::columns::{CodeInSixteen, FlowInThree, NumberInTwo, SignedInTwelve};
 use crate::listing::schedule_lines;
@@ -10,23 +10,37 @@ use crate::wanted::Wanted;
 use gi_desk::{Desk, Role};
 use std::alloc::{AllocError, Global};
 
-fn line_text(alloc: Global, line: &ScheduleLine) -> Result<String, AllocError>
-    ensures { IfOk result (λ text. string_bytes text ≡ text_of line.now) }
+fn front_text(alloc: Global, line: &ScheduleLine) -> Result<String, AllocError>
+    ensures { IfOk result (λ text. string_bytes text ≡ text_of_front line.now) }
 {
     let day = line.day;
     let cycle = NumberInTwo { number: line.cycle };
     let flow = FlowInThree { flow: line.flow };
+    format!(in alloc; "{day} {cycle} {flow}")
+}
+
+fn pair_text(alloc: Global, line: &ScheduleLine) -> Result<String, AllocError>
+    ensures { IfOk result (λ text. string_bytes text ≡ text_of_pair line.now) }
+{
     let initiating = CodeInSixteen {
         code: line.initiating(),
     };
     let matching = CodeInSixteen {
         code: line.matching(),
     };
+    format!(in alloc; "{initiating} {matching}")
+}
+
+fn line_text(alloc: Global, line: &ScheduleLine) -> Result<String, AllocError>
+    ensures { IfOk result (λ text. string_bytes text ≡ text_of line.now) }
+{
+    let front = front_text(alloc, line)?;
+    let pair = pair_text(alloc, line)?;
     let hour = NumberInTwo { number: line.hour };
     let quantity = SignedInTwelve {
         number: line.quantity,
     };
-    format!(in alloc; "{day} {cycle} {flow} {initiating} {matching} {hour} {quantity}\n")
+    format!(in alloc; "{front} {pair} {hour} {quantity}\n")
 }
 
 fn lines_text(alloc: Global, lines: &[ScheduleLine]) -> Result<String, AllocError>
