@@ -16,7 +16,7 @@ use Rattle.gi_facts.specs.Writable.{FitsFact}
 use Rattle.gi_facts.specs.declared.fact.Fact.{Fact}
 use Rattle.gi_facts.specs.declared.fact.Fact.TheVariants.{Closed, Contracted, Met, Nominated, Noticed}
 use Rattle.gi_facts.proofs.SameLemmas.{same_cycle-is}
-use Rattle.gi_desk.specs.History.{peer_in, peer_of}
+use Rattle.gi_desk.specs.History.{peer_in}
 use Rattle.gi_desk.specs.Machine.{DeskState}
 use Rattle.gi_desk.specs.Queries.{confirmed}
 use Rattle.gi_desk.proofs.CycleLaws.{none_of}

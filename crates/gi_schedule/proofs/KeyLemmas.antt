@@ -1,5 +1,5 @@
 -- The keys of a gas day.
-use Rattle.std.proofs.Common.{◌≡◌, ◌<◌, ◌≤◌, ◌+◌, ◌*◌, ◌-◌, ℕ, zero, suc, List, [], ◌∷◌, ◌++◌, length, take, get_or, Bool, true, false, Option, Some, None, refl, sym, ap, ◌∙◌, arith}
+use Rattle.std.proofs.Common.{◌≡◌, ◌<◌, ◌+◌, ◌-◌, ℕ, List, [], ◌∷◌, ◌++◌, length, take, get_or, Bool, true, false, Option, refl, sym, ap, ◌∙◌, arith}
 use Rattle.std.specs.Prelude.{if◌then◌else◌}
 use Rattle.std.specs.BTreeSet.{insert_key}
 use Rattle.std.specs.List.{flat_map, range_with_len}
@@ -7,7 +7,6 @@ use Rattle.std.proofs.lemmas.List.{flat_map_more, take_more}
 use Rattle.jiff_core.specs.declared.civil.date.Date.{Date}
 use Rattle.gi_pairs.specs.Key.{key_cmp}
 use Rattle.gi_pairs.specs.Row.{key_of}
-use Rattle.gi_pairs.specs.Table.{TableContents}
 use Rattle.gi_pairs.specs.declared.key.Key.{Key}
 use Rattle.gi_pairs.specs.declared.row.Row.{Row}
 use Rattle.gi_messages.specs.Limits.{last_cycle}

@@ -1,5 +1,5 @@
 -- The pairs and directions that a gas day's schedule lists: those of all rows of the day's confirmed cycles.
-use Rattle.std.specs.Prelude.{ℕ, ◌+◌, ◌*◌, List, [], ◌∷◌, Bool, if◌then◌else◌, Option, Some, None}
+use Rattle.std.specs.Prelude.{ℕ, ◌+◌, ◌*◌, List, [], ◌∷◌, if◌then◌else◌, Option, Some, None}
 use Rattle.std.specs.BTreeSet.{insert_key}
 use Rattle.std.specs.List.{flat_map, range_with_len}
 use Rattle.jiff_core.specs.declared.civil.date.Date.{Date}

@@ -1,5 +1,5 @@
 -- The lines of a schedule, before they are written in any form.
-use Rattle.std.specs.Prelude.{◌≡◌, ℕ, ℤ, pos, ◌+◌, ◌*◌, ◌-ℤ◌, List, [], ◌∷◌, ◌++◌, map, Bool, false, ◌&&◌, if◌then◌else◌, nat_eq, Option, Some, None, option_map, codes}
+use Rattle.std.specs.Prelude.{◌≡◌, ℕ, ℤ, pos, ◌*◌, ◌-ℤ◌, List, [], ◌∷◌, ◌++◌, map, Bool, false, ◌&&◌, if◌then◌else◌, nat_eq, Option, Some, None, option_map, codes}
 use Rattle.std.specs.List.{flat_map, sum_by}
 use Rattle.jiff_core.specs.declared.civil.date.Date.{Date}
 use Rattle.gi_pairs.specs.Direction.{direction_text}
@@ -8,7 +8,6 @@ use Rattle.gi_pairs.specs.declared.cycle_id.CycleId.{CycleId}
 use Rattle.gi_pairs.specs.declared.direction.Direction.{Direction}
 use Rattle.gi_pairs.specs.declared.direction.Direction.TheVariants.{IM, MI}
 use Rattle.gi_pairs.specs.declared.key.Key.{Key}
-use Rattle.gi_pairs.specs.declared.pair.Pair.{Pair}
 use Rattle.gi_pairs.specs.declared.side.Side.{Side}
 use Rattle.gi_desk.specs.Machine.{DeskState}
 use Rattle.gi_desk.specs.Queries.{confirmed}

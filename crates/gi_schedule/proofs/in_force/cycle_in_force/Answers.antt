@@ -1,4 +1,4 @@
-use Rattle.std.proofs.Common.{◌≡◌, ◌+◌, ℕ, sym, ap, ◌∙◌, arith}
+use Rattle.std.proofs.Common.{◌≡◌, ◌+◌, sym, ap, ◌∙◌, arith}
 use Rattle.gi_messages.specs.Limits.{last_cycle}
 use Rattle.gi_desk.specs.Queries.{confirmed}
 use Rattle.gi_schedule.specs.InForce.{is_covered, last_below}
@@ -21,4 +21,4 @@ pub returns-clause-last : goal.returns-clause-last
 returns-clause-last g c =
     let test = is_covered (confirmed g.R.Role.SIDE c.args.desk.now) c.args.day c.args.hour in
     let all : c.loop-cycle.cycle ≡ last_cycle + 1 = omega arith in
-    in_force g.R.Role.SIDE c.args.desk.now c.args.day c.args.hour c.loop-cycle.found c.reveal_invariant.ensures.fits.facts (c.loop-cycle.invariant ∙ ap (last_below test) all)
+    in_force g.R.Role.SIDE c.args.desk.now c.args.day c.args.hour c.loop-cycle.found c.reveal_invariant.ensures.fits.facts (let reached : c.loop-cycle.found ≡ last_below test (last_cycle + 1) = c.loop-cycle.invariant ∙ ap (last_below test) all in reached)

@@ -1,8 +1,6 @@
-use Rattle.std.proofs.Common.{◌≡◌, ◌+◌, ◌-◌, ℕ, List, ap, ◌∙◌, arith}
-use Rattle.std.specs.List.{flat_map, range_with_len}
-use Rattle.gi_pairs.specs.Limits.{last_hour}
+use Rattle.std.proofs.Common.{ℕ, List, ap, ◌∙◌, arith}
 use Rattle.gi_desk.specs.Queries.{confirmed}
-use Rattle.gi_schedule.specs.InForce.{cycle_in_force, hour_if, hours_in_force}
+use Rattle.gi_schedule.specs.InForce.{cycle_in_force, hour_if}
 use Rattle.gi_schedule.specs.declared.hour_in_force.HourInForce.{HourInForce}
 use Rattle.gi_schedule.proofs.InForceLemmas.{few_hours, hours_all, number_more}
 use Rattle.gi_schedule.proofs.in_force.hours_in_force.Goals as goal

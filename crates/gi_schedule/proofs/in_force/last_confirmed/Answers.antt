@@ -1,4 +1,4 @@
-use Rattle.std.proofs.Common.{◌≡◌, ℕ, Bool, ap, sym, ◌∙◌, is_some}
+use Rattle.std.proofs.Common.{ℕ, Bool, ap, sym, ◌∙◌, is_some}
 use Rattle.gi_desk.specs.Queries.{confirmed}
 use Rattle.gi_schedule.specs.InForce.{cycle_of}
 use Rattle.gi_schedule.proofs.InForceLemmas.{last_passes, last_stays, none_below, some_copied}

@@ -1,4 +1,4 @@
-use Rattle.std.proofs.Common.{◌≡◌, ◌<◌, ◌∙◌, List, ap, arith, get_or, length, sym, subst}
+use Rattle.std.proofs.Common.{◌≡◌, ◌<◌, List, arith, get_or, length, sym, subst}
 use Rattle.gi_pairs.specs.declared.row.Row.{Row}
 use Rattle.gi_schedule.proofs.KeyLemmas.{row_more, with_none}
 use Rattle.gi_schedule.proofs.keys.add_table.Goals as goal

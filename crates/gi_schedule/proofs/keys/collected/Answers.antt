@@ -1,6 +1,5 @@
-use Rattle.std.proofs.Common.{◌≡◌, ◌+◌, ◌∙◌, ℕ, List, [], sym, ap, arith, length}
+use Rattle.std.proofs.Common.{◌∙◌, ℕ, List, [], sym, ap, arith, length}
 use Rattle.gi_pairs.specs.declared.key.Key.{Key}
-use Rattle.gi_messages.specs.Limits.{last_cycle}
 use Rattle.gi_desk.specs.Queries.{confirmed}
 use Rattle.gi_schedule.specs.InForce.{cycle_of}
 use Rattle.gi_schedule.specs.Keys.{keys_if}

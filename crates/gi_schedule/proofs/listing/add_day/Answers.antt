@@ -1,6 +1,5 @@
 use Rattle.std.proofs.Common.{◌≡◌, ◌++◌, ◌∙◌, List, OnOk, subst}
 use Rattle.gi_desk.specs.Queries.{confirmed}
-use Rattle.gi_schedule.specs.Lines.{schedule}
 use Rattle.gi_schedule.proofs.LineLemmas.{schedule_is}
 use Rattle.gi_schedule.specs.declared.schedule_line.ScheduleLine.{ScheduleLine}
 use Rattle.gi_schedule.proofs.listing.add_day.Goals as goal
