@@ -2,10 +2,10 @@
 use Rattle.std.proofs.Common.{◌≡◌, ◌<◌, ◌≤◌, ◌+◌, ◌-◌, ℕ, zero, suc, List, [], ◌∷◌, ◌++◌, take, filter_map, Bool, true, false, Option, Some, None, refl, sym, ap, ◌∙◌, arith, append_assoc, append-nil, subst, nat_lt, below_more, Bor, is_some, length, length-append}
 use Rattle.std.specs.Prelude.{if◌then◌else◌, MatchOption, All, option_map}
 use Rattle.std.specs.Option.{option_copied}
-use Rattle.std.specs.List.{cons_option, flat_map, range_with_len}
+use Rattle.std.specs.List.{AllByRecursion, cons_option, flat_map, range_with_len}
 use Rattle.std.proofs.lemmas.Bool.{ltb-true}
 use Rattle.std.proofs.lemmas.Bool.Decides.{nat_tests}
-use Rattle.std.proofs.lemmas.List.Elements.{All-head, All-tail, All-take}
+use Rattle.std.proofs.lemmas.List.Elements.{All-append, All-from_recursion, All-head, All-nil, All-tail, All-take}
 use Rattle.jiff_core.specs.declared.civil.date.Date.{Date}
 use Rattle.gi_pairs.specs.Limits.{last_hour}
 use Rattle.gi_pairs.specs.declared.cycle_id.CycleId.{CycleId}
@@ -57,6 +57,9 @@ last_is test (suc n) = by (test n) refl (last_below test n) (last_is test n)
     by false here None is = λ m below. below_more (λ m. test m ≡ false) n is here m (omega (arith, below))
     by false here (Some last) is =
         (is.0, λ m above below. below_more (λ m. last < m → test m ≡ false) n (λ m low high. is.1 m high low) (λ high. here) m (omega (arith, below)) above)
+
+pub last_found : (test : ℕ → Bool) (n last : ℕ) → last_below test n ≡ Some last → test last ≡ true
+last_found test n last is = let h = last_is test n in (subst (IsLast test n) is h).0
 
 -- ---- no cycle behind the last number is confirmed
 
@@ -151,6 +154,23 @@ hours_from cycle from (suc count) =
     let later = hours_from cycle (from + 1) count in
     let one = one_if from (cycle from) in
     omega (arith, later, one, length-append (hour_if from (cycle from)) (flat_map (λ hour. hour_if hour (cycle hour)) (range_with_len (from + 1) count)))
+
+-- an hour that is listed has the cycle that is in force for it
+each_if : (cycle : ℕ → Option ℕ) (hour : ℕ) (o : Option ℕ) → cycle hour ≡ o → AllByRecursion (λ (at : HourInForce). cycle at.hour ≡ Some at.cycle) (hour_if hour o)
+each_if cycle hour None is = tt
+each_if cycle hour (Some n) is = (is, tt)
+
+each_from : (cycle : ℕ → Option ℕ) (from count : ℕ)
+    → All (λ (at : HourInForce). cycle at.hour ≡ Some at.cycle) (flat_map (λ hour. hour_if hour (cycle hour)) (range_with_len from count))
+each_from cycle from zero = let P : HourInForce → Type 0 = λ at. cycle at.hour ≡ Some at.cycle in All-nil P
+each_from cycle from (suc count) =
+    let P : HourInForce → Type 0 = λ at. cycle at.hour ≡ Some at.cycle in
+    All-append P (hour_if from (cycle from)) (flat_map (λ hour. hour_if hour (cycle hour)) (range_with_len (from + 1) count))
+    (All-from_recursion P (hour_if from (cycle from)) (each_if cycle from (cycle from) refl)) (each_from cycle (from + 1) count)
+
+pub hours_are_in_force : (confirmed : Confirmed) (day : Date) → All (λ (at : HourInForce). cycle_in_force confirmed day at.hour ≡ Some at.cycle) (hours_in_force confirmed day)
+unfolding hours_in_force
+hours_are_in_force confirmed day = each_from (cycle_in_force confirmed day) 1 last_hour
 
 pub few_hours : (confirmed : Confirmed) (day : Date) (hours : List HourInForce) → hours ≡ hours_in_force confirmed day → length hours ≤ last_hour
 unfolding hours_in_force

@@ -4,3 +4,4 @@ pub mod LineLemmas
 pub mod ColumnLemmas
 pub mod SheetLemmas
 pub mod ObjectLemmas
+pub mod SharedLemmas

@@ -7,3 +7,4 @@ pub mod Text
 pub mod Csv
 pub mod Sheet
 pub mod Json
+pub mod Laws

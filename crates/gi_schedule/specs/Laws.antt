@@ -1,0 +1,21 @@
+-- What holds of all schedules.
+use Rattle.std.specs.Prelude.{◌≡◌, ℕ, List, All, Contains, Some, None}
+use Rattle.jiff_core.specs.declared.civil.date.Date.{Date}
+use Rattle.gi_pairs.specs.declared.cycle_id.CycleId.{CycleId}
+use Rattle.gi_pairs.specs.declared.side.Side.{Side}
+use Rattle.gi_desk.specs.Machine.{DeskState, bad_fact}
+use Rattle.gi_desk.specs.Queries.{confirmed}
+use Rattle.gi_schedule.specs.InForce.{Confirmed, cycle_in_force, hours_in_force}
+use Rattle.gi_schedule.specs.Lines.{IsSchedule}
+use Rattle.gi_schedule.specs.declared.schedule_line.ScheduleLine.{ScheduleLine}
+use Rattle.gi_schedule.specs.declared.wanted.Wanted.{Wanted}
+
+-- A schedule lists an hour with the cycle that is in force for it.
+abbrev pub ListsWhatIsInForce : Type 0
+ListsWhatIsInForce = (c : Confirmed) (day : Date) → All (λ at. cycle_in_force c day at.hour ≡ Some at.cycle) (hours_in_force c day)
+
+-- Two sides that have confirmed the same have the same schedule.
+abbrev pub SharesSchedules : Type 0
+SharesSchedules =
+    (side other : Side) (s t : DeskState) (wanted : Wanted) (lines others : List ScheduleLine) → bad_fact side s.point s.facts ≡ None → bad_fact other t.point t.facts ≡ None
+    → ((id : CycleId) → confirmed side s id ≡ confirmed other t id) → IsSchedule side s wanted lines → IsSchedule other t wanted others → lines ≡ others
