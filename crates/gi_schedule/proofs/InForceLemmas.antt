@@ -135,6 +135,14 @@ number_more f from n old added new above old_is added_is new_is =
     new_is ∙ (λ t. old_is t ++ added_is t) ∙ ap (λ m. flat_map f (range_with_len from (n - from)) ++ f m) (sym here)
     ∙ sym (last_apart f from (n - from)) ∙ ap (λ count. flat_map f (range_with_len from count)) longer
 
+-- the same behind what was there before
+pub number_added : {X : Type 0} (f : ℕ → List X) (from n : ℕ) (first old added new : List X) → from ≤ n → old ≡ first ++ flat_map f (range_with_len from (n - from))
+    → added ≡ f n → new ≡ old ++ added → new ≡ first ++ flat_map f (range_with_len from (n + 1 - from))
+number_added {X = X} f from n first old added new above old_is added_is new_is =
+    let before = flat_map f (range_with_len from (n - from)) in
+    new_is ∙ ap (λ (l : List X). l ++ added) old_is ∙ append_assoc first before added
+    ∙ ap (λ (l : List X). first ++ l) (number_more f from n before added (before ++ added) above refl added_is refl)
+
 -- ---- the hours of a gas day
 
 pub hours_all : (confirmed : Confirmed) (day : Date) (end : ℕ) → end ≡ last_hour + 1

@@ -5,3 +5,5 @@ pub mod ColumnLemmas
 pub mod SheetLemmas
 pub mod ObjectLemmas
 pub mod SharedLemmas
+pub mod NominatedLemmas
+pub mod CutLemmas

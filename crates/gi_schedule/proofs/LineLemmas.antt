@@ -1,6 +1,7 @@
 -- The lines of a schedule, one after the other.
-use Rattle.std.proofs.Common.{◌≡◌, ◌<◌, ◌+◌, ℕ, ℤ, List, ◌++◌, codes, length, take, get_or, sym, ◌∙◌}
-use Rattle.std.specs.List.{sum_by}
+use Rattle.std.proofs.Common.{◌≡◌, ◌<◌, ◌+◌, ℕ, ℤ, List, [], ◌∷◌, ◌++◌, codes, length, take, get_or, sym, ap, ◌∙◌}
+use Rattle.std.specs.List.{flat_map, sum_by}
+use Rattle.std.proofs.lemmas.List.{flat_map_more, take_more}
 use Rattle.std.specs.Prelude.{Option}
 use Rattle.std.specs.Fmt.{signed_decimal}
 use Rattle.std.proofs.lemmas.List.Sums.{sum_by_more}
@@ -18,6 +19,13 @@ use Rattle.gi_schedule.specs.declared.hour_in_force.HourInForce.{HourInForce}
 pub total_more : {X : Type 0} (f : X → ℕ) (xs : List X) (i : ℕ) (d : X) (total added : ℕ) → i < length xs → total ≡ sum_by f (take i xs) → added ≡ f (get_or xs i d)
     → total + added ≡ sum_by f (take (i + 1) xs)
 total_more f xs i d total added below total_is added_is = (λ t. total_is t + added_is t) ∙ sym (sum_by_more f xs i d below)
+
+-- what one item more gives
+pub items_more : {X A : Type 0} (f : X → List A) (xs : List X) (i : ℕ) (x : X) (first old new : List A) → i < length xs → x ≡ get_or xs i x
+    → old ≡ first ++ flat_map f (take i xs) → new ≡ old ++ f x → new ≡ first ++ flat_map f (take (i + 1) xs)
+items_more {X = X} {A = A} f xs i x first old new below is old_is new_is =
+    let front = take_more xs i x below ∙ ap (λ (y : X). take i xs ++ y ∷ []) (sym is) in
+    new_is ∙ ap (λ (l : List A). l ++ f x) old_is ∙ flat_map_more f first (take i xs) x ∙ ap (λ (l : List X). first ++ flat_map f l) (sym front)
 
 pub schedule_is : (confirmed : Confirmed) (portfolio : Option (List ℕ)) (day : Date) (keys : List Key) (hours : List HourInForce) → keys ≡ day_keys confirmed portfolio day
     → hours ≡ hours_in_force confirmed day → day_lines confirmed day keys hours ≡ schedule confirmed portfolio day

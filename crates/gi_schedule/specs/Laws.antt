@@ -1,12 +1,15 @@
 -- What holds of all schedules.
-use Rattle.std.specs.Prelude.{◌≡◌, ℕ, List, All, Contains, Some, None}
+use Rattle.std.specs.Prelude.{◌≡◌, ◌+◌, ◌-◌, List, All, Some, None}
 use Rattle.jiff_core.specs.declared.civil.date.Date.{Date}
 use Rattle.gi_pairs.specs.declared.cycle_id.CycleId.{CycleId}
 use Rattle.gi_pairs.specs.declared.side.Side.{Side}
 use Rattle.gi_desk.specs.Machine.{DeskState, bad_fact}
 use Rattle.gi_desk.specs.Queries.{confirmed}
+use Rattle.gi_desk.specs.Writable.{FitsDesk}
+use Rattle.gi_schedule.specs.Cuts.{cuts}
 use Rattle.gi_schedule.specs.InForce.{Confirmed, cycle_in_force, hours_in_force}
 use Rattle.gi_schedule.specs.Lines.{IsSchedule}
+use Rattle.gi_schedule.specs.declared.cut_line.CutLine.{CutLine}
 use Rattle.gi_schedule.specs.declared.schedule_line.ScheduleLine.{ScheduleLine}
 use Rattle.gi_schedule.specs.declared.wanted.Wanted.{Wanted}
 
@@ -19,3 +22,12 @@ abbrev pub SharesSchedules : Type 0
 SharesSchedules =
     (side other : Side) (s t : DeskState) (wanted : Wanted) (lines others : List ScheduleLine) → bad_fact side s.point s.facts ≡ None → bad_fact other t.point t.facts ≡ None
     → ((id : CycleId) → confirmed side s id ≡ confirmed other t id) → IsSchedule side s wanted lines → IsSchedule other t wanted others → lines ≡ others
+
+-- What was nominated less what is confirmed is what the two are said to have cut.
+abbrev pub IsTold : CutLine → Type 0
+IsTold line = line.by_capacity + line.by_peer ≡ line.nominated - line.confirmed
+
+abbrev pub SaysWhatWasCut : Type 0
+SaysWhatWasCut =
+    (side : Side) (s : DeskState) (wanted : Wanted) (ids : List CycleId) → bad_fact side s.point s.facts ≡ None → FitsDesk side s.point s.facts
+    → All IsTold (cuts side s wanted ids)

@@ -7,4 +7,6 @@ pub mod Text
 pub mod Csv
 pub mod Sheet
 pub mod Json
+pub mod Nominated
+pub mod Cuts
 pub mod Laws

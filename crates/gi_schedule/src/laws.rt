@@ -1,6 +1,8 @@
 //! What holds of all schedules. These functions do nothing; their clauses are the laws.
 
-ghost use Rattle.gi_schedule.specs.Laws.{ListsWhatIsInForce, SharesSchedules};
+ghost use Rattle.gi_schedule.specs.Laws.{ListsWhatIsInForce, SaysWhatWasCut, SharesSchedules};
+
+use gi_explanations::{explains_the_confirmed, explains_the_frozen};
 
 /// A schedule lists an hour with the cycle that is in force for it.
 pub fn lists_what_is_in_force()
@@ -11,3 +13,12 @@ pub fn lists_what_is_in_force()
 pub fn shares_schedules()
     ensures { SharesSchedules }
 {}
+
+/// What was nominated less what is confirmed is what a side's own capacity and the other operator are
+/// said to have cut, in every hour that is listed.
+pub fn says_what_was_cut()
+    ensures { SaysWhatWasCut }
+{
+    explains_the_frozen();
+    explains_the_confirmed();
+}

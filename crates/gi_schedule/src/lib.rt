@@ -3,12 +3,15 @@
 
 mod columns;
 mod csv_report;
+mod cut_line;
+mod cuts;
 mod hour_in_force;
 mod in_force;
 mod json_report;
 mod keys;
 mod laws;
 mod listing;
+mod nominated;
 mod objects;
 mod schedule_line;
 mod sheet;
@@ -17,10 +20,11 @@ mod totals;
 mod wanted;
 
 pub use csv_report::schedule_csv;
+pub use cut_line::CutLine;
 pub use hour_in_force::HourInForce;
 pub use in_force::{cycle_in_force, quantity_in_force};
 pub use json_report::schedule_json;
-pub use laws::{lists_what_is_in_force, shares_schedules};
+pub use laws::{lists_what_is_in_force, says_what_was_cut, shares_schedules};
 pub use schedule_line::{Flow, ScheduleLine};
 pub use text_report::schedule_report;
 pub use wanted::Wanted;
