@@ -3,9 +3,10 @@ use Rattle.std.proofs.Common.{◌≡◌, ◌<◌, ℕ, suc, ℤ, pos, negsuc, �
 use Rattle.std.proofs.Padding.{padded_integral_right, take_chars_all, repeat_ascii, char_count-nil, char_count-cons}
 use Rattle.std.proofs.lemmas.Bool.{lt-ltb}
 use Rattle.std.proofs.lemmas.Bool.Decides.{nat_tests}
-use Rattle.std.specs.Fmt.{char_count, decimal, format_spec, padded, padded_integral, signed_decimal, styled_signed_decimal, styled_text}
+use Rattle.std.specs.Fmt.{char_count, decimal, format_spec, padded, padded_integral, signed_decimal, styled_decimal, styled_signed_decimal, styled_text}
 use Rattle.std.specs.Int.{is_negative}
 use Rattle.std.specs.Str.{IsAscii}
+use Rattle.gi_text.specs.Columns.{right_in}
 use Rattle.gi_reports.specs.Columns.{left_in}
 use Rattle.gi_schedule.specs.Columns.{right_of}
 
@@ -24,6 +25,10 @@ plus_is n = grind (arith, nat_tests)
 pub twelve_is : (number : ℤ) → styled_signed_decimal (format_spec 32 3 0 12 (2 ^ 64 - 1)) number ≡ right_of 12 (signed_decimal number)
 twelve_is (pos n) = ap (λ (b : Bool). padded_integral (format_spec 32 3 0 12 (2 ^ 64 - 1)) b [] (decimal n)) (plus_is n) ∙ padded_integral_right (format_spec 32 3 0 12 (2 ^ 64 - 1)) (decimal n) refl refl (omega arith) (omega arith) (omega arith)
 twelve_is (negsuc n) = minus_is (decimal (suc n))
+
+-- what it writes of one that is not
+pub whole_is : (number : ℕ) → styled_decimal (format_spec 32 3 0 12 (2 ^ 64 - 1)) number ≡ right_in 12 number
+whole_is number = padded_integral_right (format_spec 32 3 0 12 (2 ^ 64 - 1)) (decimal number) refl refl (omega arith) (omega arith) (omega arith)
 
 -- each byte of an ASCII text is a character
 one_each : (text : List ℕ) → IsAscii text → char_count text ≡ length text

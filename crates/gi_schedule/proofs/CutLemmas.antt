@@ -1,5 +1,5 @@
 -- What was cut.
-use Rattle.std.proofs.Common.{◌≡◌, ◌<◌, ◌≤◌, ◌+◌, ◌-◌, ℕ, zero, suc, List, [], ◌∷◌, ◌++◌, min, nat_lt, Bool, true, false, Option, Some, None, refl, sym, ap, ◌∙◌, arith, subst}
+use Rattle.std.proofs.Common.{◌≡◌, ◌<◌, ◌≤◌, ◌+◌, ◌-◌, ℕ, zero, suc, List, [], ◌∷◌, min, nat_lt, Bool, true, false, Option, Some, None, refl, sym, ap, arith}
 use Rattle.std.specs.Prelude.{if◌then◌else◌, All}
 use Rattle.std.specs.List.{flat_map, range_with_len}
 use Rattle.std.proofs.lemmas.Bool.Decides.{nat_tests}
@@ -17,9 +17,8 @@ use Rattle.gi_desk.specs.Machine.{DeskState, bad_fact}
 use Rattle.gi_desk.specs.Queries.{confirmed, frozen}
 use Rattle.gi_desk.specs.Writable.{FitsDesk}
 use Rattle.gi_explanations.specs.Laws.{ExplainsTheConfirmed, ExplainsTheFrozen}
-use Rattle.gi_explanations.specs.Reduction.{processed_quantity}
 use Rattle.gi_explanations.specs.declared.question.Question.{Question}
-use Rattle.gi_schedule.specs.Cuts.{cuts, cuts_if, cuts_of, cycle_cuts, cycle_lines, hour_cut, if_cut, key_cuts, line_of, peer_table, read_at, row_cuts}
+use Rattle.gi_schedule.specs.Cuts.{cuts, cuts_if, cuts_of, cycle_lines, hour_cut, if_cut, key_cuts, line_of, peer_table, read_at, row_cuts}
 use Rattle.gi_schedule.specs.Laws.{SaysWhatWasCut, IsTold}
 use Rattle.gi_schedule.specs.Nominated.{nominated_line}
 use Rattle.gi_schedule.specs.Wanted.{wants_day, wants_pair}

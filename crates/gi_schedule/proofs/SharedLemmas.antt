@@ -1,15 +1,15 @@
 -- Schedules of two sides that have confirmed the same.
-use Rattle.std.proofs.Common.{◌≡◌, ◌+◌, ℕ, zero, suc, List, [], ◌∷◌, ◌++◌, take, filter, filter_map, Bool, true, false, cond, ◌⊎◌, inl, inr, Option, Some, None, Ordering, Less, Equal, Greater, refl, sym, ap, ◌∙◌, subst, is_some, Contains, true≢false, nat_eq, arith}
-use Rattle.std.specs.Prelude.{if◌then◌else◌, ◌&&◌, ◌||◌, option_map}
+use Rattle.std.proofs.Common.{◌≡◌, ℕ, zero, suc, List, [], ◌∷◌, ◌++◌, take, filter, Bool, true, false, cond, inl, inr, Option, Some, None, Less, Greater, refl, sym, ap, ◌∙◌, subst, is_some, true≢false, nat_eq, arith}
+use Rattle.std.specs.Prelude.{if◌then◌else◌, ◌||◌, option_map}
 use Rattle.std.specs.Cmp.{IsTotalOrder}
-use Rattle.std.specs.List.{AllByRecursion, cons_option, flat_map}
-use Rattle.std.specs.List.Sorted.{IsPermutation, IsStrictlySortedBy}
-use Rattle.std.specs.Ordering.{int_cmp, nat_cmp, ordering_reverse}
+use Rattle.std.specs.List.{AllByRecursion, cons_option}
+use Rattle.std.specs.List.Sorted.{IsStrictlySortedBy}
+use Rattle.std.specs.Ordering.{ordering_reverse}
 use Rattle.std.proofs.lemmas.Bool.{and_parts}
 use Rattle.std.proofs.lemmas.Bool.Decides.{nat_tests}
 use Rattle.std.proofs.lemmas.Cmp.{int_cmp_total, nat_cmp_total, on_total, then_total}
 use Rattle.std.proofs.lemmas.List.Kept.{IsStrictlySortedBy-filter}
-use Rattle.std.proofs.lemmas.List.Sorted.{Contains-permutation, IsPermutation-sym}
+use Rattle.std.proofs.lemmas.List.Sorted.{Contains-permutation}
 use Rattle.std.proofs.lemmas.Map.Keys.{sorted_head, sorted_tail}
 use Rattle.jiff_core.specs.Date.{epoch_day}
 use Rattle.gi_pairs.specs.CycleId.{cycle_cmp}
@@ -21,13 +21,13 @@ use Rattle.gi_facts.specs.Same.{same_cycle}
 use Rattle.gi_facts.specs.declared.fact.Fact.{Fact}
 use Rattle.gi_facts.specs.declared.fact.Fact.TheVariants.{Closed, Contracted, Met, Nominated, Noticed}
 use Rattle.gi_facts.proofs.SameLemmas.{same_cycle-is}
-use Rattle.gi_desk.specs.History.{closing_in, closings, is_closed, is_closing, peer_of}
+use Rattle.gi_desk.specs.History.{closing_in, closings, is_closed, peer_of}
 use Rattle.gi_desk.specs.Machine.{DeskState, bad_fact}
 use Rattle.gi_desk.specs.Queries.{confirmed}
 use Rattle.gi_desk.proofs.Confirmed.{met_closed}
 use Rattle.gi_desk.proofs.Legality.{legal-front}
 use Rattle.gi_reports.specs.Cycles.{AreClosedCycles}
-use Rattle.gi_schedule.specs.InForce.{Confirmed, cycle_of, last_below, last_confirmed}
+use Rattle.gi_schedule.specs.InForce.{Confirmed, cycle_of, last_confirmed}
 use Rattle.gi_schedule.specs.Lines.{IsSchedule, is_listed, is_number, lines_if, schedule, schedules}
 use Rattle.gi_schedule.specs.declared.schedule_line.ScheduleLine.{ScheduleLine}
 use Rattle.gi_schedule.specs.declared.wanted.Wanted.{Wanted}

@@ -1,5 +1,5 @@
 -- Where a pair gets less than was nominated, and who cut it.
-use Rattle.std.specs.Prelude.{◌≡◌, ℕ, ◌-◌, min, List, [], ◌∷◌, Bool, ◌&&◌, nat_lt, if◌then◌else◌, Option, Some, None, option_map}
+use Rattle.std.specs.Prelude.{◌≡◌, ℕ, ◌-◌, min, List, [], ◌∷◌, nat_lt, if◌then◌else◌, Option, Some, option_map}
 use Rattle.std.specs.List.{flat_map, range_with_len}
 use Rattle.gi_pairs.specs.Row.{key_of}
 use Rattle.gi_pairs.specs.Table.{TableContents, covered, reading}

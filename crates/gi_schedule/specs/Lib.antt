@@ -9,4 +9,5 @@ pub mod Sheet
 pub mod Json
 pub mod Nominated
 pub mod Cuts
+pub mod CutForms
 pub mod Laws

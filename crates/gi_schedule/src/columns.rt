@@ -4,6 +4,7 @@ ghost use Rattle.std.specs.Prelude.{◌≡◌, ◌≤◌, Some, length};
 ghost use Rattle.std.specs.Fmt.{signed_decimal};
 ghost use Rattle.std.specs.Str.{IsAscii};
 ghost use Rattle.gi_reports.specs.Columns.{left_in};
+ghost use Rattle.gi_text.specs.Columns.{right_in};
 ghost use Rattle.gi_schedule.specs.Columns.{code_or_all, flow_column, number_column, right_of};
 
 use crate::schedule_line::Flow;
@@ -87,6 +88,21 @@ pub(crate) struct SignedInTwelve {
 
 impl fmt::Display for SignedInTwelve {
     ghost output = { λ n. Some (right_of 12 (signed_decimal n.number)) };
+
+    fn fmt<W: fmt::Write>(&self, f: &mut fmt::Formatter<W>) -> fmt::Result {
+        let number = self.number;
+        write!(f, "{number:>12}")
+    }
+}
+
+/// A quantity that is printed right in twelve places.
+#[derive(Clone, Copy)]
+pub(crate) struct RightInTwelve {
+    pub number: u64,
+}
+
+impl fmt::Display for RightInTwelve {
+    ghost output = { λ n. Some (right_in 12 n.number) };
 
     fn fmt<W: fmt::Write>(&self, f: &mut fmt::Formatter<W>) -> fmt::Result {
         let number = self.number;

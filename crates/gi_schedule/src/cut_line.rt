@@ -1,3 +1,6 @@
+ghost use Rattle.std.specs.Prelude.{◌≡◌};
+ghost use Rattle.gi_schedule.specs.CutForms.{cut_word};
+
 use gi_pairs::{CycleId, Direction, Pair};
 
 /// An hour of a confirmed cycle in which a pair gets less than was nominated, in kWh/h: what its
@@ -15,4 +18,20 @@ pub struct CutLine {
     pub confirmed: u64,
     pub by_capacity: u64,
     pub by_peer: u64,
+}
+
+impl CutLine {
+    /// `capacity`, `peer` or `both`: who cut it.
+    pub(crate) fn word(&self) -> &'static str
+        ensures { result.now ≡ cut_word self.now }
+    {
+        if self.by_capacity == 0 {
+            return "peer";
+        }
+        if self.by_peer == 0 {
+            "capacity"
+        } else {
+            "both"
+        }
+    }
 }

@@ -3,6 +3,7 @@
 ghost use Rattle.std.specs.Prelude.{◌≡◌, ◌++◌, IfOk, codes};
 ghost use Rattle.json.specs.Print.{print};
 ghost use Rattle.serde_json.specs.Data.{string};
+ghost use Rattle.gi_messages.specs.Writing.{whole};
 ghost use Rattle.gi_schedule.specs.Json.{AddsAt, code_data, number_data, signed_data};
 
 use gi_pairs::Code;
@@ -18,6 +19,14 @@ pub(crate) fn put_whole(out: &mut Writer, name: &str, number: Option<u8>) -> Res
         Some(number) => out.u64(u64::from(number)),
         None => out.null(),
     }
+}
+
+/// Adds a quantity at a name.
+pub(crate) fn put_quantity(out: &mut Writer, name: &str, number: u64) -> Result<(), AllocError>
+    ensures { AddsAt result out.old out.new name.now (whole number) }
+{
+    out.key(name)?;
+    out.u64(number)
 }
 
 /// Adds a text at a name.

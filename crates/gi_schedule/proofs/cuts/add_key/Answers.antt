@@ -1,4 +1,4 @@
-use Rattle.std.proofs.Common.{◌≡◌, ◌≤◌, ℕ, List, ap, arith}
+use Rattle.std.proofs.Common.{◌≤◌, ℕ, List, ap, arith}
 use Rattle.std.specs.Option.{option_copied}
 use Rattle.gi_schedule.specs.Cuts.{hour_cut, if_cut}
 use Rattle.gi_schedule.specs.declared.cut_line.CutLine.{CutLine}

@@ -1,4 +1,4 @@
-use Rattle.std.proofs.Common.{arith, sym}
+use Rattle.std.proofs.Common.{arith}
 use Rattle.gi_schedule.proofs.NominatedLemmas.{all_before, before_closing, closing_number, closing_within}
 use Rattle.gi_schedule.proofs.nominated.count_before.Goals as goal
 

@@ -1,4 +1,4 @@
-use Rattle.std.proofs.Common.{◌<◌, ◌≤◌, arith, length, sym}
+use Rattle.std.proofs.Common.{◌<◌, arith, length, sym}
 use Rattle.std.specs.Option.{option_copied}
 use Rattle.gi_schedule.proofs.NominatedLemmas.{none_taken, taken_more}
 use Rattle.gi_schedule.proofs.nominated.standing.Goals as goal
