@@ -88,10 +88,11 @@ unconfirmed_beyond side s id fits beyond =
 abbrev AnswersInForce : Confirmed → Date → ℕ → Option ℕ → Type 0
 AnswersInForce confirmed day hour found = MatchOption found ((cycle : ℕ) → is_covered confirmed day hour cycle ≡ false) (IsInForce confirmed day hour)
 
-pub in_force : (side : Side) (s : DeskState) (day : Date) (hour : ℕ) (found : Option ℕ) → All FitsFact s.facts → found ≡ cycle_in_force (confirmed side s) day hour
+pub in_force : (side : Side) (s : DeskState) (day : Date) (hour : ℕ) (found : Option ℕ) (end : ℕ) → All FitsFact s.facts → end ≡ last_cycle + 1
+    → found ≡ last_below (is_covered (confirmed side s) day hour) end
     → MatchOption found ((cycle : ℕ) → is_covered (confirmed side s) day hour cycle ≡ false) (IsInForce (confirmed side s) day hour)
-in_force side s day hour found fits is =
-    subst (AnswersInForce (confirmed side s) day hour) (sym is) (by (cycle_in_force (confirmed side s) day hour) (last_is test (last_cycle + 1)))
+in_force side s day hour found end fits ends is =
+    subst (AnswersInForce (confirmed side s) day hour) (sym (is ∙ ap (last_below test) ends)) (by (last_below test (last_cycle + 1)) (last_is test (last_cycle + 1)))
   where
     test : ℕ → Bool
     test = is_covered (confirmed side s) day hour

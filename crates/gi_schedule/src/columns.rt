@@ -90,8 +90,8 @@ impl fmt::Display for SignedInTwelve {
     ghost output = { λ n. Some (right_of 12 (signed_decimal n.number)) };
 
     fn fmt<W: fmt::Write>(&self, f: &mut fmt::Formatter<W>) -> fmt::Result {
-        let number = self.number;
-        write!(f, "{number:>12}")
+        let signed = self.number;
+        write!(f, "{signed:>12}")
     }
 }
 

@@ -1,7 +1,6 @@
-use Rattle.std.proofs.Common.{◌≡◌, ◌+◌, sym, ap, ◌∙◌, arith}
-use Rattle.gi_messages.specs.Limits.{last_cycle}
+use Rattle.std.proofs.Common.{sym, ◌∙◌, arith}
 use Rattle.gi_desk.specs.Queries.{confirmed}
-use Rattle.gi_schedule.specs.InForce.{is_covered, last_below}
+use Rattle.gi_schedule.specs.InForce.{is_covered}
 use Rattle.gi_schedule.proofs.InForceLemmas.{in_force, last_passes, last_stays, none_below}
 use Rattle.gi_schedule.proofs.in_force.cycle_in_force.Goals as goal
 use Rattle.gi_schedule.proofs.in_force.cycle_in_force.Goals.{then-is_covered, else-is_covered}
@@ -19,6 +18,4 @@ loop-cycle-preserved g c =
 
 pub returns-clause-last : goal.returns-clause-last
 returns-clause-last g c =
-    let test = is_covered (confirmed g.R.Role.SIDE c.args.desk.now) c.args.day c.args.hour in
-    let all : c.loop-cycle.cycle ≡ last_cycle + 1 = omega arith in
-    in_force g.R.Role.SIDE c.args.desk.now c.args.day c.args.hour c.loop-cycle.found c.reveal_invariant.ensures.fits.facts (let reached : c.loop-cycle.found ≡ last_below test (last_cycle + 1) = c.loop-cycle.invariant ∙ ap (last_below test) all in reached)
+    in_force g.R.Role.SIDE c.args.desk.now c.args.day c.args.hour c.loop-cycle.found c.loop-cycle.cycle c.reveal_invariant.ensures.fits.facts (omega arith) c.loop-cycle.invariant
