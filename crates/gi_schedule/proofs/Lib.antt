@@ -1,0 +1,10 @@
+pub mod InForceLemmas
+pub mod KeyLemmas
+pub mod LineLemmas
+pub mod ColumnLemmas
+pub mod SheetLemmas
+pub mod ObjectLemmas
+pub mod SharedLemmas
+pub mod NominatedLemmas
+pub mod CutLemmas
+pub mod ListedLemmas

@@ -1,0 +1,7 @@
+use Rattle.std.proofs.Common.{◌≡◌, take}
+use Rattle.gi_schedule.specs.CutForms.{cut_data}
+use Rattle.gi_schedule.specs.Json.{json_lines}
+use Rattle.gi_schedule.proofs.json_cuts.cuts_json.Given as goal
+
+abbrev pub invariant-loop-line : goal.invariant-loop-line
+invariant-loop-line l = l.text.items ≡ json_lines cut_data (take l.line-index l.lines)

@@ -1,0 +1,24 @@
+use Rattle.gi_messages.proofs.WrittenTokens.{wrote, followed, ended}
+use Rattle.gi_schedule.specs.CutForms.{cut_data}
+use Rattle.gi_schedule.proofs.json_cuts.put_cut.Goals as goal
+
+pub returns : goal.returns
+unfolding cut_data
+returns c =
+    let r = c.end_object.result in
+    let out = c.end_object.new.self in
+    followed r out _ (wrote c.in_ok-begin_object.ensures)
+    (followed r out _ c.in_ok-put_quantity.ensures
+    (followed r out _ c.in_ok-put_quantity-2.ensures
+    (followed r out _ c.in_ok-put_quantity-3.ensures
+    (followed r out _ (rw c.word.ensures at c.in_ok-put_word.ensures)
+    (followed r out _ (rw c.from.ensures at c.in_ok-put_number.ensures)
+    (followed r out _ c.in_ok-put_day.ensures
+    (followed r out _ c.in_ok-put_direction.ensures
+    (followed r out _ (rw c.from-2.ensures at c.in_ok-put_quantity-4.ensures)
+    (followed r out _ c.in_ok-put_code.ensures
+    (followed r out _ c.in_ok-put_code-2.ensures
+    (followed r out _ c.in_ok-put_quantity-5.ensures
+    (followed r out _ c.in_ok-put_quantity-6.ensures
+    (followed r out _ c.in_ok-put_quantity-7.ensures
+    (ended c.end_object.ensures))))))))))))))

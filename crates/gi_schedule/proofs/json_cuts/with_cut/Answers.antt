@@ -1,0 +1,7 @@
+use Rattle.std.proofs.lemmas.Result.{IfOk-weaker}
+use Rattle.gi_schedule.specs.CutForms.{cut_data}
+use Rattle.gi_schedule.proofs.ObjectLemmas.{line_more}
+use Rattle.gi_schedule.proofs.json_cuts.with_cut.Goals as goal
+
+pub returns : goal.returns
+returns c = IfOk-weaker c.ended.result _ _ (λ bytes is. line_more (cut_data c.args.line.now) c.args.text.items bytes.items c.new-out.ensures.before c.new-out.ensures.tokens c.in_ok-put_cut.ensures is) c.ended.ensures

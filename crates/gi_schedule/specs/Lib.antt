@@ -1,0 +1,13 @@
+pub mod InForce
+pub mod Wanted
+pub mod Keys
+pub mod Lines
+pub mod Columns
+pub mod Text
+pub mod Csv
+pub mod Sheet
+pub mod Json
+pub mod Nominated
+pub mod Cuts
+pub mod CutForms
+pub mod Laws
