@@ -7,3 +7,4 @@ pub mod ObjectLemmas
 pub mod SharedLemmas
 pub mod NominatedLemmas
 pub mod CutLemmas
+pub mod ListedLemmas

@@ -1,12 +1,15 @@
 //! What holds of all schedules. These functions do nothing; their clauses are the laws.
 
-ghost use Rattle.gi_schedule.specs.Laws.{ListsWhatIsInForce, SaysWhatWasCut, SharesSchedules};
+ghost use Rattle.gi_schedule.specs.Laws.{ListsEachHour, ListsEachPair, ListsWhatIsInForce, SaysWhatWasCut, SharesSchedules};
 
 use gi_explanations::{explains_the_confirmed, explains_the_frozen};
 
-/// A schedule lists an hour with the cycle that is in force for it.
+/// A schedule lists an hour with the cycle that is in force for it; it lists each such hour, and each
+/// pair and direction for which a confirmed cycle of the gas day has a row.
 pub fn lists_what_is_in_force()
-    ensures { ListsWhatIsInForce }
+    ensures in_force { ListsWhatIsInForce }
+    ensures hours { ListsEachHour }
+    ensures pairs { ListsEachPair }
 {}
 
 /// Two sides that have confirmed the same have the same schedule, whatever else they have closed.

@@ -1,5 +1,12 @@
 use Rattle.gi_schedule.proofs.InForceLemmas.{hours_are_in_force}
+use Rattle.gi_schedule.proofs.ListedLemmas.{each_hour, each_pair}
 use Rattle.gi_schedule.proofs.laws.lists_what_is_in_force.Goals as goal
 
-pub returns : goal.returns
-returns c = hours_are_in_force
+pub returns-clause-in_force : goal.returns-clause-in_force
+returns-clause-in_force c = hours_are_in_force
+
+pub returns-clause-hours : goal.returns-clause-hours
+returns-clause-hours c = each_hour
+
+pub returns-clause-pairs : goal.returns-clause-pairs
+returns-clause-pairs c = each_pair
