@@ -1,11 +1,10 @@
 -- What a gas day's schedule lists: each hour that a confirmed cycle covers, and each pair for which one has a row.
-use Rattle.std.proofs.Common.{◌≡◌, ◌<◌, ◌≤◌, ◌+◌, ◌-◌, ℕ, zero, suc, List, [], ◌∷◌, ◌++◌, Bool, true, false, ◌⊎◌, inl, inr, Option, Some, None, Ordering, Less, Equal, Greater, refl, sym, ap, ◌∙◌, arith, subst, nat_eq}
+use Rattle.std.proofs.Common.{◌≡◌, ◌<◌, ◌≤◌, ◌+◌, ℕ, zero, suc, List, [], ◌∷◌, ◌++◌, Bool, true, false, inl, inr, Option, Ordering, Less, Equal, Greater, refl, sym, ap, ◌∙◌, arith, subst, nat_eq}
 use Rattle.std.specs.Prelude.{if◌then◌else◌}
 use Rattle.std.specs.BTreeSet.{insert_key}
 use Rattle.std.specs.List.{flat_map, range_with_len}
 use Rattle.std.specs.Ordering.{is_eq, match_ordering}
 use Rattle.std.proofs.lemmas.Bool.Decides.{nat_tests}
-use Rattle.jiff_core.specs.declared.civil.date.Date.{Date}
 use Rattle.gi_pairs.specs.Key.{key_cmp}
 use Rattle.gi_pairs.specs.Limits.{last_hour}
 use Rattle.gi_pairs.specs.Row.{key_of}
@@ -15,11 +14,10 @@ use Rattle.gi_pairs.specs.declared.row.Row.{Row}
 use Rattle.gi_pairs.proofs.Building.{In, contains_from_in, in_from_contains}
 use Rattle.gi_pairs.proofs.KeyOrder.{key_same}
 use Rattle.gi_messages.specs.Limits.{last_cycle}
-use Rattle.gi_schedule.specs.InForce.{Confirmed, cycle_in_force, cycle_of, hour_if, hours_in_force}
-use Rattle.gi_schedule.specs.Keys.{day_keys, keys_if, row_keys, table_keys, with_each}
+use Rattle.gi_schedule.specs.InForce.{cycle_in_force, cycle_of, hour_if, hours_in_force}
+use Rattle.gi_schedule.specs.Keys.{day_keys, keys_if, row_keys, with_each}
 use Rattle.gi_schedule.specs.Laws.{ListsEachHour, ListsEachPair}
 use Rattle.gi_schedule.specs.Wanted.{wants_pair}
-use Rattle.gi_schedule.specs.declared.hour_in_force.HourInForce.{HourInForce}
 
 -- ---- lists that are joined
 
