@@ -6,6 +6,7 @@ use Rattle.gi_command_line.specs.declared.expected.ExpectedFacts.{ExpectedFacts}
 use Rattle.gi_command_line.specs.declared.request.BookFile.{BookFile}
 use Rattle.gi_command_line.specs.declared.request.Format.{Format}
 use Rattle.gi_command_line.specs.declared.request.NamedQuantity.{NamedQuantity}
+use Rattle.gi_command_line.specs.declared.request.Narrowing.{Narrowing}
 use Rattle.gi_command_line.specs.declared.request.OfficeRun.{OfficeRun}
 use Rattle.gi_command_line.specs.declared.request.ReportKind.{ReportKind}
 use Rattle.gi_command_line.specs.declared.request.Request.{Request}
@@ -23,15 +24,20 @@ pub record QuantityWords : Type 0 where
   pub cycle : ℕ
   pub hour : ℕ
 
+-- the words of the gas day and of the portfolio to which a report is narrowed, where there are any
+pub record NarrowingWords : Type 0 where
+  pub day : Option (List ℕ)
+  pub portfolio : Option (List ℕ)
+
 -- one of the commands but `office` and `serve`: a script's steps, with a trace or without; a report of this kind, in this format
--- and of this side, or what a quantity comes from at a side, over a script or over the book in a file, for this point; the audit
+-- and of this side, narrowed so, or what a quantity comes from at a side, over a script or over the book in a file, for this point; the audit
 -- of the initiating and the matching operator's books in files, for this point; what a book in a file is, with the number of its
 -- first facts that are expected to have a digest, and the digest; or a command in wrong words
 pub data Asked : Type 0 where
   match_tables : Asked
   hours : List ℕ → Asked
   simulate : Bool → Asked
-  report : ReportKind → Format → Side → Option (List ℕ × List ℕ) → Asked
+  report : ReportKind → Format → Side → NarrowingWords → Option (List ℕ × List ℕ) → Asked
   explain : Side → QuantityWords → Option (List ℕ × List ℕ) → Asked
   audit : List ℕ → List ℕ → List ℕ → Asked
   about_book : List ℕ → Option (ℕ × List ℕ) → Asked
@@ -52,6 +58,9 @@ quantity_words named = record {
   hour = named.hour;
 }
 
+abbrev pub narrowing_words : Narrowing → NarrowingWords
+narrowing_words narrowing = record { day = option_map (λ s. s.now) narrowing.day; portfolio = option_map (λ s. s.now) narrowing.portfolio }
+
 abbrev pub expected_words : ExpectedFacts → ℕ × List ℕ
 expected_words expected = (expected.facts, expected.digest.now)
 
@@ -59,7 +68,7 @@ abbrev pub meaning : Request → Asked
 meaning request.Match = match_tables
 meaning (request.Hours day) = hours day.now
 meaning (request.Simulate trace) = simulate trace
-meaning (request.Report wanted) = report wanted.kind wanted.format wanted.side (book_of wanted.book)
+meaning (request.Report wanted) = report wanted.kind wanted.format wanted.side (narrowing_words wanted.narrowing) (book_of wanted.book)
 meaning (request.Explain wanted) = explain wanted.side (quantity_words wanted.quantity) (book_of wanted.book)
 meaning (request.Audit books) = audit books.initiating.now books.matching.now books.point.now
 meaning (request.Book question) = about_book question.file.now (option_map expected_words question.expected)

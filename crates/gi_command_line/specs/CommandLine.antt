@@ -1,5 +1,5 @@
 -- What the words of a command line mean.
-use Rattle.std.specs.Prelude.{◌≡◌, ◌≢◌, ◌⊎◌, ℕ, Bool, List, [], ◌∷◌, Option, None, Some, true, false, if◌then◌else◌, option_map, unwrap_or, codes}
+use Rattle.std.specs.Prelude.{◌≡◌, ◌≢◌, ◌⊎◌, ℕ, Bool, List, [], ◌∷◌, Option, None, Some, true, false, if◌then◌else◌, option_map, unwrap_or, is_some, not, ◌&&◌, ◌||◌, codes}
 use Rattle.std.specs.Str.{bytes_eq}
 use Rattle.clap.specs.Words.{App, IsAmong, Kinds, Row, Rule, fault_of, first_of, new_app, new_rule, subcommand_of, with_rule, with_subcommand}
 use Rattle.clap.specs.declared.builder.action.ArgAction.TheVariants.{SetTrue}
@@ -9,10 +9,10 @@ use Rattle.gi_pairs.specs.Direction.{direction_named}
 use Rattle.gi_pairs.specs.Side.{side_named}
 use Rattle.gi_pairs.specs.declared.direction.Direction.{Direction}
 use Rattle.gi_pairs.specs.declared.side.Side.{Side}
-use Rattle.gi_command_line.specs.Asked.{Asked, QuantityWords, Wanted, about_book, at_once, audit, explain, hours, match_tables, mistaken, office, report, serve, simulate}
+use Rattle.gi_command_line.specs.Asked.{Asked, NarrowingWords, QuantityWords, Wanted, about_book, at_once, audit, explain, hours, match_tables, mistaken, office, report, serve, simulate}
 use Rattle.gi_command_line.specs.Expected.{expected_named}
 use Rattle.gi_command_line.specs.Numbers.{cycle_named, hour_named}
-use Rattle.gi_command_line.specs.ReportWords.{format_named, kind_named}
+use Rattle.gi_command_line.specs.ReportWords.{can_be_narrowed, format_named, kind_named}
 use Rattle.gi_command_line.specs.Sessions.{default_sessions, sessions_named}
 use Rattle.gi_command_line.specs.Wait.{no_wait, wait_named}
 use Rattle.gi_command_line.specs.declared.request.Format.{Format}
@@ -53,8 +53,13 @@ with_hour app = with_rule (with_rule (with_rule app (word (codes "DAY"))) (word 
 abbrev pub with_book : App → App
 with_book app = with_rule (with_rule app (option (codes "book"))) (option (codes "point"))
 
+-- the gas day and the portfolio to which a report is narrowed
+abbrev pub with_narrowing : App → App
+with_narrowing app = with_rule (with_rule app (option (codes "day"))) (option (codes "portfolio"))
+
 abbrev pub the_report : App
-the_report = with_book (with_rule (with_rule (with_rule (new_app (codes "report")) (word (codes "KIND"))) (word (codes "SIDE"))) (option (codes "format")))
+the_report =
+    with_book (with_narrowing (with_rule (with_rule (with_rule (new_app (codes "report")) (word (codes "KIND"))) (word (codes "SIDE"))) (option (codes "format"))))
 
 abbrev pub the_explain : App
 the_explain = with_book (with_hour (with_pair (with_rule (new_app (codes "explain")) (word (codes "SIDE")))))
@@ -122,12 +127,19 @@ abbrev pub format_asked : Option (List ℕ) → Option Format
 format_asked None = Some Text
 format_asked (Some word) = format_named word
 
-abbrev pub report_of : Option ReportKind → Option Side → Option Format → Option (Option (List ℕ × List ℕ)) → Asked
-report_of None side format book = mistaken
-report_of (Some kind) None format book = mistaken
-report_of (Some kind) (Some side) None book = mistaken
-report_of (Some kind) (Some side) (Some format) None = mistaken
-report_of (Some kind) (Some side) (Some format) (Some book) = report kind format side book
+-- what a report is narrowed to, by the words; only a schedule and cuts are
+abbrev pub narrowing_asked : List Row → NarrowingWords
+narrowing_asked rows = record { day = first_of (codes "day") rows; portfolio = first_of (codes "portfolio") rows }
+
+abbrev pub fits : ReportKind → NarrowingWords → Bool
+fits kind words = can_be_narrowed kind || (not (is_some words.day) && not (is_some words.portfolio))
+
+abbrev pub report_of : Option ReportKind → Option Side → Option Format → NarrowingWords → Option (Option (List ℕ × List ℕ)) → Asked
+report_of None side format words book = mistaken
+report_of (Some kind) None format words book = mistaken
+report_of (Some kind) (Some side) None words book = mistaken
+report_of (Some kind) (Some side) (Some format) words None = mistaken
+report_of (Some kind) (Some side) (Some format) words (Some book) = if fits kind words then report kind format side words book else mistaken
 
 -- the value of a word, the empty one where there is none
 abbrev pub value_of : List ℕ → List Row → List ℕ
@@ -135,7 +147,8 @@ value_of name rows = unwrap_or (first_of name rows) []
 
 abbrev pub report_asked : List Row → Asked
 report_asked rows =
-    report_of (kind_named (value_of (codes "KIND") rows)) (side_named (value_of (codes "SIDE") rows)) (format_asked (first_of (codes "format") rows)) (book_asked rows)
+    report_of (kind_named (value_of (codes "KIND") rows)) (side_named (value_of (codes "SIDE") rows)) (format_asked (first_of (codes "format") rows)) (narrowing_asked rows)
+    (book_asked rows)
 
 -- the words of a quantity are those of its portfolios and gas day, of whatever text, its direction, and numbers
 abbrev pub quantity_of : List Row → Direction → ℕ → ℕ → QuantityWords

@@ -5,11 +5,11 @@ use Rattle.gi_pairs.specs.Direction.{direction_text}
 use Rattle.gi_pairs.specs.Side.{side_named, side_text}
 use Rattle.gi_pairs.specs.declared.direction.Direction.{Direction}
 use Rattle.gi_pairs.specs.declared.side.Side.{Side}
-use Rattle.gi_command_line.specs.Asked.{QuantityWords, Wanted, about_book, at_once, audit, explain, hours, match_tables, mistaken, office, report, serve, simulate}
+use Rattle.gi_command_line.specs.Asked.{NarrowingWords, QuantityWords, Wanted, about_book, at_once, audit, explain, hours, match_tables, mistaken, office, report, serve, simulate}
 use Rattle.gi_command_line.specs.CommandLine.{MeansHours, MeansMatch, asked, objections}
 use Rattle.gi_command_line.specs.Expected.{expected_named, is_digest, most_facts}
 use Rattle.gi_command_line.specs.Numbers.{cycle_named, hour_named}
-use Rattle.gi_command_line.specs.ReportWords.{format_text, kind_text}
+use Rattle.gi_command_line.specs.ReportWords.{can_be_narrowed, format_text, kind_text}
 use Rattle.gi_command_line.specs.Sessions.{default_sessions}
 use Rattle.gi_command_line.specs.Wait.{IsWait, no_wait, wait_named}
 use Rattle.gi_command_line.specs.declared.request.Format.{Format}
@@ -62,24 +62,43 @@ book_in_words file point = codes "--book" ∷ (codes "day" ++ file) ∷ codes "-
 abbrev pub report_words : List ℕ → ReportKind → Side → List (List ℕ) → List (List ℕ)
 report_words program kind side more = program ∷ codes "report" ∷ kind_text kind ∷ side_text side ∷ more
 
+-- what names no gas day and no portfolio
+abbrev pub not_narrowed : NarrowingWords
+not_narrowed = record { day = None; portfolio = None }
+
 -- a kind and a side ask for that report of a script, as text; with a format, in that; with a book, of the book
 abbrev pub ReportIsTaken : Type 0
-ReportIsTaken = (program : List ℕ) (kind : ReportKind) (side : Side) → AreTaken (report_words program kind side []) (at_once (report kind Text side None))
+ReportIsTaken = (program : List ℕ) (kind : ReportKind) (side : Side) → AreTaken (report_words program kind side []) (at_once (report kind Text side not_narrowed None))
 
 abbrev pub FormatIsTaken : Type 0
 FormatIsTaken =
     (program : List ℕ) (kind : ReportKind) (side : Side) (format : Format)
-    → AreTaken (report_words program kind side (codes "--format" ∷ format_text format ∷ [])) (at_once (report kind format side None))
+    → AreTaken (report_words program kind side (codes "--format" ∷ format_text format ∷ [])) (at_once (report kind format side not_narrowed None))
 
 abbrev pub BookIsTaken : Type 0
 BookIsTaken =
     (program file point : List ℕ) (kind : ReportKind) (side : Side)
-    → AreTaken (report_words program kind side (book_words file point)) (at_once (report kind Text side (Some (file, point))))
+    → AreTaken (report_words program kind side (book_words file point)) (at_once (report kind Text side not_narrowed (Some (file, point))))
 
 abbrev pub BookInWordsIsTaken : Type 0
 BookInWordsIsTaken =
     (program file point : List ℕ) (kind : ReportKind) (side : Side)
-    → AreTaken (report_words program kind side (book_in_words file point)) (at_once (report kind Text side (Some (codes "day" ++ file, codes "BORDER" ++ point))))
+    → AreTaken (report_words program kind side (book_in_words file point)) (at_once (report kind Text side not_narrowed (Some (codes "day" ++ file, codes "BORDER" ++ point))))
+
+-- a gas day and a portfolio narrow a schedule and cuts; for another report they are wrong words
+abbrev pub narrowing_options : List ℕ → List ℕ → List (List ℕ)
+narrowing_options day portfolio = with_value (codes "day") day ∷ with_value (codes "portfolio") portfolio ∷ []
+
+abbrev pub NarrowingIsTaken : Type 0
+NarrowingIsTaken =
+    (program day portfolio : List ℕ) (kind : ReportKind) (side : Side) → can_be_narrowed kind ≡ true
+    → AreTaken (report_words program kind side (narrowing_options day portfolio))
+    (at_once (report kind Text side (record { day = Some day; portfolio = Some portfolio }) None))
+
+abbrev pub NarrowingIsWrong : Type 0
+NarrowingIsWrong =
+    (program day portfolio : List ℕ) (kind : ReportKind) (side : Side) → can_be_narrowed kind ≡ false
+    → AreTaken (report_words program kind side (narrowing_options day portfolio)) (at_once mistaken)
 
 -- without a side, it is the side that is missing; a book without its point is asked for in wrong words
 abbrev pub ReportNeedsASide : Type 0

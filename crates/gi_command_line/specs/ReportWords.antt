@@ -1,18 +1,28 @@
 -- The words of `report`, and what is told of wrong words.
-use Rattle.std.specs.Prelude.{◌++◌, ℕ, List, Option, None, Some, if◌then◌else◌, codes}
+use Rattle.std.specs.Prelude.{◌++◌, ℕ, Bool, false, true, List, Option, None, Some, if◌then◌else◌, codes}
 use Rattle.std.specs.Str.{bytes_eq}
 use Rattle.gi_command_line.specs.declared.request.Format.{Format}
 use Rattle.gi_command_line.specs.declared.request.Format.TheVariants.{Text, Csv, Json}
 use Rattle.gi_command_line.specs.declared.request.Mistake.{Mistake}
 use Rattle.gi_command_line.specs.declared.request.Mistake.TheVariants as mistake
 use Rattle.gi_command_line.specs.declared.request.ReportKind.{ReportKind}
-use Rattle.gi_command_line.specs.declared.request.ReportKind.TheVariants.{Open, Confirmed, Refused}
+use Rattle.gi_command_line.specs.declared.request.ReportKind.TheVariants.{Open, Confirmed, Refused, Schedule, Cut}
 
 -- the words of the kinds and of the formats
 abbrev pub kind_text : ReportKind → List ℕ
 kind_text Open = codes "open"
 kind_text Confirmed = codes "confirmed"
 kind_text Refused = codes "refused"
+kind_text Schedule = codes "schedule"
+kind_text Cut = codes "cut"
+
+-- a schedule and cuts can be narrowed to a gas day and a portfolio
+abbrev pub can_be_narrowed : ReportKind → Bool
+can_be_narrowed Open = false
+can_be_narrowed Confirmed = false
+can_be_narrowed Refused = false
+can_be_narrowed Schedule = true
+can_be_narrowed Cut = true
 
 abbrev pub format_text : Format → List ℕ
 format_text Text = codes "text"
@@ -23,7 +33,9 @@ format_text Json = codes "json"
 abbrev pub kind_named : List ℕ → Option ReportKind
 kind_named word =
     if bytes_eq word (codes "open") then Some Open
-    else (if bytes_eq word (codes "confirmed") then Some Confirmed else (if bytes_eq word (codes "refused") then Some Refused else None))
+    else (if bytes_eq word (codes "confirmed") then Some Confirmed
+    else (if bytes_eq word (codes "refused") then Some Refused
+    else (if bytes_eq word (codes "schedule") then Some Schedule else (if bytes_eq word (codes "cut") then Some Cut else None))))
 
 -- the format that a word names
 abbrev pub format_named : List ℕ → Option Format
@@ -34,11 +46,12 @@ format_named word =
 -- what is told of words that are wrong
 abbrev pub mistake_text : Mistake → List ℕ
 mistake_text (mistake.Kind word) =
-    codes "error: invalid value '" ++ (word.now ++ codes "' for '<KIND>'\n  [possible values: open, confirmed, refused]\n")
+    codes "error: invalid value '" ++ (word.now ++ codes "' for '<KIND>'\n  [possible values: open, confirmed, refused, schedule, cut]\n")
 mistake_text (mistake.Side word) = codes "error: invalid value '" ++ (word.now ++ codes "' for '<SIDE>'\n  [possible values: I, M]\n")
 mistake_text mistake.Unpaired = codes "error: '--book <FILE>' and '--point <CODE>' need each other\n"
 mistake_text (mistake.Format word) =
     codes "error: invalid value '" ++ (word.now ++ codes "' for '--format <FORMAT>'\n  [possible values: text, csv, json]\n")
+mistake_text mistake.Narrowed = codes "error: '--day <DAY>' and '--portfolio <CODE>' are for a schedule and for cuts\n"
 mistake_text (mistake.Sessions word) =
     codes "error: invalid value '" ++ (word.now ++ codes "' for '--sessions <N>'\n  [possible values: 1 to 8]\n")
 mistake_text (mistake.Direction word) =

@@ -1,7 +1,7 @@
 //! The commands that the program knows, their words and options, and what their help teaches.
 ghost use Rattle.std.specs.Prelude.{◌≡◌, IfOk, false, true};
 ghost use Rattle.clap.specs.Words.{App, app_of, new_app, rule_of, with_rule, with_subcommand};
-ghost use Rattle.gi_command_line.specs.CommandLine.{flag as flag_rule, named, needed as needed_rule, option as option_rule, the_audit, the_book, the_explain, the_hours, the_match, the_office, the_program, the_report, the_serve, the_simulate, with_book as with_book_rules, with_hour as with_hour_rules, with_pair as with_pair_rules, word as word_rule};
+ghost use Rattle.gi_command_line.specs.CommandLine.{flag as flag_rule, named, needed as needed_rule, option as option_rule, the_audit, the_book, the_explain, the_hours, the_match, the_office, the_program, the_report, the_serve, the_simulate, with_book as with_book_rules, with_hour as with_hour_rules, with_narrowing as with_narrowing_rules, with_pair as with_pair_rules, word as word_rule};
 
 use clap::{Arg, ArgAction, Command};
 use std::alloc::{AllocError, Global};
@@ -127,12 +127,14 @@ Example: gi_dispatch office I --book day-I.db --point BORDER-1 < requests";
 
 const REPORT_HELP: &str = "\
 KIND is `open` (closed cycles that are not confirmed), `confirmed` (confirmed quantities in kWh/h,
-hour by hour) or `refused` (how many submissions of each portfolio were refused), and SIDE is `I` or
-`M`. FORMAT is `text` in columns, `csv` with a header line, or `json` with an object a line. Standard
+hour by hour), `refused` (how many submissions of each portfolio were refused), `schedule` (what is in
+force for each hour, with totals) or `cut` (where a pair gets less than was nominated), and SIDE is `I`
+or `M`. --day and --portfolio narrow the last two. FORMAT is `text` in columns, `csv` with a header line, or `json` with an object a line. Standard
 input is a script as for `simulate`, whose steps are made and not told. With --book and --point the
 side's desk is read from its book instead, standard input is not read, and `refused` has no lines.
 
-Faults: those of `simulate`. With a book, the first of: CodeText (CODE is no code), Head (what stands
+Faults: CodeText (the portfolio is no code), DayText or DayRange (DAY is no gas day); then those of
+`simulate`. With a book, the first of: CodeText (CODE is no code), Head (what stands
 beside it as its head is none), Store (the file is not there, is no database, or cannot be read),
 Version (no book, as an empty file), Gap N or Damaged N (a row is missing or broken), Lost N (the
 book lacks facts of the N that its head tells), OtherBook SIDE POINT (it is theirs), BadFact N (no
@@ -305,6 +307,19 @@ fn with_hour<'a>(
     )
 }
 
+/// Adds the options that narrow a report.
+fn with_narrowing<'a>(
+    alloc: Global,
+    command: Result<Command<'a>, AllocError>,
+) -> Result<Command<'a>, AllocError>
+    ensures { (app : App) → IfOk command.entry (λ it. app_of it ≡ app) → IfOk result (λ with. app_of with ≡ with_narrowing_rules app) }
+{
+    let day = "The gas day of a schedule or of cuts";
+    let command = with_arg(command, option(alloc, "day", "DAY", day));
+    let portfolio = "The portfolio, at either operator, of a schedule or of cuts";
+    with_arg(command, option(alloc, "portfolio", "CODE", portfolio))
+}
+
 /// Adds the options of a book.
 fn with_book<'a>(
     alloc: Global,
@@ -406,10 +421,14 @@ fn report_command<'a>(alloc: Global) -> Result<Command<'a>, AllocError>
         "Tells what a side holds after a script, or in its book",
         REPORT_HELP,
     );
-    let command = with_arg(command, word(alloc, "KIND", "open, confirmed or refused"));
+    let command = with_arg(
+        command,
+        word(alloc, "KIND", "open, confirmed, refused, schedule or cut"),
+    );
     let command = with_arg(command, word(alloc, "SIDE", "I or M"));
     let format = "text, csv or json; text where none is named";
     let command = with_arg(command, option(alloc, "format", "FORMAT", format));
+    let command = with_narrowing(alloc, command);
     with_book(alloc, command)
 }
 

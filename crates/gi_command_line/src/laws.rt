@@ -1,5 +1,5 @@
 //! What holds of all words. These functions do nothing; their clauses are the laws.
-ghost use Rattle.gi_command_line.specs.Laws.{AboutBookIsTaken, AboutBookNeedsAFile, AuditInWordsIsTaken, AuditIsTaken, AuditNeedsBothBooks, BookInWordsIsTaken, BookIsTaken, BookNeedsItsPoint, ExpectedIsItsText, ExpectedIsNamed, ExpectedIsTaken, ExpectedIsWrong, ExplainIsTaken, ExplainNeedsACycle, ExplainNeedsAnHour, ExplainedBookIsTaken, FormatIsTaken, HourIsMissing, HoursIsTaken, HoursNeedADay, MatchIsTaken, OfficeClockIsTaken, OfficeInWordsIsTaken, OfficeIsOfNoSide, OfficeIsTaken, OfficeNeedsASide, OfficeNeedsItsBook, OfficeNeedsItsPoint, OfficeWaitIsTaken, OfficeWaitIsWrong, OldInMemoryIsTaken, OldIsTaken, PlainAboutBookIsTaken, PlainExplainIsTaken, ReportIsTaken, ReportNeedsASide, ServeIsTaken, SimulateIsTaken, TraceIsTaken, WaitIsItsText, WaitIsNamed, WaitIsTaken, WaitIsWrong};
+ghost use Rattle.gi_command_line.specs.Laws.{AboutBookIsTaken, AboutBookNeedsAFile, AuditInWordsIsTaken, AuditIsTaken, AuditNeedsBothBooks, BookInWordsIsTaken, BookIsTaken, BookNeedsItsPoint, ExpectedIsItsText, ExpectedIsNamed, ExpectedIsTaken, ExpectedIsWrong, ExplainIsTaken, ExplainNeedsACycle, ExplainNeedsAnHour, ExplainedBookIsTaken, FormatIsTaken, HourIsMissing, HoursIsTaken, HoursNeedADay, MatchIsTaken, NarrowingIsTaken, NarrowingIsWrong, OfficeClockIsTaken, OfficeInWordsIsTaken, OfficeIsOfNoSide, OfficeIsTaken, OfficeNeedsASide, OfficeNeedsItsBook, OfficeNeedsItsPoint, OfficeWaitIsTaken, OfficeWaitIsWrong, OldInMemoryIsTaken, OldIsTaken, PlainAboutBookIsTaken, PlainExplainIsTaken, ReportIsTaken, ReportNeedsASide, ServeIsTaken, SimulateIsTaken, TraceIsTaken, WaitIsItsText, WaitIsNamed, WaitIsTaken, WaitIsWrong};
 
 /// The program's name, alone or with the word `match`, is a right command line, and asks for `match`.
 pub fn match_is_taken()
@@ -52,12 +52,15 @@ pub fn office_is_taken()
 
 /// So is the program's name with the word `report`, a kind and a side, which asks for that report of a
 /// script, as text; with `--format`, in that format; with `--book` and `--point`, of the book in that file.
-/// Without a side, the side is missing; a book without its point is a wrong command line.
+/// With `--day` and `--portfolio`, a schedule or cuts of these; another report of them is a wrong command
+/// line. Without a side, the side is missing; a book without its point is a wrong command line.
 pub fn report_is_taken()
     ensures plain { ReportIsTaken }
     ensures format { FormatIsTaken }
     ensures book { BookIsTaken }
     ensures in_words { BookInWordsIsTaken }
+    ensures narrowed { NarrowingIsTaken }
+    ensures not_narrowed { NarrowingIsWrong }
     ensures needs_a_side { ReportNeedsASide }
     ensures needs_its_point { BookNeedsItsPoint }
 {}

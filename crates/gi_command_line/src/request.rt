@@ -1,7 +1,7 @@
 //! What a command line asks for.
 
 ghost use Rattle.std.specs.Prelude.{◌≡◌, Some};
-ghost use Rattle.gi_command_line.specs.ReportWords.{format_named as format_named_by, kind_named as kind_named_by, mistake_text};
+ghost use Rattle.gi_command_line.specs.ReportWords.{can_be_narrowed, format_named as format_named_by, kind_named as kind_named_by, mistake_text};
 
 use crate::expected::ExpectedFacts;
 use crate::sessions::Sessions;
@@ -18,6 +18,29 @@ pub enum ReportKind {
     Confirmed,
     /// The refused submissions of each portfolio.
     Refused,
+    /// What is in force for each hour.
+    Schedule,
+    /// Where a pair gets less than was nominated.
+    Cut,
+}
+
+impl ReportKind {
+    /// Whether it can be narrowed to a gas day and a portfolio.
+    pub(crate) fn can_be_narrowed(self) -> bool
+        ensures { result ≡ can_be_narrowed self }
+    {
+        match self {
+            ReportKind::Schedule | ReportKind::Cut => true,
+            ReportKind::Open | ReportKind::Confirmed | ReportKind::Refused => false,
+        }
+    }
+}
+
+/// What a report is narrowed to, by words: a gas day and a portfolio, or all of them.
+#[derive(Clone, Copy, Debug, PartialEq, Eq)]
+pub struct Narrowing<'a> {
+    pub day: Option<&'a str>,
+    pub portfolio: Option<&'a str>,
 }
 
 /// How a report is written.
@@ -44,6 +67,7 @@ pub struct Report<'a> {
     pub kind: ReportKind,
     pub format: Format,
     pub side: Side,
+    pub narrowing: Narrowing<'a>,
     pub book: Option<BookFile<'a>>,
 }
 
@@ -119,6 +143,8 @@ pub enum Mistake<'a> {
     Unpaired,
     /// The word is no format.
     Format(&'a str),
+    /// `--day` or `--portfolio` for another report than a schedule or cuts.
+    Narrowed,
     /// The word is no number of sessions.
     Sessions(&'a str),
     /// The word is no direction.
@@ -172,7 +198,7 @@ impl fmt::Display for Mistake<'_> {
         match self {
             Mistake::Kind(word) => write!(
                 f,
-                "error: invalid value '{word}' for '<KIND>'\n  [possible values: open, confirmed, refused]\n"
+                "error: invalid value '{word}' for '<KIND>'\n  [possible values: open, confirmed, refused, schedule, cut]\n"
             ),
             Mistake::Side(word) => write!(
                 f,
@@ -184,6 +210,9 @@ impl fmt::Display for Mistake<'_> {
             Mistake::Format(word) => write!(
                 f,
                 "error: invalid value '{word}' for '--format <FORMAT>'\n  [possible values: text, csv, json]\n"
+            ),
+            Mistake::Narrowed => f.write_str(
+                "error: '--day <DAY>' and '--portfolio <CODE>' are for a schedule and for cuts\n",
             ),
             Mistake::Sessions(word) => write!(
                 f,
@@ -221,6 +250,8 @@ pub fn kind_named(word: &str) -> Option<ReportKind>
         "open" => Some(ReportKind::Open),
         "confirmed" => Some(ReportKind::Confirmed),
         "refused" => Some(ReportKind::Refused),
+        "schedule" => Some(ReportKind::Schedule),
+        "cut" => Some(ReportKind::Cut),
         _ => None,
     }
 }

@@ -2,15 +2,15 @@
 ghost use Rattle.std.specs.Prelude.{◌≡◌, IfOk, codes, false, map, option_map};
 ghost use Rattle.std.specs.Result.{result_ok};
 ghost use Rattle.clap.specs.Words.{FailsBy, first_of, found_of, rows_of, subcommand_rows_of};
-ghost use Rattle.gi_command_line.specs.Asked.{book_of as book_words, expected_words, meaning, quantity_words, task_meaning};
-ghost use Rattle.gi_command_line.specs.CommandLine.{about_book_asked, asked, asked_at_once, asked_of, audit_asked, book_asked, expected_asked, explain_asked, format_asked, hours_asked, is_set as is_set_by, objections, office_asked, quantity_asked, report_asked, serve_asked, sessions_asked, value_of as value_at, wait_asked};
+ghost use Rattle.gi_command_line.specs.Asked.{book_of as book_words, expected_words, meaning, narrowing_words, quantity_words, task_meaning};
+ghost use Rattle.gi_command_line.specs.CommandLine.{about_book_asked, asked, asked_at_once, asked_of, audit_asked, book_asked, expected_asked, explain_asked, fits as fits_kind, format_asked, hours_asked, is_set as is_set_by, narrowing_asked, objections, office_asked, quantity_asked, report_asked, serve_asked, sessions_asked, value_of as value_at, wait_asked};
 
 use crate::commands::commands;
 use crate::expected::ExpectedFacts;
 use crate::numbers::{cycle_named, hour_named};
 use crate::request::{
-    BookFile, BookFiles, BookQuestion, Explanation, Format, Mistake, NamedQuantity, OfficeRun,
-    Report, Request, Service, Task, format_named, kind_named,
+    BookFile, BookFiles, BookQuestion, Explanation, Format, Mistake, NamedQuantity, Narrowing,
+    OfficeRun, Report, ReportKind, Request, Service, Task, format_named, kind_named,
 };
 use crate::sessions::Sessions;
 use crate::wait::WaitSeconds;
@@ -70,6 +70,22 @@ fn format_of(word: Option<&str>) -> Option<Format>
     }
 }
 
+/// What a report is narrowed to, by the words.
+fn narrowing_of<'a>(matches: &ArgMatches<'a>) -> Narrowing<'a>
+    ensures { narrowing_words result ≡ narrowing_asked (rows_of (found_of matches.now)) }
+{
+    Narrowing {
+        day: value_of(matches, "day"),
+        portfolio: value_of(matches, "portfolio"),
+    }
+}
+
+fn fits(kind: ReportKind, narrowing: &Narrowing<'_>) -> bool
+    ensures { result ≡ fits_kind kind (narrowing_words narrowing.now) }
+{
+    kind.can_be_narrowed() || narrowing.day.is_none() && narrowing.portfolio.is_none()
+}
+
 fn report_of<'a>(matches: &ArgMatches<'a>) -> Request<'a>
     ensures { meaning result ≡ report_asked (rows_of (found_of matches.now)) }
 {
@@ -88,10 +104,15 @@ fn report_of<'a>(matches: &ArgMatches<'a>) -> Request<'a>
     let Some(book) = book_of(matches) else {
         return Request::Mistaken(Mistake::Unpaired);
     };
+    let narrowing = narrowing_of(matches);
+    if !fits(kind, &narrowing) {
+        return Request::Mistaken(Mistake::Narrowed);
+    }
     Request::Report(Report {
         kind,
         format,
         side,
+        narrowing,
         book,
     })
 }

@@ -11,6 +11,7 @@ use Rattle.gi_commands.specs.Explaining.{Asks, IsQuestionFault, NamesNoCodes}
 use Rattle.gi_commands.specs.Fault.{OfTables}
 use Rattle.gi_commands.specs.Contents.{IsFirstContentsFault, LeavesContents, TellsBook}
 use Rattle.gi_commands.specs.Leaving.{LeavesNothing}
+use Rattle.gi_commands.specs.Narrowing.{HasNoPortfolio, IsNarrowingFault, Narrows}
 use Rattle.gi_commands.specs.Owned.{of_owner}
 use Rattle.gi_commands.specs.Reporting.{IsFirstBookFault, ReportsBook}
 use Rattle.gi_commands.specs.Simulating.{CutsShort, HasReport, HasScript, IsFirstScriptFault, Reports, Simulates}
@@ -19,6 +20,7 @@ use Rattle.gi_commands.specs.declared.desk_report.DeskReport.{DeskReport}
 use Rattle.gi_commands.specs.declared.desk_report.DeskReport.TheVariants.{Explanation, Listed}
 use Rattle.gi_table_commands.specs.Hours.{IsFirstHoursFault, TellsHours}
 use Rattle.gi_table_commands.specs.Match.{Answers, IsFirstFault}
+use Rattle.gi_schedule.specs.declared.wanted.Wanted.{Wanted}
 use Rattle.gi_store.specs.Source.{Source}
 use Rattle.gi_commands.specs.declared.fault.Fault.{Fault}
 use Rattle.gi_commands.specs.declared.fault.Fault.TheVariants as fault
@@ -52,7 +54,8 @@ abbrev pub Does : Source → Asked → Option (List ℕ) → Option (List ℕ) �
 Does books match_tables remaining old new = IfSome remaining (λ input. Answers input old new)
 Does books (hours day) remaining old new = TellsHours day old new
 Does books (simulate trace) remaining old new = IfSome remaining (λ input. Simulates trace input old new)
-Does books (report kind format side book) remaining old new = TellsDesk books (Listed kind format) side book remaining old new
+Does books (report kind format side words book) remaining old new =
+    (wanted : Wanted) × Narrows words wanted × TellsDesk books (Listed kind format wanted) side book remaining old new
 Does books (explain side words book) remaining old new =
     (question : Question) × Asks words question × TellsDesk books (Explanation question) side book remaining old new
 Does books (audit initiating matching point) remaining old new = Audits (of_owner (books initiating) I point) (of_owner (books matching) M point) point old new
@@ -64,7 +67,8 @@ abbrev pub IsFaultOf : Source → Asked → Option (List ℕ) → Fault → Type
 IsFaultOf books match_tables remaining why = IfSome remaining (λ input. OfTables (IsFirstFault input) why)
 IsFaultOf books (hours day) remaining why = OfTables (IsFirstHoursFault day) why
 IsFaultOf books (simulate trace) remaining why = IfSome remaining (λ input. IsFirstScriptFault HasScript input why)
-IsFaultOf books (report kind format side book) remaining why = IsDeskFault books (Listed kind format) side book remaining why
+IsFaultOf books (report kind format side words book) remaining why =
+    (why ≡ fault.OutOfMemory) ⊎ IsNarrowingFault words why ⊎ ((wanted : Wanted) × Narrows words wanted × IsDeskFault books (Listed kind format wanted) side book remaining why)
 IsFaultOf books (explain side words book) remaining why =
     (why ≡ fault.OutOfMemory) ⊎ IsQuestionFault words why
     ⊎ ((question : Question) × Asks words question × IsDeskFault books (Explanation question) side book remaining why)
@@ -83,7 +87,7 @@ abbrev pub Leaves : Source → Asked → Option (List ℕ) → Option (List ℕ)
 Leaves books match_tables remaining old new why = LeavesNothing old new why
 Leaves books (hours day) remaining old new why = LeavesNothing old new why
 Leaves books (simulate trace) remaining old new why = LeavesFront trace remaining old new why
-Leaves books (report kind format side book) remaining old new why = LeavesNothing old new why
+Leaves books (report kind format side words book) remaining old new why = LeavesNothing old new why
 Leaves books (explain side words book) remaining old new why = LeavesNothing old new why
 Leaves books (audit initiating matching point) remaining old new why = LeavesAudit (of_owner (books initiating) I point) (of_owner (books matching) M point) point old new why
 Leaves books (about_book file expected) remaining old new why = LeavesContents (books file) expected old new why
@@ -94,18 +98,18 @@ abbrev pub MayRead : Asked → Option (List ℕ) → Option (List ℕ) → Type 
 MayRead match_tables old new = Unit {0}
 MayRead (hours day) old new = Keeps old new
 MayRead (simulate trace) old new = Unit {0}
-MayRead (report kind format side book) old new = ReadsUnlessBook book old new
+MayRead (report kind format side words book) old new = ReadsUnlessBook book old new
 MayRead (explain side words book) old new = ReadsUnlessBook book old new
 MayRead (audit initiating matching point) old new = Keeps old new
 MayRead (about_book file expected) old new = Keeps old new
 MayRead mistaken old new = Keeps old new
 
--- a report or an audit of books whose point is no code, and a quantity with a portfolio that is none
+-- a report or an audit of books whose point is no code, a report of a portfolio that is none, and a quantity with such a one
 abbrev pub HasNoCode : Asked → Type 0
 HasNoCode match_tables = ⊥
 HasNoCode (hours day) = ⊥
 HasNoCode (simulate trace) = ⊥
-HasNoCode (report kind format side book) = HasNoPoint book
+HasNoCode (report kind format side words book) = HasNoPortfolio words.portfolio ⊎ ((wanted : Wanted) × Narrows words wanted × HasNoPoint book)
 HasNoCode (explain side words book) = NamesNoCodes words ⊎ ((question : Question) × Asks words question × HasNoPoint book)
 HasNoCode (audit initiating matching point) = ¬ (IsCode point)
 HasNoCode (about_book file expected) = ⊥

@@ -4,6 +4,7 @@ pub mod Owned
 pub mod Reporting
 pub mod Simulating
 pub mod Explaining
+pub mod Narrowing
 pub mod Auditing
 pub mod Contents
 pub mod Commands

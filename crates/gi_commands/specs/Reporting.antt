@@ -11,6 +11,11 @@ use Rattle.gi_exports.specs.Json.{IsConfirmedJson, IsOpenJson, count_data, json_
 use Rattle.gi_reports.specs.Confirmed.{IsConfirmedReport}
 use Rattle.gi_reports.specs.Open.{IsOpenReport}
 use Rattle.gi_reports.specs.Refused.{refused_counts, refused_lines}
+use Rattle.gi_schedule.specs.Csv.{IsScheduleCsv}
+use Rattle.gi_schedule.specs.CutForms.{IsCutCsv, IsCutJson, IsCutText}
+use Rattle.gi_schedule.specs.Json.{IsScheduleJson}
+use Rattle.gi_schedule.specs.Text.{IsScheduleText}
+use Rattle.gi_schedule.specs.declared.wanted.Wanted.{Wanted}
 use Rattle.gi_store.specs.Book.{IsLoadCaused, IsLoadFault, IsRead}
 use Rattle.gi_commands.specs.Owned.{FactsReading as Reading}
 use Rattle.gi_store.specs.declared.store_fault.StoreFault.TheVariants as store
@@ -21,29 +26,35 @@ use Rattle.gi_commands.specs.declared.desk_report.DeskReport.{DeskReport}
 use Rattle.gi_commands.specs.declared.desk_report.DeskReport.TheVariants.{Listed, Explanation}
 use Rattle.gi_command_line.specs.declared.request.Format.TheVariants.{Text, Csv, Json}
 use Rattle.gi_command_line.specs.declared.request.ReportKind.{ReportKind}
-use Rattle.gi_command_line.specs.declared.request.ReportKind.TheVariants.{Open, Confirmed, Refused}
+use Rattle.gi_command_line.specs.declared.request.ReportKind.TheVariants.{Open, Confirmed, Refused, Schedule, Cut}
 
 -- a list of a side's desk, or of its refused submissions: in columns, as CSV, and as JSON lines
-abbrev pub IsTextReport : ReportKind → Side → DeskState → List (Option (List ℕ)) → List ℕ → Type 0
-IsTextReport Open side s submissions text = IsOpenReport side s text
-IsTextReport Confirmed side s submissions text = IsConfirmedReport side s text
-IsTextReport Refused side s submissions text = text ≡ refused_lines (refused_counts submissions)
+abbrev pub IsTextReport : ReportKind → Wanted → Side → DeskState → List (Option (List ℕ)) → List ℕ → Type 0
+IsTextReport Open wanted side s submissions text = IsOpenReport side s text
+IsTextReport Confirmed wanted side s submissions text = IsConfirmedReport side s text
+IsTextReport Refused wanted side s submissions text = text ≡ refused_lines (refused_counts submissions)
+IsTextReport Schedule wanted side s submissions text = IsScheduleText side s wanted text
+IsTextReport Cut wanted side s submissions text = IsCutText side s wanted text
 
-abbrev pub IsCsvReport : ReportKind → Side → DeskState → List (Option (List ℕ)) → List ℕ → Type 0
-IsCsvReport Open side s submissions text = IsOpenCsv side s text
-IsCsvReport Confirmed side s submissions text = IsConfirmedCsv side s text
-IsCsvReport Refused side s submissions text = text ≡ refused_text (refused_counts submissions)
+abbrev pub IsCsvReport : ReportKind → Wanted → Side → DeskState → List (Option (List ℕ)) → List ℕ → Type 0
+IsCsvReport Open wanted side s submissions text = IsOpenCsv side s text
+IsCsvReport Confirmed wanted side s submissions text = IsConfirmedCsv side s text
+IsCsvReport Refused wanted side s submissions text = text ≡ refused_text (refused_counts submissions)
+IsCsvReport Schedule wanted side s submissions text = IsScheduleCsv side s wanted text
+IsCsvReport Cut wanted side s submissions text = IsCutCsv side s wanted text
 
-abbrev pub IsJsonReport : ReportKind → Side → DeskState → List (Option (List ℕ)) → List ℕ → Type 0
-IsJsonReport Open side s submissions text = IsOpenJson side s text
-IsJsonReport Confirmed side s submissions text = IsConfirmedJson side s text
-IsJsonReport Refused side s submissions text = text ≡ json_lines count_data (refused_counts submissions)
+abbrev pub IsJsonReport : ReportKind → Wanted → Side → DeskState → List (Option (List ℕ)) → List ℕ → Type 0
+IsJsonReport Open wanted side s submissions text = IsOpenJson side s text
+IsJsonReport Confirmed wanted side s submissions text = IsConfirmedJson side s text
+IsJsonReport Refused wanted side s submissions text = text ≡ json_lines count_data (refused_counts submissions)
+IsJsonReport Schedule wanted side s submissions text = IsScheduleJson side s wanted text
+IsJsonReport Cut wanted side s submissions text = IsCutJson side s wanted text
 
 -- the report of a side's desk: such a list, or what a quantity comes from
 abbrev pub IsReport : DeskReport → Side → DeskState → List (Option (List ℕ)) → List ℕ → Type 0
-IsReport (Listed kind Text) side s submissions text = IsTextReport kind side s submissions text
-IsReport (Listed kind Csv) side s submissions text = IsCsvReport kind side s submissions text
-IsReport (Listed kind Json) side s submissions text = IsJsonReport kind side s submissions text
+IsReport (Listed kind Text wanted) side s submissions text = IsTextReport kind wanted side s submissions text
+IsReport (Listed kind Csv wanted) side s submissions text = IsCsvReport kind wanted side s submissions text
+IsReport (Listed kind Json wanted) side s submissions text = IsJsonReport kind wanted side s submissions text
 IsReport (Explanation question) side s submissions text = text ≡ explanation side s question
 
 -- the desk of these facts, all saved

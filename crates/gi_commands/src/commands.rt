@@ -1,6 +1,6 @@
 ghost use Rattle.std.specs.Prelude.{◌≡◌, IfErr, IfSome, OnOk, Err, option_map};
 ghost use Rattle.gi_pairs.specs.Code.{IsCode};
-ghost use Rattle.gi_command_line.specs.Asked.{book_of, expected_words, explain as asks_explanation, meaning, quantity_words};
+ghost use Rattle.gi_command_line.specs.Asked.{book_of, expected_words, explain as asks_explanation, meaning, narrowing_words, quantity_words, report as asks_report};
 ghost use Rattle.gi_commands.specs.Auditing.{Audits, IsFirstAuditFault, LeavesAudit};
 ghost use Rattle.gi_commands.specs.Commands.{Does, HasNoCode, HasNoPoint, IsDeskFault, IsFaultOf, Leaves, LeavesFront, MayRead, ReadsUnlessBook, TellsDesk};
 ghost use Rattle.gi_commands.specs.Contents.{IsFirstContentsFault, LeavesContents, TellsBook};
@@ -17,11 +17,12 @@ use crate::contents::named_contents;
 use crate::desk_report::DeskReport;
 use crate::explaining::question;
 use crate::fault::Fault;
+use crate::narrowing::wanted;
 use crate::reporting::script_report;
 use crate::simulating::simulated;
 use crate::tables::{match_tables, read_input, tell_hours, write_text};
 use gi_audit::Verdict;
-use gi_command_line::{BookFile, BookFiles, BookQuestion, Explanation, Request};
+use gi_command_line::{BookFile, BookFiles, BookQuestion, Explanation, Report, Request};
 use gi_pairs::Side;
 use gi_store::BookSource;
 use gi_table_commands::Calls;
@@ -106,6 +107,32 @@ fn tell_desk<B: BookSource, R: Read, W: Write>(
         Some(book) => report_book(alloc, books, kind, side, book, output),
         None => report_script(alloc, kind, side, input, output),
     }
+}
+
+fn report<B: BookSource, R: Read, W: Write>(
+    alloc: Global,
+    books: &B,
+    asked: Report<'_>,
+    input: &mut R,
+    output: &mut W,
+) -> Result<(), Fault>
+    ensures done { OnOk result (Does (B.gives books.now) (asks_report asked.entry.kind asked.entry.format asked.entry.side (narrowing_words asked.entry.narrowing) (book_of asked.entry.book))
+        (R.remaining input.old) (W.contents output.old) (W.contents output.new)) }
+    ensures first { IfErr result (IsFaultOf (B.gives books.now) (asks_report asked.entry.kind asked.entry.format asked.entry.side (narrowing_words asked.entry.narrowing) (book_of asked.entry.book)) (R.remaining input.old)) }
+    ensures leaves { IfErr result (LeavesNothing (W.contents output.old) (W.contents output.new)) }
+    ensures unread { ReadsUnlessBook (book_of asked.entry.book) (R.remaining input.old) (R.remaining input.new) }
+    ensures code { HasNoCode (asks_report asked.entry.kind asked.entry.format asked.entry.side (narrowing_words asked.entry.narrowing) (book_of asked.entry.book)) → result ≡ Err no_code }
+{
+    let wanted = wanted(asked.narrowing)?;
+    tell_desk(
+        alloc,
+        books,
+        DeskReport::Listed(asked.kind, asked.format, wanted),
+        asked.side,
+        asked.book,
+        input,
+        output,
+    )
 }
 
 fn explain<B: BookSource, R: Read, W: Write>(
@@ -197,10 +224,7 @@ pub fn perform<B: BookSource, R: Read, W: Write>(
         Request::Match => match_tables(threads, alloc, input, output),
         Request::Hours(day) => tell_hours(alloc, day, output),
         Request::Simulate { trace } => simulate_script(alloc, trace, input, output),
-        Request::Report(wanted) => {
-            let kind = DeskReport::Listed(wanted.kind, wanted.format);
-            tell_desk(alloc, books, kind, wanted.side, wanted.book, input, output)
-        }
+        Request::Report(asked) => report(alloc, books, asked, input, output),
         Request::Audit(files) => audit_books(alloc, books, files, output),
         Request::Book(question) => tell_book(alloc, books, question, output),
         Request::Explain(wanted) => explain(alloc, books, wanted, input, output),

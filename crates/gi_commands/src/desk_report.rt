@@ -1,9 +1,11 @@
 use gi_command_line::{Format, ReportKind};
 use gi_explanations::Question;
+use gi_schedule::Wanted;
 
-/// What is told of a side's desk: a list, or what a quantity comes from.
+/// What is told of a side's desk: a list, of which a schedule and cuts are narrowed so, or what a
+/// quantity comes from.
 #[derive(Clone, Copy)]
 pub enum DeskReport {
-    Listed(ReportKind, Format),
+    Listed(ReportKind, Format, Wanted),
     Explanation(Question),
 }

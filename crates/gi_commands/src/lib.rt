@@ -10,6 +10,7 @@ mod desk_report;
 mod explaining;
 mod fault;
 mod laws;
+mod narrowing;
 mod owned;
 mod replaying;
 mod reporting;

@@ -24,6 +24,9 @@ use gi_initiator::Initiating;
 use gi_matcher::Matching;
 use gi_pairs::{Code, Side};
 use gi_reports::{confirmed_report, open_report, refused_report};
+use gi_schedule::{
+    Wanted, cut_csv, cut_json, cut_report, schedule_csv, schedule_json, schedule_report,
+};
 use gi_script::read_script;
 use gi_simulation::refused_submissions;
 use gi_store::BookStore;
@@ -34,15 +37,18 @@ use std::alloc::{AllocError, Global};
 fn text_report<R: Role>(
     alloc: Global,
     kind: ReportKind,
+    wanted: &Wanted,
     desk: &Desk<R>,
     submissions: &[Option<Code>],
 ) -> Result<Vec<u8>, AllocError>
-    ensures { IfOk result (λ text. IsTextReport kind R.SIDE desk.now submissions.now text.items) }
+    ensures { IfOk result (λ text. IsTextReport kind wanted.now R.SIDE desk.now submissions.now text.items) }
 {
     let text = match kind {
         ReportKind::Open => open_report(alloc, desk)?,
         ReportKind::Confirmed => confirmed_report(alloc, desk)?,
         ReportKind::Refused => refused_report(alloc, submissions)?,
+        ReportKind::Schedule => schedule_report(alloc, desk, wanted)?,
+        ReportKind::Cut => cut_report(alloc, desk, wanted)?,
     };
     Ok(text.into_bytes())
 }
@@ -50,30 +56,36 @@ fn text_report<R: Role>(
 fn csv_report<R: Role>(
     alloc: Global,
     kind: ReportKind,
+    wanted: &Wanted,
     desk: &Desk<R>,
     submissions: &[Option<Code>],
 ) -> Result<Vec<u8>, AllocError>
-    ensures { IfOk result (λ text. IsCsvReport kind R.SIDE desk.now submissions.now text.items) }
+    ensures { IfOk result (λ text. IsCsvReport kind wanted.now R.SIDE desk.now submissions.now text.items) }
 {
     match kind {
         ReportKind::Open => open_csv(alloc, desk),
         ReportKind::Confirmed => confirmed_csv(alloc, desk),
         ReportKind::Refused => refused_csv(alloc, submissions),
+        ReportKind::Schedule => schedule_csv(alloc, desk, wanted),
+        ReportKind::Cut => cut_csv(alloc, desk, wanted),
     }
 }
 
 fn json_report<R: Role>(
     alloc: Global,
     kind: ReportKind,
+    wanted: &Wanted,
     desk: &Desk<R>,
     submissions: &[Option<Code>],
 ) -> Result<Vec<u8>, AllocError>
-    ensures { IfOk result (λ text. IsJsonReport kind R.SIDE desk.now submissions.now text.items) }
+    ensures { IfOk result (λ text. IsJsonReport kind wanted.now R.SIDE desk.now submissions.now text.items) }
 {
     match kind {
         ReportKind::Open => open_json(alloc, desk),
         ReportKind::Confirmed => confirmed_json(alloc, desk),
         ReportKind::Refused => refused_json(alloc, submissions),
+        ReportKind::Schedule => schedule_json(alloc, desk, wanted),
+        ReportKind::Cut => cut_json(alloc, desk, wanted),
     }
 }
 
@@ -86,9 +98,27 @@ fn desk_report<R: Role>(
     ensures { IfOk result (λ text. IsReport kind R.SIDE desk.now submissions.now (text.items)) }
 {
     match kind {
-        DeskReport::Listed(kind, Format::Text) => text_report(alloc, kind, desk, submissions),
-        DeskReport::Listed(kind, Format::Csv) => csv_report(alloc, kind, desk, submissions),
-        DeskReport::Listed(kind, Format::Json) => json_report(alloc, kind, desk, submissions),
+        DeskReport::Listed(kind, Format::Text, wanted) => text_report(
+            alloc,
+            kind,
+            &wanted,
+            desk,
+            submissions,
+        ),
+        DeskReport::Listed(kind, Format::Csv, wanted) => csv_report(
+            alloc,
+            kind,
+            &wanted,
+            desk,
+            submissions,
+        ),
+        DeskReport::Listed(kind, Format::Json, wanted) => json_report(
+            alloc,
+            kind,
+            &wanted,
+            desk,
+            submissions,
+        ),
         DeskReport::Explanation(question) => Ok(explanation(alloc, desk, &question)?.into_bytes()),
     }
 }

@@ -25,9 +25,7 @@ pub may_want : (from : Source) (wanted : Wanted) (remaining : Option (List ℕ))
 may_want from (at_once match_tables) remaining = if_some remaining (λ input. OfTables (IsFirstFault input) fault.OutOfMemory) (λ input. (table.OutOfMemory, refl, tt))
 may_want from (at_once (hours day)) remaining = (table.OutOfMemory, refl, tt)
 may_want from (at_once (simulate trace)) remaining = if_some remaining (λ input. IsFirstScriptFault HasScript input fault.OutOfMemory) (λ input. tt)
-may_want from (at_once (report kind format side None)) remaining =
-    if_some remaining (λ input. IsFirstScriptFault (HasReport (Listed kind format) side) input fault.OutOfMemory) (λ input. tt)
-may_want from (at_once (report kind format side (Some book))) remaining = tt
+may_want from (at_once (report kind format side words book)) remaining = inl refl
 may_want from (at_once (explain side words book)) remaining = inl refl
 may_want from (at_once (audit initiating matching point)) remaining = tt
 may_want from (at_once (about_book file expected)) remaining = tt
@@ -40,8 +38,8 @@ pub may_leave : (wanted : Wanted) (remaining : Option (List ℕ)) → MayReadTas
 may_leave (at_once match_tables) remaining = tt
 may_leave (at_once (hours day)) remaining = keeps_same remaining
 may_leave (at_once (simulate trace)) remaining = tt
-may_leave (at_once (report kind format side None)) remaining = tt
-may_leave (at_once (report kind format side (Some book))) remaining = keeps_same remaining
+may_leave (at_once (report kind format side words None)) remaining = tt
+may_leave (at_once (report kind format side words (Some book))) remaining = keeps_same remaining
 may_leave (at_once (explain side words None)) remaining = tt
 may_leave (at_once (explain side words (Some book))) remaining = keeps_same remaining
 may_leave (at_once (audit initiating matching point)) remaining = keeps_same remaining
@@ -55,7 +53,7 @@ pub may_keep : (from : Source) (wanted : Wanted) (remaining old new : Option (Li
 may_keep from (at_once match_tables) remaining old new kept = kept
 may_keep from (at_once (hours day)) remaining old new kept = kept
 may_keep from (at_once (simulate trace)) remaining old new kept = if_some remaining (λ input. CutsShort trace input old new) (λ input. inl kept)
-may_keep from (at_once (report kind format side book)) remaining old new kept = kept
+may_keep from (at_once (report kind format side words book)) remaining old new kept = kept
 may_keep from (at_once (explain side words book)) remaining old new kept = kept
 may_keep from (at_once (audit initiating matching point)) remaining old new kept = kept
 may_keep from (at_once (about_book file expected)) remaining old new kept = kept

@@ -31,7 +31,7 @@ pub may_want : (wanted : Wanted) (remaining : Option (List ℕ)) → IsTablesFau
 may_want (at_once match_tables) remaining = if_some remaining (λ input. IsFirstFault input fault.OutOfMemory) (λ input. tt)
 may_want (at_once (hours day)) remaining = tt
 may_want (at_once (simulate trace)) remaining = inr refl
-may_want (at_once (report kind format side book)) remaining = inr refl
+may_want (at_once (report kind format side words book)) remaining = inr refl
 may_want (at_once (explain side words book)) remaining = inr refl
 may_want (at_once (audit initiating matching point)) remaining = inr refl
 may_want (at_once (about_book file expected)) remaining = inr refl
@@ -44,7 +44,7 @@ pub may_leave : (wanted : Wanted) (remaining : Option (List ℕ)) → MayReadTab
 may_leave (at_once match_tables) remaining = tt
 may_leave (at_once (hours day)) remaining = keeps_same remaining
 may_leave (at_once (simulate trace)) remaining = keeps_same remaining
-may_leave (at_once (report kind format side book)) remaining = keeps_same remaining
+may_leave (at_once (report kind format side words book)) remaining = keeps_same remaining
 may_leave (at_once (explain side words book)) remaining = keeps_same remaining
 may_leave (at_once (audit initiating matching point)) remaining = keeps_same remaining
 may_leave (at_once (about_book file expected)) remaining = keeps_same remaining

@@ -6,4 +6,4 @@ pub returns : goal.returns
 returns c =
     let with_kind = one_more app_of _ _ _ _ _ c.with_arg-command.ensures c.word.ensures.rule c.with_help-command.ensures in
     let with_side = one_more app_of _ _ _ _ _ c.with_arg-command-2.ensures c.word-2.ensures.rule with_kind in
-    c.with_book.ensures _ (one_more app_of _ _ _ _ _ c.with_arg-command-3.ensures c.option.ensures.rule with_side)
+    c.with_book.ensures _ (c.with_narrowing-command.ensures _ (one_more app_of _ _ _ _ _ c.with_arg-command-3.ensures c.option.ensures.rule with_side))

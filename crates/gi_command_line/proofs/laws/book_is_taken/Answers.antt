@@ -1,7 +1,7 @@
 use Rattle.std.proofs.Common.{◌≡◌, ◌∙◌, ◌++◌, ap, codes, List, [], ◌∷◌, ℕ, Option, Some, None, option_map, refl}
 use Rattle.clap.proofs.OnLiterals.{clap_on_literals}
 use Rattle.clap.specs.declared.error.kind.ErrorKind.TheVariants.{MissingRequiredArgument}
-use Rattle.gi_command_line.specs.Asked.{Wanted, about_book, at_once, mistaken}
+use Rattle.gi_command_line.specs.Asked.{Wanted, about_book, at_once}
 use Rattle.gi_command_line.specs.CommandLine.{about_book_of, asked, objections}
 use Rattle.gi_command_line.specs.Expected.{expected_named}
 use Rattle.gi_command_line.specs.Laws.{about_book_words, with_value}

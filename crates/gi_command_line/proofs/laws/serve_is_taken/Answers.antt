@@ -1,6 +1,6 @@
-use Rattle.std.proofs.Common.{◌≡◌, ◌∙◌, ◌<◌, ◌≤◌, ap, codes, decimal, arith, List, [], ◌∷◌, ℕ, Bool, Option, Some, None, true, false, refl}
+use Rattle.std.proofs.Common.{◌≡◌, ◌∙◌, ap, codes, decimal, arith, List, [], ◌∷◌, ℕ, Option, Some, None, true, false, refl}
 use Rattle.clap.proofs.OnLiterals.{clap_on_literals}
-use Rattle.gi_command_line.specs.Asked.{Wanted, at_once, mistaken}
+use Rattle.gi_command_line.specs.Asked.{Wanted}
 use Rattle.gi_command_line.specs.CommandLine.{asked, objections, service_of}
 use Rattle.gi_command_line.specs.Laws.{serve_words, serves, with_value}
 use Rattle.gi_command_line.specs.Wait.{IsWait, most_wait, wait_named}
