@@ -37,10 +37,10 @@ pub fn put_number_or_null(
     ensures { AddsAt result out.old out.new name.now (number_or_null number) }
 {
     out.key(name)?;
-    match number {
-        Some(number) => out.u64(number),
-        None => out.null(),
-    }
+    let Some(number) = number else {
+        return out.null();
+    };
+    out.u64(number)
 }
 
 /// Adds a text at a name.
