@@ -1,5 +1,5 @@
 use Rattle.gi_audit.proofs.LineLemmas.{agreed_more, first_more, objects_more}
-use Rattle.gi_audit.proofs.json.objects.Goals as goal
+use Rattle.gi_audit.proofs.json_audit.objects.Goals as goal
 
 pub loop-id-preserved : goal.loop-id-preserved
 loop-id-preserved c =

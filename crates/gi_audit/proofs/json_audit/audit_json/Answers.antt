@@ -1,5 +1,5 @@
 use Rattle.gi_audit.proofs.Verdicts.{verdict-exactly, verdict-is, verdict-told}
-use Rattle.gi_audit.proofs.json.audit_json.Goals as goal
+use Rattle.gi_audit.proofs.json_audit.audit_json.Goals as goal
 
 pub returns-clause-verdict : goal.returns-clause-verdict
 returns-clause-verdict c =

@@ -1,7 +1,7 @@
 use Rattle.std.proofs.Common.{◌≡◌, take}
 use Rattle.gi_audit.specs.JsonAudit.{cycle_objects}
 use Rattle.gi_audit.specs.Verdict.{any_agrees, first_difference}
-use Rattle.gi_audit.proofs.json.objects.Given as goal
+use Rattle.gi_audit.proofs.json_audit.objects.Given as goal
 
 abbrev pub invariant-loop-id : goal.invariant-loop-id
 invariant-loop-id l = record {

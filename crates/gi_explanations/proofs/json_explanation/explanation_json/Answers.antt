@@ -6,7 +6,7 @@ use Rattle.gi_explanations.specs.Json.{basis_objects, explanation_objects, objec
 use Rattle.gi_explanations.specs.JsonLines.{asked_data}
 use Rattle.gi_explanations.specs.declared.numbers.Numbers.{Numbers}
 use Rattle.gi_explanations.proofs.JsonLemmas.{objects_more}
-use Rattle.gi_explanations.proofs.json.explanation_json.Goals as goal
+use Rattle.gi_explanations.proofs.json_explanation.explanation_json.Goals as goal
 
 pub returns : goal.returns
 unfolding explanation_objects
