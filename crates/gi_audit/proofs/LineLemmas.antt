@@ -7,8 +7,11 @@ use Rattle.std.proofs.lemmas.List.Folds.{find-append, list_any_more}
 use Rattle.gi_pairs.specs.declared.cycle_id.CycleId.{CycleId}
 use Rattle.gi_desk.specs.Machine.{DeskState}
 use Rattle.gi_desk.proofs.HistoryLaws.{one_more}
+use Rattle.gi_exports.specs.Json.{line_of as line_with}
 use Rattle.gi_audit.specs.Audit.{cycle_line, cycle_lines, line_of}
 use Rattle.gi_audit.specs.Finding.{agrees, differs, finding, is_agreed, is_difference}
+use Rattle.gi_audit.specs.JsonAudit.{cycle_object, cycle_objects}
+use Rattle.gi_audit.specs.JsonLines.{cycle_data}
 use Rattle.gi_audit.specs.Place.{place_found}
 use Rattle.gi_audit.specs.Verdict.{any_agrees, first_difference}
 use Rattle.gi_audit.specs.declared.finding.Finding.{Finding}
@@ -20,6 +23,18 @@ lines_more s t ids i id found place text line next below is text_is found_is pla
     let of : CycleId → List ℕ = cycle_line s t in
     next_is ∙ (λ k. text_is k ++ line_is k) ∙ ap (λ (p : Option Place). flat_map of (take i ids) ++ line_of id found p) place_is
     ∙ ap (λ (f : Finding). flat_map of (take i ids) ++ line_of id f (place_found f s t id)) found_is
+    ∙ ap (λ (l : List ℕ). flat_map of (take i ids) ++ l) (sym (append-nil (of id)))
+    ∙ sym (flat_map-append of (take i ids) (id ∷ []))
+    ∙ ap (flat_map of) (sym (one_more ids i id below is))
+
+pub objects_more : (s t : DeskState) (ids : List CycleId) (i : ℕ) (id : CycleId) (found : Finding) (place : Option Place) (text next : List ℕ) → i < length ids → id ≡ get_or ids i id
+    → text ≡ cycle_objects s t (take i ids) → found ≡ finding s t id → place ≡ place_found found s t id → next ≡ text ++ line_with (cycle_data id found place)
+    → next ≡ cycle_objects s t (take (i + 1) ids)
+objects_more s t ids i id found place text next below is text_is found_is place_is next_is =
+    let of : CycleId → List ℕ = λ other. line_with (cycle_object s t other) in
+    next_is ∙ ap (λ (l : List ℕ). l ++ line_with (cycle_data id found place)) text_is
+    ∙ ap (λ (p : Option Place). flat_map of (take i ids) ++ line_with (cycle_data id found p)) place_is
+    ∙ ap (λ (f : Finding). flat_map of (take i ids) ++ line_with (cycle_data id f (place_found f s t id))) found_is
     ∙ ap (λ (l : List ℕ). flat_map of (take i ids) ++ l) (sym (append-nil (of id)))
     ∙ sym (flat_map-append of (take i ids) (id ∷ []))
     ∙ ap (flat_map of) (sym (one_more ids i id below is))

@@ -6,5 +6,7 @@ pub mod Place
 pub mod Cycles
 pub mod Verdict
 pub mod Audit
+pub mod JsonLines
+pub mod JsonAudit
 pub mod LetOut
 pub mod Laws

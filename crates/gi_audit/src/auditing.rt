@@ -73,7 +73,7 @@ fn last_line(alloc: Global, verdict: &Verdict) -> Result<String, AllocError>
 }
 
 /// The cycle, where it differs.
-fn differing(id: &CycleId, found: Finding) -> Option<CycleId>
+pub(crate) fn differing(id: &CycleId, found: Finding) -> Option<CycleId>
     ensures { result ≡ if is_difference found then Some id.now else None }
 {
     if found.is_difference() {
@@ -84,7 +84,7 @@ fn differing(id: &CycleId, found: Finding) -> Option<CycleId>
 }
 
 /// Whether any is agreed, with one more.
-fn or_agreed(agreed: bool, found: Finding) -> bool
+pub(crate) fn or_agreed(agreed: bool, found: Finding) -> bool
     ensures { result ≡ (agreed || is_agreed found) }
 {
     agreed || found.is_agreed()

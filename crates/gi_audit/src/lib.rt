@@ -20,6 +20,8 @@ mod comparing;
 mod cycles;
 mod difference;
 mod finding;
+mod json_audit;
+mod json_lines;
 mod laws;
 mod meeting;
 mod place;
@@ -30,6 +32,7 @@ mod total;
 mod verdict;
 
 pub use auditing::{Audited, audit};
+pub use json_audit::{AuditedJson, audit_json};
 pub use laws::{
     a_difference_has_its_place, agreeing_desks_confirm_one_quantity,
     the_matching_side_confirms_first, worlds_agree,

@@ -5,6 +5,7 @@ use Rattle.gi_pairs.specs.declared.side.Side.{Side}
 use Rattle.gi_command_line.specs.declared.expected.ExpectedFacts.{ExpectedFacts}
 use Rattle.gi_command_line.specs.declared.request.BookFile.{BookFile}
 use Rattle.gi_command_line.specs.declared.request.Format.{Format}
+use Rattle.gi_command_line.specs.declared.request.LineFormat.{LineFormat}
 use Rattle.gi_command_line.specs.declared.request.NamedQuantity.{NamedQuantity}
 use Rattle.gi_command_line.specs.declared.request.Narrowing.{Narrowing}
 use Rattle.gi_command_line.specs.declared.request.OfficeRun.{OfficeRun}
@@ -30,16 +31,16 @@ pub record NarrowingWords : Type 0 where
   pub portfolio : Option (List ℕ)
 
 -- one of the commands but `office` and `serve`: a script's steps, with a trace or without; a report of this kind, in this format
--- and of this side, narrowed so, or what a quantity comes from at a side, over a script or over the book in a file, for this point; the audit
--- of the initiating and the matching operator's books in files, for this point; what a book in a file is, with the number of its
--- first facts that are expected to have a digest, and the digest; or a command in wrong words
+-- and of this side, narrowed so, or in this format what a quantity comes from at a side, over a script or over the book in a file, for this
+-- point; in this format the audit of the initiating and the matching operator's books in files, for this point; what a book in a
+-- file is, with the number of its first facts that are expected to have a digest, and the digest; or a command in wrong words
 pub data Asked : Type 0 where
   match_tables : Asked
   hours : List ℕ → Asked
   simulate : Bool → Asked
   report : ReportKind → Format → Side → NarrowingWords → Option (List ℕ × List ℕ) → Asked
-  explain : Side → QuantityWords → Option (List ℕ × List ℕ) → Asked
-  audit : List ℕ → List ℕ → List ℕ → Asked
+  explain : LineFormat → Side → QuantityWords → Option (List ℕ × List ℕ) → Asked
+  audit : LineFormat → List ℕ → List ℕ → List ℕ → Asked
   about_book : List ℕ → Option (ℕ × List ℕ) → Asked
   mistaken : Asked
 
@@ -69,8 +70,8 @@ meaning request.Match = match_tables
 meaning (request.Hours day) = hours day.now
 meaning (request.Simulate trace) = simulate trace
 meaning (request.Report wanted) = report wanted.kind wanted.format wanted.side (narrowing_words wanted.narrowing) (book_of wanted.book)
-meaning (request.Explain wanted) = explain wanted.side (quantity_words wanted.quantity) (book_of wanted.book)
-meaning (request.Audit books) = audit books.initiating.now books.matching.now books.point.now
+meaning (request.Explain wanted) = explain wanted.format wanted.side (quantity_words wanted.quantity) (book_of wanted.book)
+meaning (request.Audit wanted) = audit wanted.format wanted.books.initiating.now wanted.books.matching.now wanted.books.point.now
 meaning (request.Book question) = about_book question.file.now (option_map expected_words question.expected)
 meaning (request.Mistaken why) = mistaken
 

@@ -12,11 +12,13 @@ use Rattle.gi_pairs.specs.declared.side.Side.{Side}
 use Rattle.gi_command_line.specs.Asked.{Asked, NarrowingWords, QuantityWords, Wanted, about_book, at_once, audit, explain, hours, match_tables, mistaken, office, report, serve, simulate}
 use Rattle.gi_command_line.specs.Expected.{expected_named}
 use Rattle.gi_command_line.specs.Numbers.{cycle_named, hour_named}
-use Rattle.gi_command_line.specs.ReportWords.{can_be_narrowed, format_named, kind_named}
+use Rattle.gi_command_line.specs.ReportWords.{can_be_narrowed, format_named, kind_named, line_format_named}
 use Rattle.gi_command_line.specs.Sessions.{default_sessions, sessions_named}
 use Rattle.gi_command_line.specs.Wait.{no_wait, wait_named}
 use Rattle.gi_command_line.specs.declared.request.Format.{Format}
 use Rattle.gi_command_line.specs.declared.request.Format.TheVariants.{Text}
+use Rattle.gi_command_line.specs.declared.request.LineFormat.{LineFormat}
+use Rattle.gi_command_line.specs.declared.request.LineFormat.TheVariants as line
 use Rattle.gi_command_line.specs.declared.request.ReportKind.{ReportKind}
 
 -- ---- the commands and options that the program knows
@@ -62,10 +64,12 @@ the_report =
     with_book (with_narrowing (with_rule (with_rule (with_rule (new_app (codes "report")) (word (codes "KIND"))) (word (codes "SIDE"))) (option (codes "format"))))
 
 abbrev pub the_explain : App
-the_explain = with_book (with_hour (with_pair (with_rule (new_app (codes "explain")) (word (codes "SIDE")))))
+the_explain = with_book (with_rule (with_hour (with_pair (with_rule (new_app (codes "explain")) (word (codes "SIDE"))))) (option (codes "format")))
 
 abbrev pub the_audit : App
-the_audit = with_rule (with_rule (with_rule (new_app (codes "audit")) (needed (codes "initiating"))) (needed (codes "matching"))) (needed (codes "point"))
+the_audit =
+    let of_books = with_rule (with_rule (new_app (codes "audit")) (needed (codes "initiating"))) (needed (codes "matching")) in
+    with_rule (with_rule of_books (needed (codes "point"))) (option (codes "format"))
 
 abbrev pub the_book : App
 the_book = with_rule (with_rule (new_app (codes "book")) (word (codes "FILE"))) (option (codes "expect"))
@@ -134,6 +138,10 @@ narrowing_asked rows = record { day = first_of (codes "day") rows; portfolio = f
 abbrev pub fits : ReportKind → NarrowingWords → Bool
 fits kind words = can_be_narrowed kind || (not (is_some words.day) && not (is_some words.portfolio))
 
+abbrev pub line_format_asked : Option (List ℕ) → Option LineFormat
+line_format_asked None = Some line.Text
+line_format_asked (Some word) = line_format_named word
+
 abbrev pub report_of : Option ReportKind → Option Side → Option Format → NarrowingWords → Option (Option (List ℕ × List ℕ)) → Asked
 report_of None side format words book = mistaken
 report_of (Some kind) None format words book = mistaken
@@ -171,17 +179,23 @@ abbrev pub quantity_asked : List Row → Option QuantityWords
 quantity_asked rows =
     quantity_named rows (direction_named (value_of (codes "DIRECTION") rows)) (cycle_named (value_of (codes "CYCLE") rows)) (hour_named (value_of (codes "HOUR") rows))
 
-abbrev pub explain_of : Option Side → Option QuantityWords → Option (Option (List ℕ × List ℕ)) → Asked
-explain_of None quantity book = mistaken
-explain_of (Some side) None book = mistaken
-explain_of (Some side) (Some quantity) None = mistaken
-explain_of (Some side) (Some quantity) (Some book) = explain side quantity book
+abbrev pub explain_of : Option Side → Option QuantityWords → Option LineFormat → Option (Option (List ℕ × List ℕ)) → Asked
+explain_of None quantity format book = mistaken
+explain_of (Some side) None format book = mistaken
+explain_of (Some side) (Some quantity) None book = mistaken
+explain_of (Some side) (Some quantity) (Some format) None = mistaken
+explain_of (Some side) (Some quantity) (Some format) (Some book) = explain format side quantity book
 
 abbrev pub explain_asked : List Row → Asked
-explain_asked rows = explain_of (side_named (value_of (codes "SIDE") rows)) (quantity_asked rows) (book_asked rows)
+explain_asked rows =
+    explain_of (side_named (value_of (codes "SIDE") rows)) (quantity_asked rows) (line_format_asked (first_of (codes "format") rows)) (book_asked rows)
+
+abbrev pub audit_of : List Row → Option LineFormat → Asked
+audit_of rows None = mistaken
+audit_of rows (Some format) = audit format (value_of (codes "initiating") rows) (value_of (codes "matching") rows) (value_of (codes "point") rows)
 
 abbrev pub audit_asked : List Row → Asked
-audit_asked rows = audit (value_of (codes "initiating") rows) (value_of (codes "matching") rows) (value_of (codes "point") rows)
+audit_asked rows = audit_of rows (line_format_asked (first_of (codes "format") rows))
 
 -- no facts are expected where none are named
 abbrev pub expected_asked : Option (List ℕ) → Option (Option (ℕ × List ℕ))

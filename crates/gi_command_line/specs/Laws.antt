@@ -9,11 +9,13 @@ use Rattle.gi_command_line.specs.Asked.{NarrowingWords, QuantityWords, Wanted, a
 use Rattle.gi_command_line.specs.CommandLine.{MeansHours, MeansMatch, asked, objections}
 use Rattle.gi_command_line.specs.Expected.{expected_named, is_digest, most_facts}
 use Rattle.gi_command_line.specs.Numbers.{cycle_named, hour_named}
-use Rattle.gi_command_line.specs.ReportWords.{can_be_narrowed, format_text, kind_text}
+use Rattle.gi_command_line.specs.ReportWords.{can_be_narrowed, format_text, kind_text, line_format_named, line_format_text}
 use Rattle.gi_command_line.specs.Sessions.{default_sessions}
 use Rattle.gi_command_line.specs.Wait.{IsWait, no_wait, wait_named}
 use Rattle.gi_command_line.specs.declared.request.Format.{Format}
 use Rattle.gi_command_line.specs.declared.request.Format.TheVariants.{Text}
+use Rattle.gi_command_line.specs.declared.request.LineFormat.{LineFormat}
+use Rattle.gi_command_line.specs.declared.request.LineFormat.TheVariants as line
 use Rattle.gi_command_line.specs.declared.request.ReportKind.{ReportKind}
 
 -- to the program's name, alone or with the word `match`, nothing is objected, and it asks for `match`
@@ -130,21 +132,35 @@ ExplainIsTaken =
     (program initiating matching day cycle hour : List ℕ) (side : Side) (direction : Direction) (k h : ℕ)
     → cycle_named cycle ≡ Some k → hour_named hour ≡ Some h
     → AreTaken (explain_words program [] (quantity_texts side direction initiating matching day cycle hour))
-    (at_once (explain side (quantity direction initiating matching day k h) None))
+    (at_once (explain line.Text side (quantity direction initiating matching day k h) None))
 
 abbrev pub ExplainedBookIsTaken : Type 0
 ExplainedBookIsTaken =
     (program file point initiating matching day cycle hour : List ℕ) (side : Side) (direction : Direction) (k h : ℕ)
     → cycle_named cycle ≡ Some k → hour_named hour ≡ Some h
     → AreTaken (explain_words program (book_words file point) (quantity_texts side direction initiating matching day cycle hour))
-    (at_once (explain side (quantity direction initiating matching day k h) (Some (file, point))))
+    (at_once (explain line.Text side (quantity direction initiating matching day k h) (Some (file, point))))
+
+-- with a format, in that; a format that is none is asked for in wrong words
+abbrev pub ExplainFormatIsTaken : Type 0
+ExplainFormatIsTaken =
+    (program initiating matching day cycle hour : List ℕ) (side : Side) (direction : Direction) (k h : ℕ) (format : LineFormat)
+    → cycle_named cycle ≡ Some k → hour_named hour ≡ Some h
+    → AreTaken (explain_words program (codes "--format" ∷ line_format_text format ∷ []) (quantity_texts side direction initiating matching day cycle hour))
+    (at_once (explain format side (quantity direction initiating matching day k h) None))
+
+abbrev pub ExplainFormatIsWrong : Type 0
+ExplainFormatIsWrong =
+    (program initiating matching day cycle hour format : List ℕ) (side : Side) (direction : Direction) → line_format_named format ≡ None
+    → AreTaken (explain_words program (with_value (codes "format") format ∷ []) (quantity_texts side direction initiating matching day cycle hour))
+    (at_once mistaken)
 
 -- without `--` too, as `explain I A B IM 2026-01-15 35 24`: portfolios that begin with A and B, and a day that begins with 2
 abbrev pub PlainExplainIsTaken : Type 0
 PlainExplainIsTaken =
     (program a b day : List ℕ) (side : Side) (direction : Direction)
     → AreTaken (program ∷ codes "explain" ∷ quantity_texts side direction (65 ∷ a) (66 ∷ b) (50 ∷ day) (codes "35") (codes "24"))
-    (at_once (explain side (quantity direction (65 ∷ a) (66 ∷ b) (50 ∷ day) 35 24) None))
+    (at_once (explain line.Text side (quantity direction (65 ∷ a) (66 ∷ b) (50 ∷ day) 35 24) None))
 
 -- a cycle, or an hour, that is none is asked for in wrong words; without an hour, it is the hour that is missing
 abbrev pub ExplainNeedsACycle : Type 0
@@ -170,7 +186,7 @@ audit_words program initiating matching point =
 
 -- both books and the point ask for their audit
 abbrev pub AuditIsTaken : Type 0
-AuditIsTaken = (program initiating matching point : List ℕ) → AreTaken (audit_words program initiating matching point) (at_once (audit initiating matching point))
+AuditIsTaken = (program initiating matching point : List ℕ) → AreTaken (audit_words program initiating matching point) (at_once (audit line.Text initiating matching point))
 
 -- each in two words, where both names begin with `day`, and the point with `BORDER`
 abbrev pub audit_in_words : (program initiating matching point : List ℕ) → List (List ℕ)
@@ -181,7 +197,23 @@ audit_in_words program initiating matching point =
 abbrev pub AuditInWordsIsTaken : Type 0
 AuditInWordsIsTaken =
     (program initiating matching point : List ℕ)
-    → AreTaken (audit_in_words program initiating matching point) (at_once (audit (codes "day" ++ initiating) (codes "day" ++ matching) (codes "BORDER" ++ point)))
+    → AreTaken (audit_in_words program initiating matching point) (at_once (audit line.Text (codes "day" ++ initiating) (codes "day" ++ matching) (codes "BORDER" ++ point)))
+
+-- with a format, in that; a format that is none is asked for in wrong words
+abbrev pub audit_words_in : (program initiating matching point : List ℕ) → List (List ℕ) → List (List ℕ)
+audit_words_in program initiating matching point format =
+    program ∷ codes "audit" ∷ with_value (codes "initiating") initiating ∷ with_value (codes "matching") matching ∷ with_value (codes "point") point ∷ format
+
+abbrev pub AuditFormatIsTaken : Type 0
+AuditFormatIsTaken =
+    (program initiating matching point : List ℕ) (format : LineFormat)
+    → AreTaken (audit_words_in program initiating matching point (codes "--format" ∷ line_format_text format ∷ []))
+    (at_once (audit format initiating matching point))
+
+abbrev pub AuditFormatIsWrong : Type 0
+AuditFormatIsWrong =
+    (program initiating matching point format : List ℕ) → line_format_named format ≡ None
+    → AreTaken (audit_words_in program initiating matching point (with_value (codes "format") format ∷ [])) (at_once mistaken)
 
 -- without the matching side's book, that is missing
 abbrev pub AuditNeedsBothBooks : Type 0

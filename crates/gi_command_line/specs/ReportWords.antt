@@ -1,8 +1,10 @@
--- The words of `report`, and what is told of wrong words.
+-- The words of `report` and the formats, and what is told of wrong words.
 use Rattle.std.specs.Prelude.{◌++◌, ℕ, Bool, false, true, List, Option, None, Some, if◌then◌else◌, codes}
 use Rattle.std.specs.Str.{bytes_eq}
 use Rattle.gi_command_line.specs.declared.request.Format.{Format}
 use Rattle.gi_command_line.specs.declared.request.Format.TheVariants.{Text, Csv, Json}
+use Rattle.gi_command_line.specs.declared.request.LineFormat.{LineFormat}
+use Rattle.gi_command_line.specs.declared.request.LineFormat.TheVariants as line
 use Rattle.gi_command_line.specs.declared.request.Mistake.{Mistake}
 use Rattle.gi_command_line.specs.declared.request.Mistake.TheVariants as mistake
 use Rattle.gi_command_line.specs.declared.request.ReportKind.{ReportKind}
@@ -29,6 +31,11 @@ format_text Text = codes "text"
 format_text Csv = codes "csv"
 format_text Json = codes "json"
 
+-- of an explanation or an audit
+abbrev pub line_format_text : LineFormat → List ℕ
+line_format_text line.Text = codes "text"
+line_format_text line.Json = codes "json"
+
 -- the kind of report that a word names
 abbrev pub kind_named : List ℕ → Option ReportKind
 kind_named word =
@@ -43,6 +50,10 @@ format_named word =
     if bytes_eq word (codes "text") then Some Text
     else (if bytes_eq word (codes "csv") then Some Csv else (if bytes_eq word (codes "json") then Some Json else None))
 
+-- the format of an explanation or an audit that a word names
+abbrev pub line_format_named : List ℕ → Option LineFormat
+line_format_named word = if bytes_eq word (codes "text") then Some line.Text else (if bytes_eq word (codes "json") then Some line.Json else None)
+
 -- what is told of words that are wrong
 abbrev pub mistake_text : Mistake → List ℕ
 mistake_text (mistake.Kind word) =
@@ -52,6 +63,8 @@ mistake_text mistake.Unpaired = codes "error: '--book <FILE>' and '--point <CODE
 mistake_text (mistake.Format word) =
     codes "error: invalid value '" ++ (word.now ++ codes "' for '--format <FORMAT>'\n  [possible values: text, csv, json]\n")
 mistake_text mistake.Narrowed = codes "error: '--day <DAY>' and '--portfolio <CODE>' are for a schedule and for cuts\n"
+mistake_text (mistake.LineFormat word) =
+    codes "error: invalid value '" ++ (word.now ++ codes "' for '--format <FORMAT>'\n  [possible values: text, json]\n")
 mistake_text (mistake.Sessions word) =
     codes "error: invalid value '" ++ (word.now ++ codes "' for '--sessions <N>'\n  [possible values: 1 to 8]\n")
 mistake_text (mistake.Direction word) =

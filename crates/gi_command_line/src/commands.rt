@@ -149,8 +149,9 @@ lines in an order that is always the same, with the numbers of the facts: what w
 nomination, the contract and the notice that count, what is available, what lines of lower priority
 numbers leave of that (left out where the cycle is closed by rule 1), the sums of what is
 nominated, the processed quantity by its formula, the closing that froze it, the other side's
-quantity, the lower of both, whether that is confirmed, and whom it was told. Standard input is a
-script as for `report`; with --book and --point the side's desk is read from its book instead.
+quantity, the lower of both, whether that is confirmed, and whom it was told. FORMAT is `text`, or
+`json` with an object for each of these lines. Standard input is a script as for `report`; with
+--book and --point the side's desk is read from its book instead.
 
 Faults, the first of: CodeText (INITIATING or MATCHING is no code), DayText or DayRange, as for
 `hours`; then those of `report`.";
@@ -163,7 +164,7 @@ by direction in kWh; open at I or at both; or what differs, with the numbers of 
 row and hour, and both quantities. The last line is `agreed` (a cycle is, and none differs) or `open`
 (cycles are closed, none is agreed, and none differs), with exit status 0; or `empty` (neither has
 closed a cycle) or `differs at DAY CYCLE` for the first cycle that differs, with exit status 1.
-Standard input is not read.
+FORMAT is `text`, or `json` with an object for each line. Standard input is not read.
 
 Faults, the first of: CodeText (CODE is no code); what is told of the initiating operator's book as
 for `report`, then of the matching one's; BadFact N of the one, then of the other; Write; Differs or
@@ -444,6 +445,8 @@ fn explain_command<'a>(alloc: Global) -> Result<Command<'a>, AllocError>
     let command = with_arg(command, word(alloc, "SIDE", "I or M"));
     let command = with_pair(alloc, command);
     let command = with_hour(alloc, command);
+    let format = "text or json; text where none is named";
+    let command = with_arg(command, option(alloc, "format", "FORMAT", format));
     with_book(alloc, command)
 }
 
@@ -464,10 +467,12 @@ fn audit_command<'a>(alloc: Global) -> Result<Command<'a>, AllocError>
         command,
         needed(alloc, "matching", "FILE", "The matching operator's book"),
     );
-    with_arg(
+    let command = with_arg(
         command,
         needed(alloc, "point", "CODE", "The point that the books are of"),
-    )
+    );
+    let format = "text or json; text where none is named";
+    with_arg(command, option(alloc, "format", "FORMAT", format))
 }
 
 fn book_command<'a>(alloc: Global) -> Result<Command<'a>, AllocError>

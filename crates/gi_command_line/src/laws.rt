@@ -1,5 +1,5 @@
 //! What holds of all words. These functions do nothing; their clauses are the laws.
-ghost use Rattle.gi_command_line.specs.Laws.{AboutBookIsTaken, AboutBookNeedsAFile, AuditInWordsIsTaken, AuditIsTaken, AuditNeedsBothBooks, BookInWordsIsTaken, BookIsTaken, BookNeedsItsPoint, ExpectedIsItsText, ExpectedIsNamed, ExpectedIsTaken, ExpectedIsWrong, ExplainIsTaken, ExplainNeedsACycle, ExplainNeedsAnHour, ExplainedBookIsTaken, FormatIsTaken, HourIsMissing, HoursIsTaken, HoursNeedADay, MatchIsTaken, NarrowingIsTaken, NarrowingIsWrong, OfficeClockIsTaken, OfficeInWordsIsTaken, OfficeIsOfNoSide, OfficeIsTaken, OfficeNeedsASide, OfficeNeedsItsBook, OfficeNeedsItsPoint, OfficeWaitIsTaken, OfficeWaitIsWrong, OldInMemoryIsTaken, OldIsTaken, PlainAboutBookIsTaken, PlainExplainIsTaken, ReportIsTaken, ReportNeedsASide, ServeIsTaken, SimulateIsTaken, TraceIsTaken, WaitIsItsText, WaitIsNamed, WaitIsTaken, WaitIsWrong};
+ghost use Rattle.gi_command_line.specs.Laws.{AboutBookIsTaken, AboutBookNeedsAFile, AuditFormatIsTaken, AuditFormatIsWrong, AuditInWordsIsTaken, AuditIsTaken, AuditNeedsBothBooks, BookInWordsIsTaken, BookIsTaken, BookNeedsItsPoint, ExpectedIsItsText, ExpectedIsNamed, ExpectedIsTaken, ExpectedIsWrong, ExplainFormatIsTaken, ExplainFormatIsWrong, ExplainIsTaken, ExplainNeedsACycle, ExplainNeedsAnHour, ExplainedBookIsTaken, FormatIsTaken, HourIsMissing, HoursIsTaken, HoursNeedADay, MatchIsTaken, NarrowingIsTaken, NarrowingIsWrong, OfficeClockIsTaken, OfficeInWordsIsTaken, OfficeIsOfNoSide, OfficeIsTaken, OfficeNeedsASide, OfficeNeedsItsBook, OfficeNeedsItsPoint, OfficeWaitIsTaken, OfficeWaitIsWrong, OldInMemoryIsTaken, OldIsTaken, PlainAboutBookIsTaken, PlainExplainIsTaken, ReportIsTaken, ReportNeedsASide, ServeIsTaken, SimulateIsTaken, TraceIsTaken, WaitIsItsText, WaitIsNamed, WaitIsTaken, WaitIsWrong};
 
 /// The program's name, alone or with the word `match`, is a right command line, and asks for `match`.
 pub fn match_is_taken()
@@ -66,22 +66,28 @@ pub fn report_is_taken()
 {}
 
 /// So is the program's name with the word `explain` and the seven words of a quantity, behind `--` whatever
-/// its portfolios and its day begin with; with `--book` and `--point`, by the book in that file. A cycle or an
-/// hour that is none is a wrong command line; without an hour, the hour is missing.
+/// its portfolios and its day begin with; with `--book` and `--point`, by the book in that file; with `--format`,
+/// in that format, else as text. A cycle, an hour or a format that is none is a wrong command line; without an hour,
+/// the hour is missing.
 pub fn explain_is_taken()
     ensures of_script { ExplainIsTaken }
     ensures of_book { ExplainedBookIsTaken }
     ensures plain { PlainExplainIsTaken }
+    ensures format { ExplainFormatIsTaken }
     ensures needs_a_cycle { ExplainNeedsACycle }
     ensures needs_an_hour { ExplainNeedsAnHour }
+    ensures needs_a_format { ExplainFormatIsWrong }
     ensures missing { HourIsMissing }
 {}
 
 /// So is the program's name with the word `audit`, both books' files and their point, which asks for the
-/// audit of just these; without one book, that is missing.
+/// audit of just these, as text; with `--format`, in that format. A format that is none is a wrong command line;
+/// without one book, that is missing.
 pub fn audit_is_taken()
     ensures taken { AuditIsTaken }
     ensures in_words { AuditInWordsIsTaken }
+    ensures format { AuditFormatIsTaken }
+    ensures needs_a_format { AuditFormatIsWrong }
     ensures needs_both { AuditNeedsBothBooks }
 {}
 

@@ -15,8 +15,9 @@ pub use laws::{
     hours_is_taken, match_is_taken, office_is_taken, serve_is_taken, simulate_is_taken,
 };
 pub use request::{
-    BookFile, BookFiles, BookQuestion, Explanation, Format, Mistake, NamedQuantity, Narrowing,
-    OfficeRun, Report, ReportKind, Request, Service, Task, format_named, kind_named,
+    Audit, BookFile, BookFiles, BookQuestion, Explanation, Format, LineFormat, Mistake,
+    NamedQuantity, Narrowing, OfficeRun, Report, ReportKind, Request, Service, Task, format_named,
+    kind_named, line_format_named,
 };
 pub use sessions::Sessions;
 pub use wait::WaitSeconds;

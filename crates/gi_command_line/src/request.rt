@@ -1,7 +1,7 @@
 //! What a command line asks for.
 
 ghost use Rattle.std.specs.Prelude.{◌≡◌, Some};
-ghost use Rattle.gi_command_line.specs.ReportWords.{can_be_narrowed, format_named as format_named_by, kind_named as kind_named_by, mistake_text};
+ghost use Rattle.gi_command_line.specs.ReportWords.{can_be_narrowed, format_named as format_named_by, kind_named as kind_named_by, line_format_named as line_format_named_by, mistake_text};
 
 use crate::expected::ExpectedFacts;
 use crate::sessions::Sessions;
@@ -54,6 +54,15 @@ pub enum Format {
     Json,
 }
 
+/// How an explanation or an audit is written.
+#[derive(Clone, Copy, Debug, PartialEq, Eq)]
+pub enum LineFormat {
+    /// A line of words each, for people.
+    Text,
+    /// A JSON object a line.
+    Json,
+}
+
 /// A book in a file, and the interconnection point that it is of.
 #[derive(Clone, Copy, Debug, PartialEq, Eq)]
 pub struct BookFile<'a> {
@@ -87,6 +96,7 @@ pub struct NamedQuantity<'a> {
 /// What a quantity comes from at a side: over its book, or else over a script.
 #[derive(Clone, Copy, Debug, PartialEq, Eq)]
 pub struct Explanation<'a> {
+    pub format: LineFormat,
     pub side: Side,
     pub quantity: NamedQuantity<'a>,
     pub book: Option<BookFile<'a>>,
@@ -98,6 +108,13 @@ pub struct BookFiles<'a> {
     pub initiating: &'a str,
     pub matching: &'a str,
     pub point: &'a str,
+}
+
+/// The audit of both operators' books.
+#[derive(Clone, Copy, Debug, PartialEq, Eq)]
+pub struct Audit<'a> {
+    pub format: LineFormat,
+    pub books: BookFiles<'a>,
 }
 
 /// What a book in a file is, and whether its first facts are the expected ones.
@@ -141,10 +158,12 @@ pub enum Mistake<'a> {
     Side(&'a str),
     /// One of `--book` and `--point` without the other.
     Unpaired,
-    /// The word is no format.
+    /// The word is no format of a report.
     Format(&'a str),
     /// `--day` or `--portfolio` for another report than a schedule or cuts.
     Narrowed,
+    /// The word is no format of an explanation or an audit.
+    LineFormat(&'a str),
     /// The word is no number of sessions.
     Sessions(&'a str),
     /// The word is no direction.
@@ -173,7 +192,7 @@ pub enum Request<'a> {
     /// What a quantity comes from.
     Explain(Explanation<'a>),
     /// Whether both operators' books agree.
-    Audit(BookFiles<'a>),
+    Audit(Audit<'a>),
     /// What a book is.
     Book(BookQuestion<'a>),
     /// A command, in wrong words.
@@ -213,6 +232,10 @@ impl fmt::Display for Mistake<'_> {
             ),
             Mistake::Narrowed => f.write_str(
                 "error: '--day <DAY>' and '--portfolio <CODE>' are for a schedule and for cuts\n",
+            ),
+            Mistake::LineFormat(word) => write!(
+                f,
+                "error: invalid value '{word}' for '--format <FORMAT>'\n  [possible values: text, json]\n"
             ),
             Mistake::Sessions(word) => write!(
                 f,
@@ -264,6 +287,17 @@ pub fn format_named(word: &str) -> Option<Format>
         "text" => Some(Format::Text),
         "csv" => Some(Format::Csv),
         "json" => Some(Format::Json),
+        _ => None,
+    }
+}
+
+/// The format of an explanation or an audit that a word names.
+pub fn line_format_named(word: &str) -> Option<LineFormat>
+    ensures { result ≡ line_format_named_by word.now }
+{
+    match word {
+        "text" => Some(LineFormat::Text),
+        "json" => Some(LineFormat::Json),
         _ => None,
     }
 }

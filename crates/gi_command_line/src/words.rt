@@ -3,14 +3,15 @@ ghost use Rattle.std.specs.Prelude.{◌≡◌, IfOk, codes, false, map, option_m
 ghost use Rattle.std.specs.Result.{result_ok};
 ghost use Rattle.clap.specs.Words.{FailsBy, first_of, found_of, rows_of, subcommand_rows_of};
 ghost use Rattle.gi_command_line.specs.Asked.{book_of as book_words, expected_words, meaning, narrowing_words, quantity_words, task_meaning};
-ghost use Rattle.gi_command_line.specs.CommandLine.{about_book_asked, asked, asked_at_once, asked_of, audit_asked, book_asked, expected_asked, explain_asked, fits as fits_kind, format_asked, hours_asked, is_set as is_set_by, narrowing_asked, objections, office_asked, quantity_asked, report_asked, serve_asked, sessions_asked, value_of as value_at, wait_asked};
+ghost use Rattle.gi_command_line.specs.CommandLine.{about_book_asked, asked, asked_at_once, asked_of, audit_asked, book_asked, expected_asked, explain_asked, fits as fits_kind, format_asked, hours_asked, is_set as is_set_by, line_format_asked, narrowing_asked, objections, office_asked, quantity_asked, report_asked, serve_asked, sessions_asked, value_of as value_at, wait_asked};
 
 use crate::commands::commands;
 use crate::expected::ExpectedFacts;
 use crate::numbers::{cycle_named, hour_named};
 use crate::request::{
-    BookFile, BookFiles, BookQuestion, Explanation, Format, Mistake, NamedQuantity, Narrowing,
-    OfficeRun, Report, ReportKind, Request, Service, Task, format_named, kind_named,
+    Audit, BookFile, BookFiles, BookQuestion, Explanation, Format, LineFormat, Mistake,
+    NamedQuantity, Narrowing, OfficeRun, Report, ReportKind, Request, Service, Task, format_named,
+    kind_named, line_format_named,
 };
 use crate::sessions::Sessions;
 use crate::wait::WaitSeconds;
@@ -86,6 +87,15 @@ fn fits(kind: ReportKind, narrowing: &Narrowing<'_>) -> bool
     kind.can_be_narrowed() || narrowing.day.is_none() && narrowing.portfolio.is_none()
 }
 
+fn line_format_of(word: Option<&str>) -> Option<LineFormat>
+    ensures { result ≡ line_format_asked (option_map (λ s. s.now) word.entry) }
+{
+    match word {
+        Some(word) => line_format_named(word),
+        None => Some(LineFormat::Text),
+    }
+}
+
 fn report_of<'a>(matches: &ArgMatches<'a>) -> Request<'a>
     ensures { meaning result ≡ report_asked (rows_of (found_of matches.now)) }
 {
@@ -154,10 +164,15 @@ fn explanation_of<'a>(matches: &ArgMatches<'a>) -> Request<'a>
         Ok(quantity) => quantity,
         Err(mistake) => return Request::Mistaken(mistake),
     };
+    let word = value_of(matches, "format");
+    let Some(format) = line_format_of(word) else {
+        return Request::Mistaken(Mistake::LineFormat(word.unwrap_or("")));
+    };
     let Some(book) = book_of(matches) else {
         return Request::Mistaken(Mistake::Unpaired);
     };
     Request::Explain(Explanation {
+        format,
         side,
         quantity,
         book,
@@ -167,11 +182,16 @@ fn explanation_of<'a>(matches: &ArgMatches<'a>) -> Request<'a>
 fn audit_of<'a>(matches: &ArgMatches<'a>) -> Request<'a>
     ensures { meaning result ≡ audit_asked (rows_of (found_of matches.now)) }
 {
-    Request::Audit(BookFiles {
+    let word = value_of(matches, "format");
+    let Some(format) = line_format_of(word) else {
+        return Request::Mistaken(Mistake::LineFormat(word.unwrap_or("")));
+    };
+    let books = BookFiles {
         initiating: word_of(matches, "initiating"),
         matching: word_of(matches, "matching"),
         point: word_of(matches, "point"),
-    })
+    };
+    Request::Audit(Audit { format, books })
 }
 
 /// The facts that are expected, if any; `None` where the word names none.

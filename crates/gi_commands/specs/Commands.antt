@@ -56,9 +56,9 @@ Does books (hours day) remaining old new = TellsHours day old new
 Does books (simulate trace) remaining old new = IfSome remaining (λ input. Simulates trace input old new)
 Does books (report kind format side words book) remaining old new =
     (wanted : Wanted) × Narrows words wanted × TellsDesk books (Listed kind format wanted) side book remaining old new
-Does books (explain side words book) remaining old new =
-    (question : Question) × Asks words question × TellsDesk books (Explanation question) side book remaining old new
-Does books (audit initiating matching point) remaining old new = Audits (of_owner (books initiating) I point) (of_owner (books matching) M point) point old new
+Does books (explain format side words book) remaining old new =
+    (question : Question) × Asks words question × TellsDesk books (Explanation question format) side book remaining old new
+Does books (audit format initiating matching point) remaining old new = Audits format (of_owner (books initiating) I point) (of_owner (books matching) M point) point old new
 Does books (about_book file expected) remaining old new = TellsBook (books file) expected old new
 Does books mistaken remaining old new = ⊥
 
@@ -69,10 +69,10 @@ IsFaultOf books (hours day) remaining why = OfTables (IsFirstHoursFault day) why
 IsFaultOf books (simulate trace) remaining why = IfSome remaining (λ input. IsFirstScriptFault HasScript input why)
 IsFaultOf books (report kind format side words book) remaining why =
     (why ≡ fault.OutOfMemory) ⊎ IsNarrowingFault words why ⊎ ((wanted : Wanted) × Narrows words wanted × IsDeskFault books (Listed kind format wanted) side book remaining why)
-IsFaultOf books (explain side words book) remaining why =
+IsFaultOf books (explain format side words book) remaining why =
     (why ≡ fault.OutOfMemory) ⊎ IsQuestionFault words why
-    ⊎ ((question : Question) × Asks words question × IsDeskFault books (Explanation question) side book remaining why)
-IsFaultOf books (audit initiating matching point) remaining why = IsFirstAuditFault (of_owner (books initiating) I point) (of_owner (books matching) M point) point why
+    ⊎ ((question : Question) × Asks words question × IsDeskFault books (Explanation question format) side book remaining why)
+IsFaultOf books (audit format initiating matching point) remaining why = IsFirstAuditFault format (of_owner (books initiating) I point) (of_owner (books matching) M point) point why
 IsFaultOf books (about_book file expected) remaining why = IsFirstContentsFault (books file) expected why
 IsFaultOf books mistaken remaining why = (why ≡ fault.CommandLine) ⊎ (why ≡ fault.OutOfMemory)
 
@@ -88,8 +88,8 @@ Leaves books match_tables remaining old new why = LeavesNothing old new why
 Leaves books (hours day) remaining old new why = LeavesNothing old new why
 Leaves books (simulate trace) remaining old new why = LeavesFront trace remaining old new why
 Leaves books (report kind format side words book) remaining old new why = LeavesNothing old new why
-Leaves books (explain side words book) remaining old new why = LeavesNothing old new why
-Leaves books (audit initiating matching point) remaining old new why = LeavesAudit (of_owner (books initiating) I point) (of_owner (books matching) M point) point old new why
+Leaves books (explain format side words book) remaining old new why = LeavesNothing old new why
+Leaves books (audit format initiating matching point) remaining old new why = LeavesAudit format (of_owner (books initiating) I point) (of_owner (books matching) M point) point old new why
 Leaves books (about_book file expected) remaining old new why = LeavesContents (books file) expected old new why
 Leaves books mistaken remaining old new why = LeavesNothing old new why
 
@@ -99,8 +99,8 @@ MayRead match_tables old new = Unit {0}
 MayRead (hours day) old new = Keeps old new
 MayRead (simulate trace) old new = Unit {0}
 MayRead (report kind format side words book) old new = ReadsUnlessBook book old new
-MayRead (explain side words book) old new = ReadsUnlessBook book old new
-MayRead (audit initiating matching point) old new = Keeps old new
+MayRead (explain format side words book) old new = ReadsUnlessBook book old new
+MayRead (audit format initiating matching point) old new = Keeps old new
 MayRead (about_book file expected) old new = Keeps old new
 MayRead mistaken old new = Keeps old new
 
@@ -110,7 +110,7 @@ HasNoCode match_tables = ⊥
 HasNoCode (hours day) = ⊥
 HasNoCode (simulate trace) = ⊥
 HasNoCode (report kind format side words book) = HasNoPortfolio words.portfolio ⊎ ((wanted : Wanted) × Narrows words wanted × HasNoPoint book)
-HasNoCode (explain side words book) = NamesNoCodes words ⊎ ((question : Question) × Asks words question × HasNoPoint book)
-HasNoCode (audit initiating matching point) = ¬ (IsCode point)
+HasNoCode (explain format side words book) = NamesNoCodes words ⊎ ((question : Question) × Asks words question × HasNoPoint book)
+HasNoCode (audit format initiating matching point) = ¬ (IsCode point)
 HasNoCode (about_book file expected) = ⊥
 HasNoCode mistaken = ⊥

@@ -6,6 +6,8 @@ use Rattle.gi_pairs.specs.declared.side.Side.{Side}
 use Rattle.gi_desk.specs.Machine.{DeskState, bad_fact}
 use Rattle.gi_facts.specs.declared.fact.Fact.{Fact}
 use Rattle.gi_explanations.specs.Explanation.{explanation}
+use Rattle.gi_explanations.specs.Json.{explanation_objects, object_lines}
+use Rattle.gi_explanations.specs.declared.question.Question.{Question}
 use Rattle.gi_exports.specs.Csv.{IsConfirmedCsv, IsOpenCsv, refused_text}
 use Rattle.gi_exports.specs.Json.{IsConfirmedJson, IsOpenJson, count_data, json_lines}
 use Rattle.gi_reports.specs.Confirmed.{IsConfirmedReport}
@@ -25,6 +27,8 @@ use Rattle.gi_commands.specs.declared.fault.Fault.TheVariants as fault
 use Rattle.gi_commands.specs.declared.desk_report.DeskReport.{DeskReport}
 use Rattle.gi_commands.specs.declared.desk_report.DeskReport.TheVariants.{Listed, Explanation}
 use Rattle.gi_command_line.specs.declared.request.Format.TheVariants.{Text, Csv, Json}
+use Rattle.gi_command_line.specs.declared.request.LineFormat.{LineFormat}
+use Rattle.gi_command_line.specs.declared.request.LineFormat.TheVariants as line
 use Rattle.gi_command_line.specs.declared.request.ReportKind.{ReportKind}
 use Rattle.gi_command_line.specs.declared.request.ReportKind.TheVariants.{Open, Confirmed, Refused, Schedule, Cut}
 
@@ -50,12 +54,17 @@ IsJsonReport Refused wanted side s submissions text = text ≡ json_lines count_
 IsJsonReport Schedule wanted side s submissions text = IsScheduleJson side s wanted text
 IsJsonReport Cut wanted side s submissions text = IsCutJson side s wanted text
 
+-- what a quantity comes from: in lines, and as JSON lines
+abbrev pub IsExplanation : LineFormat → Side → DeskState → Question → List ℕ → Type 0
+IsExplanation line.Text side s question text = text ≡ explanation side s question
+IsExplanation line.Json side s question text = text ≡ object_lines (explanation_objects side s question)
+
 -- the report of a side's desk: such a list, or what a quantity comes from
 abbrev pub IsReport : DeskReport → Side → DeskState → List (Option (List ℕ)) → List ℕ → Type 0
 IsReport (Listed kind Text wanted) side s submissions text = IsTextReport kind wanted side s submissions text
 IsReport (Listed kind Csv wanted) side s submissions text = IsCsvReport kind wanted side s submissions text
 IsReport (Listed kind Json wanted) side s submissions text = IsJsonReport kind wanted side s submissions text
-IsReport (Explanation question) side s submissions text = text ≡ explanation side s question
+IsReport (Explanation question format) side s submissions text = IsExplanation format side s question text
 
 -- the desk of these facts, all saved
 abbrev pub desk_of : List ℕ → List Fact → DeskState

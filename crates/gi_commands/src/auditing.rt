@@ -1,8 +1,10 @@
 //! The audit of both operators' books, which are read by their names.
 
-ghost use Rattle.std.specs.Prelude.{◌≡◌, Err, IfErr, IfOk, string_bytes};
+ghost use Rattle.std.specs.Prelude.{◌≡◌, Err, IfErr, IfOk, false};
+ghost use Rattle.gi_audit.specs.Agreeing.{ConfirmOneQuantity};
+ghost use Rattle.gi_audit.specs.Verdict.{IsToldExactly, names_difference};
 ghost use Rattle.gi_pairs.specs.Code.{IsCode};
-ghost use Rattle.gi_commands.specs.Auditing.{HasAudit, IsFactsAudit, IsNoAudit, IsNoFactsAudit};
+ghost use Rattle.gi_commands.specs.Auditing.{HasAudit, IsAuditIn, IsFactsAudit, IsNoAudit, IsNoFactsAudit};
 ghost use Rattle.gi_commands.specs.Fault.{no_code};
 ghost use Rattle.gi_commands.specs.Owned.{of_owner};
 ghost use Rattle.gi_pairs.specs.declared.side.Side.TheVariants.{I, M};
@@ -10,25 +12,60 @@ ghost use Rattle.gi_pairs.specs.declared.side.Side.TheVariants.{I, M};
 use crate::fault::Fault;
 use crate::owned::owned_facts;
 use crate::replaying::replayed;
-use gi_audit::{Audited, audit};
-use gi_command_line::BookFiles;
-use gi_desk::Fact;
+use gi_audit::{Audited, AuditedJson, Verdict, audit, audit_json};
+use gi_command_line::{Audit, LineFormat};
+use gi_desk::{Desk, Fact};
 use gi_initiator::Initiating;
 use gi_matcher::Matching;
 use gi_pairs::{Code, CodeText, Side};
 use gi_store::{BookSource, Owner};
-use std::alloc::Global;
+use std::alloc::{AllocError, Global};
+
+/// The audit of two desks, as it is written.
+#[derive(Drop)]
+pub struct AuditText {
+    /// Its lines.
+    pub text: Vec<u8>,
+    /// What they come to, which the last one tells.
+    pub verdict: Verdict,
+}
+
+fn desks_audit(
+    alloc: Global,
+    format: LineFormat,
+    initiating: &Desk<Initiating>,
+    matching: &Desk<Matching>,
+) -> Result<AuditText, AllocError>
+    requires initiating { initiating.now.halted ≡ false }
+    requires matching { matching.now.halted ≡ false }
+    ensures written { IfOk result (λ it. IsAuditIn format initiating.now matching.now it.text.items it.verdict) }
+    ensures told { IfOk result (λ it. IsToldExactly initiating.now matching.now it.verdict) }
+    ensures one_quantity { IfOk result (λ it. names_difference it.verdict ≡ false → ConfirmOneQuantity initiating.now matching.now) }
+{
+    match format {
+        LineFormat::Text => {
+            let Audited { text, verdict } = audit(alloc, initiating, matching)?;
+            let text = text.into_bytes();
+            Ok(AuditText { text, verdict })
+        }
+        LineFormat::Json => {
+            let AuditedJson { text, verdict } = audit_json(alloc, initiating, matching)?;
+            Ok(AuditText { text, verdict })
+        }
+    }
+}
 
 /// The audit of the facts of two books. `BadFact` for the first fact that no desk of the initiating
 /// side and point records after those before it, and then for that of the matching side; and
 /// `OutOfMemory`.
 pub fn facts_audit(
     alloc: Global,
+    format: LineFormat,
     point: Code,
     initiating: Vec<Fact>,
     matching: Vec<Fact>,
-) -> Result<Audited, Fault>
-    ensures audited { IfOk result (λ it. IsFactsAudit point initiating.items matching.items (string_bytes it.text) it.verdict) }
+) -> Result<AuditText, Fault>
+    ensures audited { IfOk result (λ it. IsFactsAudit format point initiating.items matching.items it.text.items it.verdict) }
     ensures fault { IfErr result (IsNoFactsAudit point initiating.items matching.items) }
 {
     let initiating = match replayed::<Initiating>(alloc, point, initiating) {
@@ -46,7 +83,7 @@ pub fn facts_audit(
             return Err(fault);
         }
     };
-    let audited = audit(alloc, &initiating, &matching);
+    let audited = desks_audit(alloc, format, &initiating, &matching);
     drop(initiating);
     drop(matching);
     Ok(audited?)
@@ -58,12 +95,13 @@ pub fn facts_audit(
 pub(crate) fn named_audit<B: BookSource>(
     alloc: Global,
     books: &B,
-    files: BookFiles<'_>,
-) -> Result<Audited, Fault>
-    ensures audited { IfOk result (λ it. HasAudit (of_owner (B.gives books.now files.entry.initiating.now) I files.entry.point.now) (of_owner (B.gives books.now files.entry.matching.now) M files.entry.point.now) files.entry.point.now (string_bytes it.text) it.verdict) }
-    ensures fault { IfErr result (IsNoAudit (of_owner (B.gives books.now files.entry.initiating.now) I files.entry.point.now) (of_owner (B.gives books.now files.entry.matching.now) M files.entry.point.now) files.entry.point.now) }
-    ensures code { ¬ (IsCode files.entry.point.now) → result ≡ Err no_code }
+    wanted: Audit<'_>,
+) -> Result<AuditText, Fault>
+    ensures audited { IfOk result (λ it. HasAudit wanted.entry.format (of_owner (B.gives books.now wanted.entry.books.initiating.now) I wanted.entry.books.point.now) (of_owner (B.gives books.now wanted.entry.books.matching.now) M wanted.entry.books.point.now) wanted.entry.books.point.now it.text.items it.verdict) }
+    ensures fault { IfErr result (IsNoAudit (of_owner (B.gives books.now wanted.entry.books.initiating.now) I wanted.entry.books.point.now) (of_owner (B.gives books.now wanted.entry.books.matching.now) M wanted.entry.books.point.now) wanted.entry.books.point.now) }
+    ensures code { ¬ (IsCode wanted.entry.books.point.now) → result ≡ Err no_code }
 {
+    let files = wanted.books;
     let point = Code::read(files.point)?;
     let initiating = owned_facts(
         books,
@@ -87,5 +125,5 @@ pub(crate) fn named_audit<B: BookSource>(
             return Err(Fault::from(fault));
         }
     };
-    facts_audit(alloc, point, initiating, matching)
+    facts_audit(alloc, wanted.format, point, initiating, matching)
 }

@@ -22,7 +22,7 @@ use crate::reporting::script_report;
 use crate::simulating::simulated;
 use crate::tables::{match_tables, read_input, tell_hours, write_text};
 use gi_audit::Verdict;
-use gi_command_line::{BookFile, BookFiles, BookQuestion, Explanation, Report, Request};
+use gi_command_line::{Audit, BookFile, BookQuestion, Explanation, Report, Request};
 use gi_pairs::Side;
 use gi_store::BookSource;
 use gi_table_commands::Calls;
@@ -142,18 +142,18 @@ fn explain<B: BookSource, R: Read, W: Write>(
     input: &mut R,
     output: &mut W,
 ) -> Result<(), Fault>
-    ensures done { OnOk result (Does (B.gives books.now) (asks_explanation wanted.entry.side (quantity_words wanted.entry.quantity) (book_of wanted.entry.book))
+    ensures done { OnOk result (Does (B.gives books.now) (asks_explanation wanted.entry.format wanted.entry.side (quantity_words wanted.entry.quantity) (book_of wanted.entry.book))
         (R.remaining input.old) (W.contents output.old) (W.contents output.new)) }
-    ensures first { IfErr result (IsFaultOf (B.gives books.now) (asks_explanation wanted.entry.side (quantity_words wanted.entry.quantity) (book_of wanted.entry.book)) (R.remaining input.old)) }
+    ensures first { IfErr result (IsFaultOf (B.gives books.now) (asks_explanation wanted.entry.format wanted.entry.side (quantity_words wanted.entry.quantity) (book_of wanted.entry.book)) (R.remaining input.old)) }
     ensures leaves { IfErr result (LeavesNothing (W.contents output.old) (W.contents output.new)) }
     ensures unread { ReadsUnlessBook (book_of wanted.entry.book) (R.remaining input.old) (R.remaining input.new) }
-    ensures code { HasNoCode (asks_explanation wanted.entry.side (quantity_words wanted.entry.quantity) (book_of wanted.entry.book)) → result ≡ Err no_code }
+    ensures code { HasNoCode (asks_explanation wanted.entry.format wanted.entry.side (quantity_words wanted.entry.quantity) (book_of wanted.entry.book)) → result ≡ Err no_code }
 {
     let question = question(wanted.quantity)?;
     tell_desk(
         alloc,
         books,
-        DeskReport::Explanation(question),
+        DeskReport::Explanation(question, wanted.format),
         wanted.side,
         wanted.book,
         input,
@@ -164,16 +164,16 @@ fn explain<B: BookSource, R: Read, W: Write>(
 fn audit_books<B: BookSource, W: Write>(
     alloc: Global,
     books: &B,
-    files: BookFiles<'_>,
+    wanted: Audit<'_>,
     output: &mut W,
 ) -> Result<(), Fault>
-    ensures done { OnOk result (Audits (of_owner (B.gives books.now files.entry.initiating.now) I files.entry.point.now) (of_owner (B.gives books.now files.entry.matching.now) M files.entry.point.now) files.entry.point.now (W.contents output.old) (W.contents output.new)) }
-    ensures first { IfErr result (IsFirstAuditFault (of_owner (B.gives books.now files.entry.initiating.now) I files.entry.point.now) (of_owner (B.gives books.now files.entry.matching.now) M files.entry.point.now) files.entry.point.now) }
-    ensures leaves { IfErr result (LeavesAudit (of_owner (B.gives books.now files.entry.initiating.now) I files.entry.point.now) (of_owner (B.gives books.now files.entry.matching.now) M files.entry.point.now) files.entry.point.now (W.contents output.old) (W.contents output.new)) }
-    ensures code { ¬ (IsCode files.entry.point.now) → result ≡ Err no_code }
+    ensures done { OnOk result (Audits wanted.entry.format (of_owner (B.gives books.now wanted.entry.books.initiating.now) I wanted.entry.books.point.now) (of_owner (B.gives books.now wanted.entry.books.matching.now) M wanted.entry.books.point.now) wanted.entry.books.point.now (W.contents output.old) (W.contents output.new)) }
+    ensures first { IfErr result (IsFirstAuditFault wanted.entry.format (of_owner (B.gives books.now wanted.entry.books.initiating.now) I wanted.entry.books.point.now) (of_owner (B.gives books.now wanted.entry.books.matching.now) M wanted.entry.books.point.now) wanted.entry.books.point.now) }
+    ensures leaves { IfErr result (LeavesAudit wanted.entry.format (of_owner (B.gives books.now wanted.entry.books.initiating.now) I wanted.entry.books.point.now) (of_owner (B.gives books.now wanted.entry.books.matching.now) M wanted.entry.books.point.now) wanted.entry.books.point.now (W.contents output.old) (W.contents output.new)) }
+    ensures code { ¬ (IsCode wanted.entry.books.point.now) → result ≡ Err no_code }
 {
-    let audit = named_audit(alloc, books, files)?;
-    write_text(audit.text.as_bytes(), output)?;
+    let audit = named_audit(alloc, books, wanted)?;
+    write_text(audit.text.as_slice(), output)?;
     match audit.verdict {
         Verdict::Agreed | Verdict::Open => Ok(()),
         Verdict::Empty => Err(Fault::Empty),
@@ -225,7 +225,7 @@ pub fn perform<B: BookSource, R: Read, W: Write>(
         Request::Hours(day) => tell_hours(alloc, day, output),
         Request::Simulate { trace } => simulate_script(alloc, trace, input, output),
         Request::Report(asked) => report(alloc, books, asked, input, output),
-        Request::Audit(files) => audit_books(alloc, books, files, output),
+        Request::Audit(wanted) => audit_books(alloc, books, wanted, output),
         Request::Book(question) => tell_book(alloc, books, question, output),
         Request::Explain(wanted) => explain(alloc, books, wanted, input, output),
         Request::Mistaken(_) => Err(Fault::CommandLine),

@@ -1,4 +1,4 @@
-use gi_command_line::{Format, ReportKind};
+use gi_command_line::{Format, LineFormat, ReportKind};
 use gi_explanations::Question;
 use gi_schedule::Wanted;
 
@@ -7,5 +7,5 @@ use gi_schedule::Wanted;
 #[derive(Clone, Copy)]
 pub enum DeskReport {
     Listed(ReportKind, Format, Wanted),
-    Explanation(Question),
+    Explanation(Question, LineFormat),
 }

@@ -17,7 +17,7 @@ mod reporting;
 mod simulating;
 mod tables;
 
-pub use auditing::facts_audit;
+pub use auditing::{AuditText, facts_audit};
 pub use commands::perform;
 pub use desk_report::DeskReport;
 pub use fault::Fault;

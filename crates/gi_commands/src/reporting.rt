@@ -9,16 +9,16 @@ ghost use Rattle.gi_store.specs.Book.{IsRead};
 ghost use Rattle.gi_store.specs.Clean.{IsClean};
 ghost use Rattle.gi_store.specs.Keeping.{AddsNoOutcome, Keeps};
 ghost use Rattle.gi_commands.specs.Owned.{anything};
-ghost use Rattle.gi_commands.specs.Reporting.{HasBookReport, IsBookFault, IsBookReport, IsCsvReport, IsFactsFault, IsJsonReport, IsReport, IsRowsFault, IsTextReport};
+ghost use Rattle.gi_commands.specs.Reporting.{HasBookReport, IsBookFault, IsBookReport, IsCsvReport, IsExplanation, IsFactsFault, IsJsonReport, IsReport, IsRowsFault, IsTextReport};
 ghost use Rattle.gi_commands.specs.Simulating.{IsNoScript, IsScriptReport};
 ghost use Rattle.gi_world.specs.World.{station_of};
 
 use crate::desk_report::DeskReport;
 use crate::fault::Fault;
 use crate::replaying::replayed;
-use gi_command_line::{Format, ReportKind};
+use gi_command_line::{Format, LineFormat, ReportKind};
 use gi_desk::{Desk, Fact, Role};
-use gi_explanations::explanation;
+use gi_explanations::{Question, explanation, explanation_json};
 use gi_exports::{confirmed_csv, confirmed_json, open_csv, open_json, refused_csv, refused_json};
 use gi_initiator::Initiating;
 use gi_matcher::Matching;
@@ -89,6 +89,20 @@ fn json_report<R: Role>(
     }
 }
 
+fn explained<R: Role>(
+    alloc: Global,
+    format: LineFormat,
+    desk: &Desk<R>,
+    question: &Question,
+) -> Result<Vec<u8>, AllocError>
+    ensures { IfOk result (λ text. IsExplanation format R.SIDE desk.now question.now text.items) }
+{
+    match format {
+        LineFormat::Text => Ok(explanation(alloc, desk, question)?.into_bytes()),
+        LineFormat::Json => explanation_json(alloc, desk, question),
+    }
+}
+
 fn desk_report<R: Role>(
     alloc: Global,
     kind: DeskReport,
@@ -119,7 +133,7 @@ fn desk_report<R: Role>(
             desk,
             submissions,
         ),
-        DeskReport::Explanation(question) => Ok(explanation(alloc, desk, &question)?.into_bytes()),
+        DeskReport::Explanation(question, format) => explained(alloc, format, desk, &question),
     }
 }
 

@@ -4,3 +4,4 @@ mod FrozenLemmas
 mod NumberLemmas
 mod ReductionLemmas
 mod SumLemmas
+mod JsonLemmas

@@ -5,4 +5,6 @@ pub mod Sums
 pub mod Reduction
 pub mod Outcome
 pub mod Explanation
+pub mod JsonLines
+pub mod Json
 pub mod Laws

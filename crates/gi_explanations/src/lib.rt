@@ -11,6 +11,8 @@
 mod basis;
 mod covering;
 mod explaining;
+mod json_explanation;
+mod json_lines;
 mod laws;
 mod lines;
 mod numbers;
@@ -20,6 +22,7 @@ mod reduction;
 mod wanted;
 
 pub use explaining::explanation;
+pub use json_explanation::explanation_json;
 pub use laws::{
     explains_by_facts, explains_the_confirmed, explains_the_frozen, explains_the_reduction,
 };

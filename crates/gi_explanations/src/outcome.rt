@@ -33,7 +33,11 @@ fn peer_at<'a, R: Role>(desk: &'a Desk<R>, id: &CycleId, n: u32) -> Option<&'a T
 }
 
 /// The peer's table.
-fn met<'a, R: Role>(desk: &'a Desk<R>, question: &Question, numbers: &Numbers) -> Option<&'a Table>
+pub(crate) fn met<'a, R: Role>(
+    desk: &'a Desk<R>,
+    question: &Question,
+    numbers: &Numbers,
+) -> Option<&'a Table>
     requires { numbers.now ≡ numbers_of R.SIDE desk.now.facts question.now }
     ensures { option_copied result ≡ peer_of question.now.id desk.now.facts }
 {
@@ -41,7 +45,7 @@ fn met<'a, R: Role>(desk: &'a Desk<R>, question: &Question, numbers: &Numbers) -
     peer_at(desk, &question.id, numbers.meeting.unwrap_or(0))
 }
 
-fn read(table: Option<&Table>, question: &Question) -> Option<u64>
+pub(crate) fn read(table: Option<&Table>, question: &Question) -> Option<u64>
     ensures { result ≡ option_map (read_at question.now) (option_copied table.entry) }
 {
     match table {
@@ -128,7 +132,11 @@ fn told_line_for(lines: &[Line], code: Code, direction: Direction) -> Option<&Li
     lines.iter().find(|line| is_told_for(line, code, direction))
 }
 
-fn line_of<'a>(side: Side, question: &Question, nomres: &'a Option<Nomres>) -> Option<&'a Line>
+pub(crate) fn line_of<'a>(
+    side: Side,
+    question: &Question,
+    nomres: &'a Option<Nomres>,
+) -> Option<&'a Line>
     ensures { option_copied result ≡ line_in side question.now nomres.now }
 {
     match nomres {

@@ -96,7 +96,11 @@ fn amounts_of(
 }
 
 /// What is available, and the sums of the nomination in force.
-fn amounts_for<R: Role>(desk: &Desk<R>, question: &Question, numbers: &Numbers) -> Amounts
+pub(crate) fn amounts_for<R: Role>(
+    desk: &Desk<R>,
+    question: &Question,
+    numbers: &Numbers,
+) -> Amounts
     requires numbers { numbers.now ≡ numbers_of R.SIDE desk.now.facts question.now }
     ensures value { result ≡ amounts_in R.SIDE desk.now.facts question.now }
     ensures before { result.before ≤ result.all }

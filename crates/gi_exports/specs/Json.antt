@@ -1,5 +1,5 @@
 -- The reports as JSON lines: an object for each entry, compact, its keys in byte order.
-use Rattle.std.specs.Prelude.{◌≡◌, ℕ, List, ◌∷◌, ◌++◌, Option, Some, None, Result, IfOk, codes}
+use Rattle.std.specs.Prelude.{◌≡◌, ℕ, List, [], ◌∷◌, ◌++◌, Option, Some, None, Result, IfOk, codes}
 use Rattle.std.specs.List.{flat_map}
 use Rattle.json.specs.Token.{Token}
 use Rattle.json.specs.Written.{Written}
@@ -19,6 +19,16 @@ use Rattle.gi_exports.specs.declared.open_cycle.OpenCycle.{OpenCycle}
 -- the member of an object with that name and that value is added
 abbrev pub AddsAt : {E : Type 0} → Result (Unit {0}) E → Written → Written → List ℕ → Data → Type 0
 AddsAt r old new name d = IfOk r (λ _. Added old new (Token.key name ∷ tokens_of d))
+
+-- an object was begun behind a text
+pub record IsBegun (out : Written) (text : List ℕ) : Type 0 where
+  pub before : out.before ≡ text
+  pub tokens : out.tokens ≡ Token.begin_object ∷ []
+
+-- null stands for a number that there is not
+abbrev pub number_or_null : Option ℕ → Data
+number_or_null None = null
+number_or_null (Some n) = whole n
 
 -- the text of a value, and a line feed
 unfoldable pub line_of : Data → List ℕ

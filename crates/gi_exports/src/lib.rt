@@ -8,6 +8,7 @@ mod laws;
 mod listing;
 mod objects;
 mod open_cycle;
+pub mod parts;
 mod sheet;
 
 pub use confirmed_hour::ConfirmedHour;

@@ -5,4 +5,5 @@ use Rattle.gi_command_line.proofs.commands.explain_command.Goals as goal
 pub returns : goal.returns
 returns c =
     let with_side = one_more app_of _ _ _ _ _ c.with_arg-command.ensures c.word.ensures.rule c.with_help-command.ensures in
-    c.with_book.ensures _ (c.with_hour-command.ensures _ (c.with_pair-command.ensures _ with_side))
+    let with_quantity = c.with_hour-command.ensures _ (c.with_pair-command.ensures _ with_side) in
+    c.with_book.ensures _ (one_more app_of _ _ _ _ _ c.with_arg-command-2.ensures c.option.ensures.rule with_quantity)

@@ -8,9 +8,9 @@ use Rattle.gi_commands.proofs.auditing.named_audit.Goals as goal
 
 pub returns-in-Err-clause-fault : goal.returns-in-Err-clause-fault
 returns-in-Err-clause-fault g c =
-    let reads = g.B.BookSource.gives c.args.books.now c.args.files.initiating.now in
-    let their_reads = g.B.BookSource.gives c.args.books.now c.args.files.matching.now in
-    let point = c.args.files.point.now in
+    let reads = g.B.BookSource.gives c.args.books.now c.args.wanted.books.initiating.now in
+    let their_reads = g.B.BookSource.gives c.args.books.now c.args.wanted.books.matching.now in
+    let point = c.args.wanted.books.point.now in
     let ours = of_owner reads I point in
     let theirs = of_owner their_reads M point in
     let is = c.in_ok-point.ensures.1 in
@@ -20,9 +20,9 @@ returns-in-Err-clause-fault g c =
 
 pub returns-clause-fault : goal.returns-clause-fault
 returns-clause-fault g c =
-    let reads = g.B.BookSource.gives c.args.books.now c.args.files.initiating.now in
-    let their_reads = g.B.BookSource.gives c.args.books.now c.args.files.matching.now in
-    let point = c.args.files.point.now in
+    let reads = g.B.BookSource.gives c.args.books.now c.args.wanted.books.initiating.now in
+    let their_reads = g.B.BookSource.gives c.args.books.now c.args.wanted.books.matching.now in
+    let point = c.args.wanted.books.point.now in
     let ours = of_owner reads I point in
     let theirs = of_owner their_reads M point in
     let is = c.in_ok-point.ensures.1 in

@@ -1,0 +1,18 @@
+use Rattle.gi_audit.proofs.LineLemmas.{agreed_more, first_more, objects_more}
+use Rattle.gi_audit.proofs.json_audit.objects.Goals as goal
+
+pub loop-id-preserved : goal.loop-id-preserved
+loop-id-preserved c =
+    let s = c.args.initiating.now in
+    let t = c.args.matching.now in
+    record {
+      text =
+          objects_more s t c.args.ids.now c.loop-id.id-index c.id-item.result c.in_ok-found.found c.in_ok-place.place c.loop-id.text.items c.in_ok-text.text.items
+          c.loop-id-test.true c.id-item.is c.loop-id.invariant.text c.in_ok-found.ensures c.in_ok-place.ensures c.in_ok-text.ensures;
+      first =
+          first_more s t c.args.ids.now c.loop-id.id-index c.id-item.result c.in_ok-found.found c.loop-id.first c.differing.result c.or-first.result
+          c.loop-id-test.true c.id-item.is c.loop-id.invariant.first c.in_ok-found.ensures c.differing.ensures c.or-first.ensures;
+      agreed =
+          agreed_more s t c.args.ids.now c.loop-id.id-index c.id-item.result c.in_ok-found.found c.loop-id.agreed c.or_agreed-agreed.result
+          c.loop-id-test.true c.id-item.is c.loop-id.invariant.agreed c.in_ok-found.ensures c.or_agreed-agreed.ensures;
+    }

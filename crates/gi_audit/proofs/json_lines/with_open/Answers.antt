@@ -1,0 +1,18 @@
+use Rattle.std.proofs.Common.{refl}
+use Rattle.std.proofs.lemmas.Result.{IfOk-weaker}
+use Rattle.gi_messages.proofs.WrittenTokens.{after}
+use Rattle.gi_exports.proofs.ObjectLemmas.{last, object_more}
+use Rattle.gi_audit.specs.JsonLines.{open_data}
+use Rattle.gi_audit.proofs.json_lines.with_open.Goals as goal
+
+pub returns : goal.returns
+unfolding open_data
+returns c =
+    let members =
+    after c.in_ok-put_word.ensures
+    (after (rw c.from.ensures at c.in_ok-put_number.ensures)
+    (after c.in_ok-put_day.ensures
+    (after c.in_ok-put_word-2.ensures
+    (after c.in_ok-put_word-3.ensures
+    (last c.put_word-3.new.out))))) in
+    IfOk-weaker c.object_ended.result _ _ (λ bytes is. object_more (open_data c.args.id.now c.args.at.now) c.args.text.items bytes.items _ c.in_ok-out.ensures members refl is) c.object_ended.ensures
