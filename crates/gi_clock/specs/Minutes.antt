@@ -28,6 +28,11 @@ GivesMinuteOf now old line new =
     ((minute : ℕ) × (now ≡ Some minute) × GivesLine minute old line new)
     ⊎ (((minute : ℕ) → now ≡ Some minute → old ≢ Some minute → ¬ IsMinute minute) × (line ≡ []) × (new ≡ old))
 
+-- an event has these bytes of the input
+abbrev pub HasBytes : Event → List ℕ → Type 0
+HasBytes (event.Came line bytes) came = bytes.items ≡ came
+HasBytes event.End came = ⊥
+
 -- an event gives the line of a minute, or none
 abbrev pub TellsMinute : Option ℕ → Event → Option ℕ → Type 0
 TellsMinute old (event.Came line bytes) new = ((minute : ℕ) × GivesLine minute old line.items new) ⊎ ((line.items ≡ []) × (new ≡ old))

@@ -1,8 +1,8 @@
 //! An input that a thread of its own reads, with the minutes of the clock beside it.
 
-ghost use Rattle.std.specs.Prelude.{◌≡◌, ◌<◌, [], None, IfOk, MatchResult, OnErr, length};
+ghost use Rattle.std.specs.Prelude.{◌≡◌, ◌/◌, ◌<◌, [], None, IfOk, MatchResult, OnErr, length};
 ghost use Rattle.std.specs.Io.KnownBytes.{Consumes, IsAtEnd};
-ghost use Rattle.gi_clock.specs.Minutes.{GivesMinuteOf, TellsMinute};
+ghost use Rattle.gi_clock.specs.Minutes.{GivesMinuteOf, HasBytes, TellsMinute};
 
 use crate::events::{Event, Events};
 use crate::interleaved::Interleaved;
@@ -55,10 +55,16 @@ impl<T: Wait + Clock> Model for Clocked<T> {
     ghost view = { λ c. c.last };
 }
 
+fn minute_of(seconds: u64) -> u64
+    ensures { result ≡ seconds / 60 }
+{
+    seconds / SECONDS_PER_MINUTE
+}
+
 /// The minute of the clock, counted from 1970-01-01T00:00Z, where it can be read.
 fn minute_now<C: Clock>(clock: &C) -> Option<u64> {
     match clock.since_1970() {
-        Ok(time) => Some(time.as_secs() / SECONDS_PER_MINUTE),
+        Ok(time) => Some(minute_of(time.as_secs())),
         Err(_) => None,
     }
 }
@@ -86,7 +92,8 @@ impl<T: Wait + Clock> Clocked<T> {
 
     /// Bytes of the input with the line of the minute. Where memory is out the line is left to the next time.
     fn came(&mut self, minute: Option<u64>, bytes: Vec<u8>) -> Event
-        ensures { TellsMinute self.old result self.new }
+        ensures minute { TellsMinute self.old result self.new }
+        ensures bytes { HasBytes result bytes.items }
     {
         match self.line_of(minute) {
             Ok(line) => Event::Came { line, bytes },

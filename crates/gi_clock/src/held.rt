@@ -124,7 +124,8 @@ impl Held {
 
     /// Whether bytes of the input are begun that no line feed has ended.
     pub(crate) fn has_begun(&self) -> bool
-        ensures { result ≡ false → self.now.begun.items ≡ [] }
+        ensures none { result ≡ false → self.now.begun.items ≡ [] }
+        ensures some { result ≡ true → 0 < length self.now.begun.items }
     {
         !self.begun.is_empty()
     }

@@ -88,7 +88,7 @@ these each minute, the first one at once, by the machine's clock.
   close DAY CYCLE [RULE]                                   1 or 2; 2 where it is left out
   resend DAY CYCLE
   halt
-  due MOMENT                                               closes what is due at YYYY-MM-DDTHH:MMZ
+  due MOMENT                                               closes what is due at YYYY-MM-DDTHH:MMZ (UTC)
   outgoing N                                               what the facts from number N on let out
   facts
   report KIND                                              open or confirmed
@@ -108,10 +108,10 @@ portfolio or to the other operator, `peer`:
 
   {\"fact\":2,\"message\":{..},\"to\":\"A\"}
 
-It comes behind the answer of its fact. No `recorded` and no packet is written before its fact stands in
-the book. A query is answered of what stands there. `due` closes in order each cycle that has started
-and is not closed, of the gas days from the one before MOMENT's to two after it; how many these are is
-told, and then what each came to, as `closed`. A reader that died goes on by `outgoing`, from
+It comes behind the answer of its fact. No `recorded`, no `closed` and no packet is written before its
+fact stands in the book. A query is answered of what stands there. `due` closes in order each cycle that
+has started, while neither it nor a later one of its day is closed, of the gas days from the one before
+MOMENT's to two after it; how many these are is told, and then what each came to. A reader that died goes on by `outgoing`, from
 the last fact of which it saw a packet. At the end of standard input all is saved, the book is closed,
 and a last line tells how many facts it has, how many are saved, and how many cycles are confirmed.
 

@@ -1,8 +1,9 @@
 -- A line that is read up to its line feed, and with it, is the first one of what is left.
-use Rattle.std.proofs.Common.{◌≡◌, ℕ, Bool, true, false, ◌==◌, ◌||◌, List, [], ◌∷◌, ◌++◌, refl, ap, sym, subst, ◌∙◌, Option, Some, None, IfSome, append_assoc, append-nil}
+use Rattle.std.proofs.Common.{◌≡◌, ℕ, Bool, true, false, ◌==◌, ◌||◌, List, [], ◌∷◌, ◌++◌, refl, ap, sym, subst, ◌∙◌, Option, Some, None, IfSome, append_assoc, append-nil, length, ◌<◌, arith}
+use Rattle.std.proofs.lemmas.List.Folds.{list_any-append}
 use Rattle.std.specs.List.{list_any, onto_first}
 use Rattle.std.specs.Io.BufRead.{take_through, drop_through, DropsThrough}
-use Rattle.gi_live.specs.Lines.{IsAtEnd, TakesLines, TakesNext, given_lines, is_alone, is_halt, is_query, lines_left}
+use Rattle.gi_live.specs.Lines.{IsAtEnd, ResendsFirst, TakesLines, TakesNext, given_lines, is_alone, is_halt, is_query, is_resend, lines_left}
 use Rattle.gi_live.specs.Stretches.{EndsAt}
 
 lines-feed : (byte : ℕ) (bytes : List ℕ) → (byte == 10) ≡ true → given_lines (byte ∷ bytes) ≡ (byte ∷ []) ∷ given_lines bytes
@@ -151,3 +152,13 @@ query_alone lines is = any_more is_query is_alone (λ line here. or_right (is_ha
 
 pub halt_alone : (lines : List (List ℕ)) → list_any is_halt lines ≡ true → list_any is_alone lines ≡ true
 halt_alone lines is = any_more is_halt is_alone (λ line here. or_left (is_halt line) (is_query line) here) lines is
+
+-- ---- resendings
+
+none_more : (lines : List (List ℕ)) (line : List ℕ) → list_any is_resend lines ≡ false → is_resend line ≡ false → list_any is_resend (lines ++ line ∷ []) ≡ false
+none_more lines line none is = list_any-append is_resend lines (line ∷ []) ∙ rw (none, is) refl
+
+-- a line more that is none, or the first
+pub resends_more : (lines : List (List ℕ)) (line : List ℕ) → ResendsFirst lines → (0 < length lines → is_resend line ≡ false) → ResendsFirst (lines ++ line ∷ [])
+resends_more [] line before is = refl
+resends_more (first ∷ lines) line before is = none_more lines line before (is (omega arith))

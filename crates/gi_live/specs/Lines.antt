@@ -1,5 +1,5 @@
 -- The lines of what an office is given.
-use Rattle.std.specs.Prelude.{◌≡◌, ◌==◌, if◌then◌else◌, List, [], ◌∷◌, ◌++◌, ◌||◌, ℕ, Bool, codes, nat_eq, Option, Some, None}
+use Rattle.std.specs.Prelude.{◌≡◌, ◌==◌, if◌then◌else◌, List, [], ◌∷◌, ◌++◌, ◌||◌, ℕ, Bool, false, drop, codes, nat_eq, Option, Some, None}
 use Rattle.std.specs.List.{list_any, onto_first, starts_with}
 use Rattle.std.specs.Option.{option_map, option_to_list}
 use Rattle.gi_text.specs.Lines.{line_feed}
@@ -24,6 +24,14 @@ is_query given = list_any (λ word. starts_with nat_eq given word) query_starts
 -- a line that begins so asks for a halt, if it is a request at all
 abbrev pub is_halt : List ℕ → Bool
 is_halt given = starts_with nat_eq given (codes "halt")
+
+-- a line that begins so asks for a resending, if it is a request at all
+abbrev pub is_resend : List ℕ → Bool
+is_resend given = starts_with nat_eq given (codes "resend")
+
+-- lines of which none but the first asks for a resending: what is not saved is no part of one
+abbrev pub ResendsFirst : List (List ℕ) → Type 0
+ResendsFirst lines = list_any is_resend (drop 1 lines) ≡ false
 
 -- it is taken by itself
 abbrev pub is_alone : List ℕ → Bool

@@ -11,7 +11,7 @@ use Rattle.gi_pairs.specs.declared.side.Side.{Side}
 use Rattle.gi_serving.specs.Asking.{NotesMarks, NotesTurns}
 use Rattle.gi_live.specs.Coming.{ComeAll}
 use Rattle.gi_live.specs.Telling.{may_tell_of, saved_by, step_text}
-use Rattle.gi_live.specs.Lines.{TakesLines, is_halt, is_query}
+use Rattle.gi_live.specs.Lines.{ResendsFirst, TakesLines, is_halt, is_query}
 use Rattle.gi_live.specs.declared.came.Came.{Came}
 use Rattle.gi_live.specs.declared.live_fault.LiveFault.{LiveFault}
 use Rattle.gi_live.specs.declared.live_fault.LiveFault.TheVariants as faults
@@ -43,12 +43,13 @@ HasRoom seat = has_halted seat.notes ≡ false → length seat.notes < 100_000
 
 -- What came of each of these lines, in order, was noted by the seat, then marks of saved facts and nothing else; and the text has the
 -- answer to each line, each of a fact that is saved, and then what these facts let out. There is a query among the lines only where the
--- office is halted, and a halt is by itself.
+-- office is halted, a halt is by itself, and a resending is the first.
 pub record Steps (side : Side) (old : LiveState) (lines : List (List ℕ)) (text : List ℕ) (new : LiveState) : Type 0 where
   pub cames : List Came
   pub between : SeatState
   pub queries : list_any is_query lines ≡ true → has_halted old.seat.notes ≡ true
   pub halts : list_any is_halt lines ≡ true → length lines ≡ 1
+  pub resends : ResendsFirst lines
   pub room : HasRoom old.seat
   pub came : ComeAll side old.seat lines cames between
   pub marked : NotesMarks between new.seat

@@ -1,9 +1,9 @@
 //! The lines of the input.
 
-ghost use Rattle.std.specs.Prelude.{◌≡◌, ◌⊎◌, ◌≤◌, [], IfErr, IfOk, None, OnOk, length, true};
+ghost use Rattle.std.specs.Prelude.{◌≡◌, ◌⊎◌, ◌<◌, ◌≤◌, ◌++◌, ◌∷◌, [], IfErr, IfOk, None, OnOk, false, length, true};
 ghost use Rattle.std.specs.Io.Buffered.{reader_remaining};
 ghost use Rattle.std.specs.List.{list_any};
-ghost use Rattle.gi_live.specs.Lines.{IsAtEnd, TakesLines, TakesNext, is_alone as is_alone_of, is_query as is_query_of, lines_left};
+ghost use Rattle.gi_live.specs.Lines.{IsAtEnd, ResendsFirst, TakesLines, TakesNext, is_alone as is_alone_of, is_query as is_query_of, is_resend, lines_left};
 
 use crate::live_fault::LiveFault;
 use gi_text::LINE_FEED;
@@ -104,9 +104,20 @@ fn is_alone(line: &[u8]) -> bool
 
 /// Whether a line is taken together with none before it.
 fn begins(line: &[u8]) -> bool
-    ensures { is_alone_of line.now ≡ true → result ≡ true }
+    ensures alone { is_alone_of line.now ≡ true → result ≡ true }
+    ensures resend { is_resend line.now ≡ true → result ≡ true }
 {
     line.starts_with(RESEND) || is_alone(line)
+}
+
+/// Whether a line is not taken behind these lines.
+#[tactic(auto, using(crate::proofs::LineLemmas::resends_more))]
+fn waits(line: &[u8], lines: &[InputLine]) -> bool
+    ensures alone { result ≡ false → is_alone_of line.now ≡ true → lines.now ≡ [] }
+    ensures resend { result ≡ false → ResendsFirst lines.now → ResendsFirst (lines.now ++ line.now ∷ []) }
+    ensures none { result ≡ true → 0 < length lines.now }
+{
+    begins(line) && !lines.is_empty()
 }
 
 /// Takes the next line, and the lines behind it which the input holds already, so that no answer waits for a line that may
@@ -124,6 +135,7 @@ pub fn next_lines<I: Read>(
     ensures taken { OnOk result (TakesLines (lines_left kept.old (reader_remaining I.remaining input.old)) lines.new.items (lines_left kept.new (reader_remaining I.remaining input.new))) }
     ensures few { OnOk result (length lines.new.items ≤ 64) }
     ensures alone { OnOk result (list_any is_alone_of lines.new.items ≡ true → length lines.new.items ≡ 1) }
+    ensures resends { OnOk result (ResendsFirst lines.new.items) }
     ensures fault { IfErr result (λ fault. (fault ≡ LiveFault.Read) ⊎ (fault ≡ LiveFault.OutOfMemory)) }
     ensures end { OnOk result (lines.new.items ≡ [] → IsAtEnd (lines_left kept.old (reader_remaining I.remaining input.old))) }
 {
@@ -132,7 +144,7 @@ pub fn next_lines<I: Read>(
         let Some(line) = kept_or_next(alloc, input, kept)? else {
             return Ok(());
         };
-        if begins(line.as_slice()) && !lines.is_empty() {
+        if waits(line.as_slice(), lines.as_slice()) {
             *kept = Some(line);
             return Ok(());
         }

@@ -6,7 +6,7 @@ ghost use Rattle.std.specs.Io.Buffered.{reader_remaining};
 ghost use Rattle.std.specs.Io.KnownBytes.{Appends};
 ghost use Rattle.gi_serving.specs.Asking.{NotesMarks, NotesTurns};
 ghost use Rattle.gi_serving.specs.Ending.{place_of};
-ghost use Rattle.gi_live.specs.Lines.{is_halt, is_query, lines_left};
+ghost use Rattle.gi_live.specs.Lines.{ResendsFirst, is_halt, is_query, lines_left};
 ghost use Rattle.gi_live.specs.Running.{HasRoom, LeavesStep, LeavesTold, RunsSome, WritesStep, first_fault as first_fault_of, has_halted as has_halted_in, is_stopped as is_stopped_by, live, notes_since};
 ghost use Rattle.gi_live.specs.Stretches.{IsAsked, RunsUntil};
 ghost use Rattle.gi_live.specs.Telling.{may_tell_of, saved_by as saved_by_of, step_text as step_text_of};
@@ -123,6 +123,7 @@ fn step<R: Role, L: Ledger, B: Turns, W: Wait, O: Write>(
     requires room { before + length lines.now + 1 < 2 ^ 64 }
     requires queries { list_any is_query lines.now ≡ true → has_halted_in seat.notes ≡ true }
     requires halts { list_any is_halt lines.now ≡ true → length lines.now ≡ 1 }
+    requires resends { ResendsFirst lines.now }
     requires has_room { HasRoom seat }
     ensures place { place_of result.0 ≡ place_of seat }
     ensures steps { OnOk result.2 (WritesStep R.SIDE (live seat saved before) lines.now (O.contents output.old) (O.contents output.new) (live result.0 result.1 (before + length lines.now))) }

@@ -22,8 +22,8 @@ AreDaysFrom number (suc more) days =
     ((day : Date) × (later : List Date) × IsDayOf number day × (days ≡ day ∷ later) × AreDaysFrom (number +ℤ pos 1) more later)
     ⊎ (((day : Date) → ¬ IsDayOf number day) × AreDaysFrom (number +ℤ pos 1) more days)
 
--- The gas days from the one before that of the moment to two after it: those of which a cycle can be due (cycle 0 of a day starts on the day
--- before, and the last one before the day's end).
+-- The gas days that are looked at for what is due: from the one before that of the moment to two after it. Cycle 0 of a day starts on the day
+-- before it; a cycle of an older day is not looked at, whether it is closed or not.
 pub record AreNear (moment : ℤ) (days : List Date) : Type 0 where
   pub today : ℤ
   pub is : IsDayAt moment today

@@ -82,7 +82,7 @@ impl Moment {
     ghost use Rattle.std.specs.Prelude.{IfOk};
     ghost use Rattle.gi_moments.specs.Near.{AreNear};
 
-    /// The gas days from the one before that of the moment to two after it, in order, of which a cycle can be due then.
+    /// The gas days from the one before that of the moment to two after it, in order: those that are looked at for what is due then.
     pub fn near_days(self, alloc: Global, calendar: &Calendar) -> Result<Vec<GasDay>, AllocError>
         ensures { IfOk result (λ days. AreNear self days.items) }
     {

@@ -1,7 +1,7 @@
 use Rattle.std.proofs.Common.{◌≡◌, ◌<◌, ◌≤◌, false, length}
 use Rattle.std.specs.Io.Buffered.{reader_remaining}
 use Rattle.std.specs.List.{list_any}
-use Rattle.gi_live.specs.Lines.{TakesLines, is_alone, lines_left}
+use Rattle.gi_live.specs.Lines.{ResendsFirst, TakesLines, is_alone, lines_left}
 use Rattle.gi_live.proofs.input.next_lines.Given as goal
 
 abbrev pub invariant-loop : goal.invariant-loop
@@ -12,4 +12,5 @@ invariant-loop g l = record {
   few : length l.lines.items ≤ l.counter;
   some : 0 < l.counter → 0 < length l.lines.items;
   together : list_any is_alone l.lines.items ≡ false;
+  resends : ResendsFirst l.lines.items;
 }
