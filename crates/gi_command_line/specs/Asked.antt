@@ -31,8 +31,8 @@ pub record NarrowingWords : Type 0 where
   pub portfolio : Option (List ℕ)
 
 -- one of the commands but `office` and `serve`: a script's steps, with a trace or without; a report of this kind, in this format
--- and of this side, narrowed so, or in this format what a quantity comes from at a side, over a script or over the book in a file, for this
--- point; in this format the audit of the initiating and the matching operator's books in files, for this point; what a book in a
+-- and of this side, narrowed so, in this format what a quantity comes from at a side, or the page of a side's gas day, over a script or over
+-- the book in a file, for this point; in this format the audit of the initiating and the matching operator's books in files, for this point; what a book in a
 -- file is, with the number of its first facts that are expected to have a digest, and the digest; or a command in wrong words
 pub data Asked : Type 0 where
   match_tables : Asked
@@ -40,6 +40,7 @@ pub data Asked : Type 0 where
   simulate : Bool → Asked
   report : ReportKind → Format → Side → NarrowingWords → Option (List ℕ × List ℕ) → Asked
   explain : LineFormat → Side → QuantityWords → Option (List ℕ × List ℕ) → Asked
+  page : Side → List ℕ → Option (List ℕ × List ℕ) → Asked
   audit : LineFormat → List ℕ → List ℕ → List ℕ → Asked
   about_book : List ℕ → Option (ℕ × List ℕ) → Asked
   mistaken : Asked
@@ -71,6 +72,7 @@ meaning (request.Hours day) = hours day.now
 meaning (request.Simulate trace) = simulate trace
 meaning (request.Report wanted) = report wanted.kind wanted.format wanted.side (narrowing_words wanted.narrowing) (book_of wanted.book)
 meaning (request.Explain wanted) = explain wanted.format wanted.side (quantity_words wanted.quantity) (book_of wanted.book)
+meaning (request.Page wanted) = page wanted.side wanted.day.now (book_of wanted.book)
 meaning (request.Audit wanted) = audit wanted.format wanted.books.initiating.now wanted.books.matching.now wanted.books.point.now
 meaning (request.Book question) = about_book question.file.now (option_map expected_words question.expected)
 meaning (request.Mistaken why) = mistaken

@@ -9,7 +9,7 @@ use Rattle.gi_pairs.specs.Direction.{direction_named}
 use Rattle.gi_pairs.specs.Side.{side_named}
 use Rattle.gi_pairs.specs.declared.direction.Direction.{Direction}
 use Rattle.gi_pairs.specs.declared.side.Side.{Side}
-use Rattle.gi_command_line.specs.Asked.{Asked, NarrowingWords, QuantityWords, Wanted, about_book, at_once, audit, explain, hours, match_tables, mistaken, office, report, serve, simulate}
+use Rattle.gi_command_line.specs.Asked.{Asked, NarrowingWords, QuantityWords, Wanted, about_book, at_once, audit, explain, hours, match_tables, mistaken, office, page, report, serve, simulate}
 use Rattle.gi_command_line.specs.Expected.{expected_named}
 use Rattle.gi_command_line.specs.Numbers.{cycle_named, hour_named}
 use Rattle.gi_command_line.specs.ReportWords.{can_be_narrowed, format_named, kind_named, line_format_named}
@@ -66,6 +66,9 @@ the_report =
 abbrev pub the_explain : App
 the_explain = with_book (with_rule (with_hour (with_pair (with_rule (new_app (codes "explain")) (word (codes "SIDE"))))) (option (codes "format")))
 
+abbrev pub the_page : App
+the_page = with_book (with_rule (with_rule (new_app (codes "page")) (word (codes "SIDE"))) (word (codes "DAY")))
+
 abbrev pub the_audit : App
 the_audit =
     let of_books = with_rule (with_rule (new_app (codes "audit")) (needed (codes "initiating"))) (needed (codes "matching")) in
@@ -89,13 +92,13 @@ the_serve =
 
 -- the program's own name and version, and its commands
 abbrev pub named : App
-named = let new = new_app (codes "gi_dispatch") in record new { top = record new.top { has_version = true } }
+named = let new = new_app (codes "dispatch") in record new { top = record new.top { has_version = true } }
 
 abbrev pub the_program : App
 the_program =
     let with_office = with_subcommand (with_subcommand (with_subcommand (with_subcommand named the_match.top) the_hours.top) the_simulate.top) the_office.top in
-    let with_audit = with_subcommand (with_subcommand (with_subcommand with_office the_report.top) the_explain.top) the_audit.top in
-    with_subcommand (with_subcommand with_audit the_book.top) the_serve.top
+    let with_page = with_subcommand (with_subcommand (with_subcommand with_office the_report.top) the_explain.top) the_page.top in
+    with_subcommand (with_subcommand (with_subcommand with_page the_audit.top) the_book.top) the_serve.top
 
 -- why the words ask for no command, as `clap` tells it: none of these where they ask for one
 abbrev pub objections : List (List ℕ) → Kinds
@@ -131,7 +134,7 @@ abbrev pub format_asked : Option (List ℕ) → Option Format
 format_asked None = Some Text
 format_asked (Some word) = format_named word
 
--- what a report is narrowed to, by the words; only a schedule and cuts are
+-- what a report is narrowed to, by the words; only a schedule, cuts and changes are
 abbrev pub narrowing_asked : List Row → NarrowingWords
 narrowing_asked rows = record { day = first_of (codes "day") rows; portfolio = first_of (codes "portfolio") rows }
 
@@ -189,6 +192,14 @@ explain_of (Some side) (Some quantity) (Some format) (Some book) = explain forma
 abbrev pub explain_asked : List Row → Asked
 explain_asked rows =
     explain_of (side_named (value_of (codes "SIDE") rows)) (quantity_asked rows) (line_format_asked (first_of (codes "format") rows)) (book_asked rows)
+
+abbrev pub page_of : List ℕ → Option Side → Option (Option (List ℕ × List ℕ)) → Asked
+page_of day None book = mistaken
+page_of day (Some side) None = mistaken
+page_of day (Some side) (Some book) = page side day book
+
+abbrev pub page_asked : List Row → Asked
+page_asked rows = page_of (value_of (codes "DAY") rows) (side_named (value_of (codes "SIDE") rows)) (book_asked rows)
 
 abbrev pub audit_of : List Row → Option LineFormat → Asked
 audit_of rows None = mistaken
@@ -251,8 +262,9 @@ asked_at_once name rows =
     else (if bytes_eq name (codes "simulate") then simulate (is_set (first_of (codes "trace") rows))
     else (if bytes_eq name (codes "report") then report_asked rows
     else (if bytes_eq name (codes "explain") then explain_asked rows
+    else (if bytes_eq name (codes "page") then page_asked rows
     else (if bytes_eq name (codes "audit") then audit_asked rows
-    else (if bytes_eq name (codes "book") then about_book_asked rows else match_tables)))))
+    else (if bytes_eq name (codes "book") then about_book_asked rows else match_tables))))))
 
 abbrev pub asked_by : List ℕ → List Row → Wanted
 asked_by name rows =

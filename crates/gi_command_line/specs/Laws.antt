@@ -5,7 +5,7 @@ use Rattle.gi_pairs.specs.Direction.{direction_text}
 use Rattle.gi_pairs.specs.Side.{side_named, side_text}
 use Rattle.gi_pairs.specs.declared.direction.Direction.{Direction}
 use Rattle.gi_pairs.specs.declared.side.Side.{Side}
-use Rattle.gi_command_line.specs.Asked.{NarrowingWords, QuantityWords, Wanted, about_book, at_once, audit, explain, hours, match_tables, mistaken, office, report, serve, simulate}
+use Rattle.gi_command_line.specs.Asked.{NarrowingWords, QuantityWords, Wanted, about_book, at_once, audit, explain, hours, match_tables, mistaken, office, page, report, serve, simulate}
 use Rattle.gi_command_line.specs.CommandLine.{MeansHours, MeansMatch, asked, objections}
 use Rattle.gi_command_line.specs.Expected.{expected_named, is_digest, most_facts}
 use Rattle.gi_command_line.specs.Numbers.{cycle_named, hour_named}
@@ -87,7 +87,7 @@ BookInWordsIsTaken =
     (program file point : List ℕ) (kind : ReportKind) (side : Side)
     → AreTaken (report_words program kind side (book_in_words file point)) (at_once (report kind Text side not_narrowed (Some (codes "day" ++ file, codes "BORDER" ++ point))))
 
--- a gas day and a portfolio narrow a schedule and cuts; for another report they are wrong words
+-- a gas day and a portfolio narrow a schedule, cuts and changes; for another report they are wrong words
 abbrev pub narrowing_options : List ℕ → List ℕ → List (List ℕ)
 narrowing_options day portfolio = with_value (codes "day") day ∷ with_value (codes "portfolio") portfolio ∷ []
 
@@ -177,6 +177,29 @@ abbrev pub HourIsMissing : Type 0
 HourIsMissing =
     (program initiating matching day cycle : List ℕ) (side : Side) (direction : Direction)
     → objections (explain_words program [] (side_text side ∷ initiating ∷ matching ∷ direction_text direction ∷ day ∷ cycle ∷ [])) ≡ MissingRequiredArgument ∷ []
+
+-- ---- `page`
+
+-- a side and a gas day ask for the page of a script, and with a book for that of the book; behind `--` whatever the day begins with
+abbrev pub page_words : List ℕ → List (List ℕ) → Side → List ℕ → List (List ℕ)
+page_words program options side day = program ∷ codes "page" ∷ (options ++ codes "--" ∷ side_text side ∷ day ∷ [])
+
+abbrev pub PageIsTaken : Type 0
+PageIsTaken = (program day : List ℕ) (side : Side) → AreTaken (page_words program [] side day) (at_once (page side day None))
+
+abbrev pub PageOfABookIsTaken : Type 0
+PageOfABookIsTaken =
+    (program day file point : List ℕ) (side : Side)
+    → AreTaken (page_words program (book_words file point) side day) (at_once (page side day (Some (file, point))))
+
+-- without a day, it is the day that is missing; a book without its point is asked for in wrong words
+abbrev pub PageNeedsADay : Type 0
+PageNeedsADay = (program : List ℕ) (side : Side) → objections (program ∷ codes "page" ∷ side_text side ∷ []) ≡ MissingRequiredArgument ∷ []
+
+abbrev pub PageNeedsItsPoint : Type 0
+PageNeedsItsPoint =
+    (program day file : List ℕ) (side : Side)
+    → AreTaken (page_words program (with_value (codes "book") file ∷ []) side day) (at_once mistaken)
 
 -- ---- `audit`
 

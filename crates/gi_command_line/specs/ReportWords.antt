@@ -8,7 +8,7 @@ use Rattle.gi_command_line.specs.declared.request.LineFormat.TheVariants as line
 use Rattle.gi_command_line.specs.declared.request.Mistake.{Mistake}
 use Rattle.gi_command_line.specs.declared.request.Mistake.TheVariants as mistake
 use Rattle.gi_command_line.specs.declared.request.ReportKind.{ReportKind}
-use Rattle.gi_command_line.specs.declared.request.ReportKind.TheVariants.{Open, Confirmed, Refused, Schedule, Cut}
+use Rattle.gi_command_line.specs.declared.request.ReportKind.TheVariants.{Open, Confirmed, Refused, Schedule, Cut, Changes}
 
 -- the words of the kinds and of the formats
 abbrev pub kind_text : ReportKind → List ℕ
@@ -17,14 +17,16 @@ kind_text Confirmed = codes "confirmed"
 kind_text Refused = codes "refused"
 kind_text Schedule = codes "schedule"
 kind_text Cut = codes "cut"
+kind_text Changes = codes "changes"
 
--- a schedule and cuts can be narrowed to a gas day and a portfolio
+-- a schedule, cuts and changes can be narrowed to a gas day and a portfolio
 abbrev pub can_be_narrowed : ReportKind → Bool
 can_be_narrowed Open = false
 can_be_narrowed Confirmed = false
 can_be_narrowed Refused = false
 can_be_narrowed Schedule = true
 can_be_narrowed Cut = true
+can_be_narrowed Changes = true
 
 abbrev pub format_text : Format → List ℕ
 format_text Text = codes "text"
@@ -42,7 +44,8 @@ kind_named word =
     if bytes_eq word (codes "open") then Some Open
     else (if bytes_eq word (codes "confirmed") then Some Confirmed
     else (if bytes_eq word (codes "refused") then Some Refused
-    else (if bytes_eq word (codes "schedule") then Some Schedule else (if bytes_eq word (codes "cut") then Some Cut else None))))
+    else (if bytes_eq word (codes "schedule") then Some Schedule
+    else (if bytes_eq word (codes "cut") then Some Cut else (if bytes_eq word (codes "changes") then Some Changes else None)))))
 
 -- the format that a word names
 abbrev pub format_named : List ℕ → Option Format
@@ -57,12 +60,12 @@ line_format_named word = if bytes_eq word (codes "text") then Some line.Text els
 -- what is told of words that are wrong
 abbrev pub mistake_text : Mistake → List ℕ
 mistake_text (mistake.Kind word) =
-    codes "error: invalid value '" ++ (word.now ++ codes "' for '<KIND>'\n  [possible values: open, confirmed, refused, schedule, cut]\n")
+    codes "error: invalid value '" ++ (word.now ++ codes "' for '<KIND>'\n  [possible values: open, confirmed, refused, schedule, cut, changes]\n")
 mistake_text (mistake.Side word) = codes "error: invalid value '" ++ (word.now ++ codes "' for '<SIDE>'\n  [possible values: I, M]\n")
 mistake_text mistake.Unpaired = codes "error: '--book <FILE>' and '--point <CODE>' need each other\n"
 mistake_text (mistake.Format word) =
     codes "error: invalid value '" ++ (word.now ++ codes "' for '--format <FORMAT>'\n  [possible values: text, csv, json]\n")
-mistake_text mistake.Narrowed = codes "error: '--day <DAY>' and '--portfolio <CODE>' are for a schedule and for cuts\n"
+mistake_text mistake.Narrowed = codes "error: '--day <DAY>' and '--portfolio <CODE>' are for a schedule, cuts and changes\n"
 mistake_text (mistake.LineFormat word) =
     codes "error: invalid value '" ++ (word.now ++ codes "' for '--format <FORMAT>'\n  [possible values: text, json]\n")
 mistake_text (mistake.Sessions word) =

@@ -1,222 +1,278 @@
 //! The commands that the program knows, their words and options, and what their help teaches.
 ghost use Rattle.std.specs.Prelude.{◌≡◌, IfOk, false, true};
 ghost use Rattle.clap.specs.Words.{App, app_of, new_app, rule_of, with_rule, with_subcommand};
-ghost use Rattle.gi_command_line.specs.CommandLine.{flag as flag_rule, named, needed as needed_rule, option as option_rule, the_audit, the_book, the_explain, the_hours, the_match, the_office, the_program, the_report, the_serve, the_simulate, with_book as with_book_rules, with_hour as with_hour_rules, with_narrowing as with_narrowing_rules, with_pair as with_pair_rules, word as word_rule};
+ghost use Rattle.gi_command_line.specs.CommandLine.{flag as flag_rule, named, needed as needed_rule, option as option_rule, the_audit, the_book, the_explain, the_hours, the_match, the_office, the_page, the_program, the_report, the_serve, the_simulate, with_book as with_book_rules, with_hour as with_hour_rules, with_narrowing as with_narrowing_rules, with_pair as with_pair_rules, word as word_rule};
 
 use clap::{Arg, ArgAction, Command};
 use std::alloc::{AllocError, Global};
 
 const PROGRAM_HELP: &str = "\
-With no command `match` is meant. A fault is one line on standard error, `gi_dispatch: ` and its
-name (a wrong command line is told in more words), and nothing on standard output, unless memory or
-a writer fails, an office that runs gives up, books differ, or a book is not as expected.
+With no command `match` is meant. A fault is one line on standard error,
+`gi_dispatch: ` and its name (a wrong command line is told in more words), and
+nothing on standard output, unless memory or a writer fails, an office that
+runs gives up, books differ, or a book is not as expected.
 
-Exit status: 0 done, 1 refused input, a reader or writer that failed, offices or books that do not
-agree, books that close no cycle, or a book that is not as expected, 2 wrong command line, 3 a book
-that is none, is another's, is missing, is in use, lost facts or failed, 4 want of memory.
+Exit status: 0 done, 1 refused input, a reader or writer that failed, offices
+or books that do not agree, books that close no cycle, or a book that is not as
+expected, 2 wrong command line, 3 a book that is none, is another's, is
+missing, is in use, lost facts or failed, 4 want of memory.
 
-Examples: gi_dispatch match < examples/match.txt
-          gi_dispatch hours 2026-01-15
-          gi_dispatch simulate --trace < examples/day.script
-          gi_dispatch office I --book day-I.db --point BORDER-1 < requests
-          gi_dispatch report confirmed I < examples/day.script
-          gi_dispatch explain I A B IM 2026-01-15 35 24 < examples/day.script
-          gi_dispatch audit --initiating day-I.db --matching day-M.db --point BORDER-1
-          gi_dispatch book day-I.db
-          gi_dispatch serve < scenarios/serve/plain_exchange.script";
+Examples: dispatch match < examples/match.txt
+          dispatch hours 2026-01-15
+          dispatch simulate --trace < examples/day.script
+          dispatch office I --book day-I.db --point BORDER-1 < requests
+          dispatch report confirmed I < examples/day.script
+          dispatch explain I A B IM 2026-01-15 35 24 < examples/day.script
+          dispatch page I 2026-01-15 < examples/day.script > day.html
+          dispatch audit --initiating day-I.db --matching day-M.db \\
+            --point BORDER-1
+          dispatch book day-I.db
+          dispatch serve < scenarios/serve/plain_exchange.script
+          dispatch help Stale
+
+`dispatch help NAME` tells what a fault, a refusal or an abbreviation asks of
+its reader, and `dispatch help COMMAND` is `dispatch COMMAND --help`. Where
+standard error is a terminal, a fault tells the same behind its line.";
 
 const HOURS_HELP: &str = "\
-DAY is a gas day from 2000-01-01 to 2199-12-31, written YYYY-MM-DD. It starts at 06:00 Central
-European time, and has 23 or 25 hours where the clock changes before it ends (on the Saturday).
-Standard output gets one line with the number of its hours and cycles, and one for each nomination
-cycle: its number, its start in UTC, and the first hour that it covers (it covers all later hours
+DAY is a gas day from 2000-01-01 to 2199-12-31, written YYYY-MM-DD. It starts
+at 06:00 Central European time, and has 23 or 25 hours where the clock changes
+before it ends (on the Saturday). Standard output gets one line with the number
+of its hours and cycles, and one for each nomination cycle: its number, its
+start in UTC, and the first hour that it covers (it covers all later hours
 too). Standard input is not read.
 
-Faults, the first of: DayText (not YYYY-MM-DD of a date of the calendar), DayRange (a date outside
-the range), Write.";
+Faults, the first of: DayText (not YYYY-MM-DD of a date of the calendar),
+DayRange (a date outside the range), Write.";
 
 const MATCH_HELP: &str = "\
-Standard input has two lines of JSON: the initiating operator's DELORD, and the matching operator's
-own processed table in the form of a DELORD. Standard output gets one line, the DELRES: for each
-portfolio pair, direction and hour the lower of the two quantities, in kWh/h.
+Standard input has two lines of JSON: the initiating operator's DELORD, and the
+matching operator's own processed table in the form of a DELORD. Standard
+output gets one line, the DELRES: for each portfolio pair, direction and hour
+the lower of the two quantities, in kWh/h.
 
-Faults, the first of: Read, TooLarge (over 67,108,864 bytes), Lines (not two lines), `order: ` or
-`own: ` with what is wrong with that line, ShapeDiffers (another point, day, cycle or hours), Write.";
+Faults, the first of: Read, TooLarge (over 67,108,864 bytes), Lines (not two
+lines), `order: ` or `own: ` with what is wrong with that line, ShapeDiffers
+(another point, day, cycle or hours), Write.";
 
 const SIMULATE_HELP: &str = "\
-Standard input is a script: both operators' desks and the carriers between them, step by step. Its
-first line is `point CODE`, and each further one, with SIDE `I` or `M`, is one of
+Standard input is a script: both operators' desks and the carriers between
+them, step by step. Its first line is `point CODE`, and each further one, with
+SIDE `I` or `M`, is one of
 
-  SIDE contract PORTFOLIO DAY DIRECTION FIRM INTERRUPTIBLE      kWh/h in each hour
-  SIDE notice DAY DIRECTION FIRST LAST FIRM INTERRUPTIBLE       hours, and per mille
-  SIDE submit BODY                                              a NOMINT, to the end of the line
-  SIDE close DAY CYCLE [RULE]                                   1 or 2; 2 where it is left out
+  SIDE contract PORTFOLIO DAY DIRECTION FIRM INTERRUPTIBLE    kWh/h in each hour
+  SIDE notice DAY DIRECTION FIRST LAST FIRM INTERRUPTIBLE     hours; per mille
+  SIDE submit BODY              a NOMINT, to the end of the line
+  SIDE close DAY CYCLE [RULE]   1 or 2; 2 where it is left out
   SIDE resend DAY CYCLE
   SIDE halt
-  SIDE save COUNT                                               the next COUNT unsaved facts
-  SIDE deliver NUMBER                                           that packet of the other side
-  SIDE restart KEEP                                             from the first KEEP facts
-  SIDE carry                                                    what the carrier gives to SIDE
-  plan SIDE MOVES                                               pass, drop, repeat, hold
+  SIDE save COUNT               the next COUNT unsaved facts
+  SIDE deliver NUMBER           that packet of the other side
+  SIDE restart KEEP             from the first KEEP facts
+  SIDE carry                    what the carrier gives to SIDE
+  plan SIDE MOVES               pass, drop, repeat, hold
 
-By rule 1 a portfolio's lines share what is available to it all alike, by rule 2 those of lower
-priority numbers come first.
+By rule 1 a portfolio's lines share what is available to it all alike, by rule
+2 those of lower priority numbers come first.
 
-Standard output gets a line for each step: the number of the script's line, the side, and what came
-of it. Two lines with what each side holds come last. With --trace, lines that begin with two spaces
-follow a step's: what a carrier did with a message, as `  pass DELORD 2026-01-15 35`, and one for
-each packet that the step let out, as `  -> M DELORD 2026-01-15 35` to the other side or
-`  -> B NOMRES 2026-01-15 35 A IM 24: 7` to a portfolio, with its counterparty, direction, first hour
-and quantities in kWh/h.
+Standard output gets a line for each step: the number of the script's line, the
+side, and what came of it. Two lines with what each side holds come last. With
+--trace, lines that begin with two spaces follow a step's: what a carrier did
+with a message, as `  pass DELORD 2026-01-15 35`, and one for each packet that
+the step let out, as `  -> M DELORD 2026-01-15 35` to the other side or `  -> B
+NOMRES 2026-01-15 35 A IM 24: 7` to a portfolio, with its counterparty,
+direction, first hour and quantities in kWh/h.
 
-Faults, the first of: Read, TooLarge (over 67,108,864 bytes), Point (no first line `point CODE`),
-`line N: Unreadable`, before any step; then Write. Where memory runs out in a step, the lines of
-those before it are written.";
+Faults, the first of: Read, TooLarge (over 67,108,864 bytes), Point (no first
+line `point CODE`), `line N: Unreadable`, before any step; then Write. Where
+memory runs out in a step, the lines of those before it are written.";
 
 const OFFICE_HELP: &str = "\
-One operator's office, of SIDE `I` or `M`, which runs as long as standard input has lines. FILE is its
-book, an SQLite database, which is made where it is not there, and CODE is the interconnection point
-that it is of. With --wait a book that another process has open is tried again for SECONDS (0 to 3600;
-0 where no number is given) before it is Busy. Each line of standard input is a request: a call, in the
-words that a script has behind its SIDE, or a query. With --clock a line `due MOMENT` comes beside
-these each minute, the first one at once, by the machine's clock.
+One operator's office, of SIDE `I` or `M`, which runs as long as standard input
+has lines. FILE is its book, an SQLite database, which is made where it is not
+there, and CODE is the interconnection point that it is of. With --wait a book
+that another process has open is tried again for SECONDS (0 to 3600; 0 where no
+number is given) before it is Busy. Each line of standard input is a request: a
+call, in the words that a script has behind its SIDE, or a query. With --clock
+a line `due MOMENT` comes beside these each minute, the first one at once, by
+the machine's clock.
 
-  contract PORTFOLIO DAY DIRECTION FIRM INTERRUPTIBLE      kWh/h in each hour
-  notice DAY DIRECTION FIRST LAST FIRM INTERRUPTIBLE       hours, and per mille
-  submit BODY                                              a NOMINT, to the end of the line
-  deliver BODY                                             a message of the other operator, likewise
-  close DAY CYCLE [RULE]                                   1 or 2; 2 where it is left out
+  contract PORTFOLIO DAY DIRECTION FIRM INTERRUPTIBLE    kWh/h in each hour
+  notice DAY DIRECTION FIRST LAST FIRM INTERRUPTIBLE     hours; per mille
+  submit BODY                     a NOMINT, to the end of the line
+  deliver BODY                    a message of the other operator, likewise
+  close DAY CYCLE [RULE]          1 or 2; 2 where it is left out
   resend DAY CYCLE
   halt
-  due MOMENT                                               closes what is due at YYYY-MM-DDTHH:MMZ (UTC)
-  outgoing N                                               what the facts from number N on let out
+  due MOMENT                      closes what is due at YYYY-MM-DDTHH:MMZ (UTC)
+  outgoing N                      what the facts from number N on let out
   facts
-  report KIND                                              open or confirmed
+  report KIND                     open or confirmed
+  report KIND [DAY [PORTFOLIO]]   schedule, cut or changes
   explain INITIATING MATCHING DIRECTION DAY CYCLE HOUR
 
-Standard output gets one JSON object a line, compact and with its keys in byte order. Each line of
-standard input is answered, in their order:
+Standard output gets one JSON object a line, compact and with its keys in byte
+order. Each line of standard input is answered, in their order:
 
   {\"answer\":\"recorded\",\"fact\":2,\"line\":4}
   {\"answer\":\"refused\",\"line\":6,\"name\":\"Stale 2\",\"portfolio\":\"A\"}
 
-The answer of a call is `recorded` or `repeat`, with the number of the fact; `resent`; `stopped`; or
-`refused`, with the name of what is wrong, and with the portfolio where a submission could be read. A
-line that is no request, or is cut off before its line feed, is refused as Unreadable, and one of more
-than 16,777,472 bytes as TooLarge; the office runs on. Each message that is let out is a packet, to a
-portfolio or to the other operator, `peer`:
+The answer of a call is `recorded` or `repeat`, with the number of the fact;
+`resent`; `stopped`; or `refused`, with the name of what is wrong, and with the
+portfolio where a submission could be read. A line that is no request, or is
+cut off before its line feed, is refused as Unreadable, and one of more than
+16,777,472 bytes as TooLarge; the office runs on. Each message that is let out
+is a packet, to a portfolio or to the other operator, `peer`:
 
   {\"fact\":2,\"message\":{..},\"to\":\"A\"}
 
-It comes behind the answer of its fact. No `recorded`, no `closed` and no packet is written before its
-fact stands in the book. A query is answered of what stands there. `due` closes in order each cycle that
-has started, while neither it nor a later one of its day is closed, of the gas days from the one before
-MOMENT's to two after it; how many these are is told, and then what each came to. A reader that died goes on by `outgoing`, from
-the last fact of which it saw a packet. At the end of standard input all is saved, the book is closed,
-and a last line tells how many facts it has, how many are saved, and how many cycles are confirmed.
+It comes behind the answer of its fact. No `recorded`, no `closed` and no
+packet is written before its fact stands in the book. A query is answered of
+what stands there. `due` closes in order each cycle that has started, while
+neither it nor a later one of its day is closed, of the gas days from the one
+before MOMENT's to two after it; how many these are is told, and then what each
+came to. A reader that died goes on by `outgoing`, from the last fact of which
+it saw a packet. At the end of standard input all is saved, the book is closed,
+and a last line tells how many facts it has, how many are saved, and how many
+cycles are confirmed.
 
-Faults, the first of: CodeText (CODE is no code); Head, Store, Version, Gap N, Damaged N, Lost N,
-OtherBook SIDE POINT, BadFact N or Busy, as `serve` tells them of one book; then, behind the lines of
-what was done, Read, Write, Store (a save failed; what was saved before is written), SeatFull, Unsaved
-or Unsettled (an office gave up, which no run should meet) or OutOfMemory.
+Faults, the first of: CodeText (CODE is no code); Head, Store, Version, Gap N,
+Damaged N, Lost N, OtherBook SIDE POINT, BadFact N or Busy, as `serve` tells
+them of one book; then, behind the lines of what was done, Read, Write, Store
+(a save failed; what was saved before is written), SeatFull, Unsaved or
+Unsettled (an office gave up, which no run should meet) or OutOfMemory.
 
-Exit status: 0 done, 1 CodeText, Read, Write or an office that gave up, 2 wrong command line, 3 any
-other fault of the book, 4 want of memory.
+Exit status: 0 done, 1 CodeText, Read, Write or an office that gave up, 2 wrong
+command line, 3 any other fault of the book, 4 want of memory.
 
-Example: gi_dispatch office I --book day-I.db --point BORDER-1 < requests";
+Example: dispatch office I --book day-I.db --point BORDER-1 < requests";
 
 const REPORT_HELP: &str = "\
-KIND is `open` (closed cycles that are not confirmed), `confirmed` (confirmed quantities in kWh/h,
-hour by hour), `refused` (how many submissions of each portfolio were refused), `schedule` (what is in
-force for each hour, with totals) or `cut` (where a pair gets less than was nominated), and SIDE is `I`
-or `M`. --day and --portfolio narrow the last two. FORMAT is `text` in columns, `csv` with a header line, or `json` with an object a line. Standard
-input is a script as for `simulate`, whose steps are made and not told. With --book and --point the
-side's desk is read from its book instead, standard input is not read, and `refused` has no lines.
+KIND is `open` (closed cycles that are not confirmed), `confirmed` (confirmed
+quantities in kWh/h, hour by hour), `refused` (how many submissions of each
+portfolio were refused), `schedule` (what is in force for each hour, with
+totals), `cut` (where a pair gets less than was nominated) or `changes` (what
+each confirmed cycle changed of what was in force before it), and SIDE is `I`
+or `M`. --day and --portfolio narrow the last three. FORMAT is `text` in
+columns, `csv` with a header line, or `json` with an object a line. Standard
+input is a script as for `simulate`, whose steps are made and not told. With
+--book and --point the side's desk is read from its book instead, standard
+input is not read, and `refused` has no lines.
 
-Faults: CodeText (the portfolio is no code), DayText or DayRange (DAY is no gas day); then those of
-`simulate`. With a book, the first of: CodeText (CODE is no code), Head (what stands
-beside it as its head is none), Store (the file is not there, is no database, or cannot be read),
-Version (no book, as an empty file), Gap N or Damaged N (a row is missing or broken), Lost N (the
-book lacks facts of the N that its head tells), OtherBook SIDE POINT (it is theirs), BadFact N (no
-desk records fact N after those before it), Write. The book is read from a copy in memory: no file is
-made or changed, and another command may have it open.";
+Faults: CodeText (the portfolio is no code), DayText or DayRange (DAY is no gas
+day); then those of `simulate`. With a book, the first of: CodeText (CODE is no
+code), Head (what stands beside it as its head is none), Store (the file is not
+there, is no database, or cannot be read), Version (no book, as an empty file),
+Gap N or Damaged N (a row is missing or broken), Lost N (the book lacks facts
+of the N that its head tells), OtherBook SIDE POINT (it is theirs), BadFact N
+(no desk records fact N after those before it), Write. The book is read from a
+copy in memory: no file is made or changed, and another command may have it
+open.";
 
 const EXPLAIN_HELP: &str = "\
-What one quantity comes from at SIDE, `I` or `M`: that of the initiating operator's portfolio
-INITIATING and the matching one's MATCHING, in DIRECTION (`IM` or `MI`), on the gas day DAY
-(YYYY-MM-DD), in nomination cycle CYCLE (0 to 36) and in hour HOUR (1 to 25). Standard output gets
-lines in an order that is always the same, with the numbers of the facts: what was asked, the
-nomination, the contract and the notice that count, what is available, what lines of lower priority
-numbers leave of that (left out where the cycle is closed by rule 1), the sums of what is
-nominated, the processed quantity by its formula, the closing that froze it, the other side's
-quantity, the lower of both, whether that is confirmed, and whom it was told. FORMAT is `text`, or
-`json` with an object for each of these lines. Standard input is a script as for `report`; with
---book and --point the side's desk is read from its book instead.
+What one quantity comes from at SIDE, `I` or `M`: that of the initiating
+operator's portfolio INITIATING and the matching one's MATCHING, in DIRECTION
+(`IM` or `MI`), on the gas day DAY (YYYY-MM-DD), in nomination cycle CYCLE (0
+to 36) and in hour HOUR (1 to 25). Standard output gets lines in an order that
+is always the same, with the numbers of the facts: what was asked, the
+nomination, the contract and the notice that count, what is available, what
+lines of lower priority numbers leave of that (left out where the cycle is
+closed by rule 1), the sums of what is nominated, the processed quantity by its
+formula, the closing that froze it, the other side's quantity, the lower of
+both, whether that is confirmed, and whom it was told. FORMAT is `text`, or
+`json` with an object for each of these lines. Standard input is a script as
+for `report`; with --book and --point the side's desk is read from its book
+instead.
 
-Faults, the first of: CodeText (INITIATING or MATCHING is no code), DayText or DayRange, as for
-`hours`; then those of `report`.";
+Faults, the first of: CodeText (INITIATING or MATCHING is no code), DayText or
+DayRange, as for `hours`; then those of `report`.";
+
+const PAGE_HELP: &str = "\
+The gas day DAY (YYYY-MM-DD) of SIDE, `I` or `M`, as one HTML page for people:
+what was nominated, what each operator processed and what is in force, in
+charts by direction, in tables by hour and by pair; what was cut, and by whom;
+and how far each nomination cycle is. The page loads nothing and has no script;
+it is dated by the number of the side's facts, since no clock is asked.
+Standard input is a script as for `report`; with --book and --point the side's
+desk is read from its book instead.
+
+Faults, the first of: DayText or DayRange, as for `hours`; then those of
+`report`.
+
+Example: dispatch page I 2026-01-15 < examples/day.script > day.html";
 
 const AUDIT_HELP: &str = "\
-Compares the books of both operators, as an outsider would: it trusts neither, and makes each
-side's desk from its facts. The books have to be of one moment, when no office runs. Standard output
-gets a line for each cycle that either has closed: agreed, with the sum of its confirmed quantities
-by direction in kWh; open at I or at both; or what differs, with the numbers of the facts, the first
-row and hour, and both quantities. The last line is `agreed` (a cycle is, and none differs) or `open`
-(cycles are closed, none is agreed, and none differs), with exit status 0; or `empty` (neither has
-closed a cycle) or `differs at DAY CYCLE` for the first cycle that differs, with exit status 1.
-FORMAT is `text`, or `json` with an object for each line. Standard input is not read.
+Compares the books of both operators, as an outsider would: it trusts neither,
+and makes each side's desk from its facts. The books have to be of one moment,
+when no office runs. Standard output gets a line for each cycle that either has
+closed: agreed, with the sum of its confirmed quantities by direction in kWh;
+open at I or at both; or what differs, with the numbers of the facts, the first
+row and hour, and both quantities. The last line is `agreed` (a cycle is, and
+none differs) or `open` (cycles are closed, none is agreed, and none differs),
+with exit status 0; or `empty` (neither has closed a cycle) or `differs at DAY
+CYCLE` for the first cycle that differs, with exit status 1. FORMAT is `text`,
+or `json` with an object for each line. Standard input is not read.
 
-Faults, the first of: CodeText (CODE is no code); what is told of the initiating operator's book as
-for `report`, then of the matching one's; BadFact N of the one, then of the other; Write; Differs or
-Empty, once the lines are written.";
+Faults, the first of: CodeText (CODE is no code); what is told of the
+initiating operator's book as for `report`, then of the matching one's; BadFact
+N of the one, then of the other; Write; Differs or Empty, once the lines are
+written.";
 
 const BOOK_HELP: &str = "\
-What the book in FILE is. Standard output gets seven lines, such as these, always in this order:
+What the book in FILE is. Standard output gets seven lines, such as these,
+always in this order:
 
-  owner I BORDER-1      whose it is: side and point; `?` of a book that an older program made
-  facts 152             how many facts are saved
-  digest 3f..           SHA-256, chained from fact to fact: 64 digits, 0-9 and a-f
-  closed 12             how many cycles are closed
-  confirmed 11          how many of them are confirmed
-  room 999848 62        how many more facts, and how many more portfolios, the book takes
-  log 4120              bytes of the log beside it, FILE-wal; 0 where it has no rows
+  owner I BORDER-1   its side and point; `?` of an older program's book
+  facts 152          how many facts are saved
+  digest 3f..        SHA-256, chained from fact to fact: 64 of 0-9 and a-f
+  closed 12          how many cycles are closed
+  confirmed 11       how many of them are confirmed
+  room 999848 62     how many more facts, and portfolios, the book takes
+  log 4120           bytes of the log beside it, FILE-wal; 0 without rows
 
-A book only grows, so its first N facts keep their digest, whatever comes behind them. With
---expect the first N (0 to 1000000, with no zero in front) have to be there and to have this DIGEST:
-note what `facts` and `digest` tell, and ask for it later, or of a copy. Standard input is not read.
-The book is read from a copy in memory: no file is made or changed, and another command may have it
-open.
+A book only grows, so its first N facts keep their digest, whatever comes
+behind them. With --expect the first N (0 to 1000000, with no zero in front)
+have to be there and to have this DIGEST: note what `facts` and `digest` tell,
+and ask for it later, or of a copy. Standard input is not read. The book is
+read from a copy in memory: no file is made or changed, and another command may
+have it open.
 
-Faults, the first of: Head, Store, Version, Gap N, Damaged N, Lost N or BadFact N, as for `report`;
-Write; Unexpected (there are fewer than N facts, or they have another digest), after the lines.
+Faults, the first of: Head, Store, Version, Gap N, Damaged N, Lost N or BadFact
+N, as for `report`; Write; Unexpected (there are fewer than N facts, or they
+have another digest), after the lines.
 
-Exit status: 0 done, 1 Unexpected or Write, 2 wrong command line, 3 any other fault of the book, 4
-want of memory.
+Exit status: 0 done, 1 Unexpected or Write, 2 wrong command line, 3 any other
+fault of the book, 4 want of memory.
 
-Example: gi_dispatch book day-I.db";
+Example: dispatch book day-I.db";
 
 const SERVE_HELP: &str = "\
-Standard input is a script as for `simulate`, without `save`, `deliver` and `restart` lines: two
-running offices save by themselves, and only what the carriers give is delivered. Each longest run
-of `submit` lines is a batch, which N sessions of each office (1 to 8, 2 where no number is given)
-make at the same time, each portfolio by one of them. The offices go on with the books in the files
-PREFIX-I.db and PREFIX-M.db, which are both made where there is neither; with no PREFIX, the books
-are in memory. With --old none is made, and both have to be there. With --wait a book that
-another process has open is tried again for SECONDS (0 to 3600; 0 where no number is given) before
-it is Busy. Without --books both have no effect. A book of version 1 becomes one of version 2, which
-older programs refuse.
+Standard input is a script as for `simulate`, without `save`, `deliver` and
+`restart` lines: two running offices save by themselves, and only what the
+carriers give is delivered. Each longest run of `submit` lines is a batch,
+which N sessions of each office (1 to 8, 2 where no number is given) make at
+the same time, each portfolio by one of them. The offices go on with the books
+in the files PREFIX-I.db and PREFIX-M.db, which are both made where there is
+neither; with no PREFIX, the books are in memory. With --old none is made, and
+both have to be there. With --wait a book that another process has open is
+tried again for SECONDS (0 to 3600; 0 where no number is given) before it is
+Busy. Without --books both have no effect. A book of version 1 becomes one of
+version 2, which older programs refuse.
 
-Standard output gets a line for each step, with no numbers of facts: the number of the script's
-line, the side, and what came of it. Then come two lines with what each side holds, and three that
-tell whether each office's records agree with its desk, and the two offices with each other.
+Standard output gets a line for each step, with no numbers of facts: the number
+of the script's line, the side, and what came of it. Then come two lines with
+what each side holds, and three that tell whether each office's records agree
+with its desk, and the two offices with each other.
 
-Faults, the first of: Read, TooLarge, Point, `line N: Unreadable`, as for `simulate`; MissingBook I
-or M (it is not there, and the other side's has facts or cannot be read, or --old is given); what is
-told of a copy of I's book as for `report`, and then of M's; TwoPasts DAY CYCLE (the books differ, as
-`audit` tells it: exit status 1). Up to here nothing is made or changed. Then, for the book of I and
-then for that of M, Busy (another process has it open), or what is told of it as it is opened; Write;
-what a running office could not do, told after the lines of what was done before; and Store, where a
-book could not be closed.";
+Faults, the first of: Read, TooLarge, Point, `line N: Unreadable`, as for
+`simulate`; MissingBook I or M (it is not there, and the other side's has facts
+or cannot be read, or --old is given); what is told of a copy of I's book as
+for `report`, and then of M's; TwoPasts DAY CYCLE (the books differ, as `audit`
+tells it: exit status 1). Up to here nothing is made or changed. Then, for the
+book of I and then for that of M, Busy (another process has it open), or what
+is told of it as it is opened; Write; what a running office could not do, told
+after the lines of what was done before; and Store, where a book could not be
+closed.";
 
 fn word<'a>(alloc: Global, name: &'a str, help: &'a str) -> Arg<'a>
     ensures rule { rule_of result ≡ word_rule name.entry.now }
@@ -315,9 +371,9 @@ fn with_narrowing<'a>(
 ) -> Result<Command<'a>, AllocError>
     ensures { (app : App) → IfOk command.entry (λ it. app_of it ≡ app) → IfOk result (λ with. app_of with ≡ with_narrowing_rules app) }
 {
-    let day = "The gas day of a schedule or of cuts";
+    let day = "The gas day of a schedule, of cuts or of changes";
     let command = with_arg(command, option(alloc, "day", "DAY", day));
-    let portfolio = "The portfolio, at either operator, of a schedule or of cuts";
+    let portfolio = "The portfolio, at either operator, of these";
     with_arg(command, option(alloc, "portfolio", "CODE", portfolio))
 }
 
@@ -424,7 +480,11 @@ fn report_command<'a>(alloc: Global) -> Result<Command<'a>, AllocError>
     );
     let command = with_arg(
         command,
-        word(alloc, "KIND", "open, confirmed, refused, schedule or cut"),
+        word(
+            alloc,
+            "KIND",
+            "open, confirmed, refused, schedule, cut or changes",
+        ),
     );
     let command = with_arg(command, word(alloc, "SIDE", "I or M"));
     let format = "text, csv or json; text where none is named";
@@ -447,6 +507,20 @@ fn explain_command<'a>(alloc: Global) -> Result<Command<'a>, AllocError>
     let command = with_hour(alloc, command);
     let format = "text or json; text where none is named";
     let command = with_arg(command, option(alloc, "format", "FORMAT", format));
+    with_book(alloc, command)
+}
+
+fn page_command<'a>(alloc: Global) -> Result<Command<'a>, AllocError>
+    ensures { IfOk result (λ it. app_of it ≡ the_page) }
+{
+    let command = with_help(
+        alloc,
+        "page",
+        "Writes a gas day of a side as an HTML page",
+        PAGE_HELP,
+    );
+    let command = with_arg(command, word(alloc, "SIDE", "I or M"));
+    let command = with_arg(command, word(alloc, "DAY", "The gas day"));
     with_book(alloc, command)
 }
 
@@ -558,6 +632,12 @@ fn with_explain<'a>(alloc: Global, program: Command<'a>) -> Result<Command<'a>, 
     with(program, explain_command(alloc))
 }
 
+fn with_page<'a>(alloc: Global, program: Command<'a>) -> Result<Command<'a>, AllocError>
+    ensures { IfOk result (λ with. app_of with ≡ with_subcommand (app_of program.entry) the_page.top) }
+{
+    with(program, page_command(alloc))
+}
+
 fn with_audit<'a>(alloc: Global, program: Command<'a>) -> Result<Command<'a>, AllocError>
     ensures { IfOk result (λ with. app_of with ≡ with_subcommand (app_of program.entry) the_audit.top) }
 {
@@ -579,7 +659,7 @@ fn with_serve<'a>(alloc: Global, program: Command<'a>) -> Result<Command<'a>, Al
 fn named_program<'a>(alloc: Global) -> Command<'a>
     ensures { app_of result ≡ named }
 {
-    Command::new(alloc, "gi_dispatch")
+    Command::new(alloc, "dispatch")
         .version("0.1.0")
         .about("The dispatch offices of two adjacent gas transmission operators")
         .after_help(PROGRAM_HELP)
@@ -595,10 +675,11 @@ fn with_desks<'a>(alloc: Global, program: Command<'a>) -> Result<Command<'a>, Al
 
 /// Adds the commands about what a side holds.
 fn with_sides<'a>(alloc: Global, program: Command<'a>) -> Result<Command<'a>, AllocError>
-    ensures { IfOk result (λ with. app_of with ≡ with_subcommand (with_subcommand (app_of program.entry) the_report.top) the_explain.top) }
+    ensures { IfOk result (λ with. app_of with ≡ with_subcommand (with_subcommand (with_subcommand (app_of program.entry) the_report.top) the_explain.top) the_page.top) }
 {
     let program = with_report(alloc, program)?;
-    with_explain(alloc, program)
+    let program = with_explain(alloc, program)?;
+    with_page(alloc, program)
 }
 
 /// Adds the commands about books.

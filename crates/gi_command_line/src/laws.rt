@@ -1,5 +1,5 @@
 //! What holds of all words. These functions do nothing; their clauses are the laws.
-ghost use Rattle.gi_command_line.specs.Laws.{AboutBookIsTaken, AboutBookNeedsAFile, AuditFormatIsTaken, AuditFormatIsWrong, AuditInWordsIsTaken, AuditIsTaken, AuditNeedsBothBooks, BookInWordsIsTaken, BookIsTaken, BookNeedsItsPoint, ExpectedIsItsText, ExpectedIsNamed, ExpectedIsTaken, ExpectedIsWrong, ExplainFormatIsTaken, ExplainFormatIsWrong, ExplainIsTaken, ExplainNeedsACycle, ExplainNeedsAnHour, ExplainedBookIsTaken, FormatIsTaken, HourIsMissing, HoursIsTaken, HoursNeedADay, MatchIsTaken, NarrowingIsTaken, NarrowingIsWrong, OfficeClockIsTaken, OfficeInWordsIsTaken, OfficeIsOfNoSide, OfficeIsTaken, OfficeNeedsASide, OfficeNeedsItsBook, OfficeNeedsItsPoint, OfficeWaitIsTaken, OfficeWaitIsWrong, OldInMemoryIsTaken, OldIsTaken, PlainAboutBookIsTaken, PlainExplainIsTaken, ReportIsTaken, ReportNeedsASide, ServeIsTaken, SimulateIsTaken, TraceIsTaken, WaitIsItsText, WaitIsNamed, WaitIsTaken, WaitIsWrong};
+ghost use Rattle.gi_command_line.specs.Laws.{AboutBookIsTaken, AboutBookNeedsAFile, AuditFormatIsTaken, AuditFormatIsWrong, AuditInWordsIsTaken, AuditIsTaken, AuditNeedsBothBooks, BookInWordsIsTaken, BookIsTaken, BookNeedsItsPoint, ExpectedIsItsText, ExpectedIsNamed, ExpectedIsTaken, ExpectedIsWrong, ExplainFormatIsTaken, ExplainFormatIsWrong, ExplainIsTaken, ExplainNeedsACycle, ExplainNeedsAnHour, ExplainedBookIsTaken, FormatIsTaken, HourIsMissing, HoursIsTaken, HoursNeedADay, MatchIsTaken, NarrowingIsTaken, NarrowingIsWrong, OfficeClockIsTaken, OfficeInWordsIsTaken, OfficeIsOfNoSide, OfficeIsTaken, OfficeNeedsASide, OfficeNeedsItsBook, OfficeNeedsItsPoint, OfficeWaitIsTaken, OfficeWaitIsWrong, OldInMemoryIsTaken, OldIsTaken, PageIsTaken, PageNeedsADay, PageNeedsItsPoint, PageOfABookIsTaken, PlainAboutBookIsTaken, PlainExplainIsTaken, ReportIsTaken, ReportNeedsASide, ServeIsTaken, SimulateIsTaken, TraceIsTaken, WaitIsItsText, WaitIsNamed, WaitIsTaken, WaitIsWrong};
 
 /// The program's name, alone or with the word `match`, is a right command line, and asks for `match`.
 pub fn match_is_taken()
@@ -52,8 +52,8 @@ pub fn office_is_taken()
 
 /// So is the program's name with the word `report`, a kind and a side, which asks for that report of a
 /// script, as text; with `--format`, in that format; with `--book` and `--point`, of the book in that file.
-/// With `--day` and `--portfolio`, a schedule or cuts of these; another report of them is a wrong command
-/// line. Without a side, the side is missing; a book without its point is a wrong command line.
+/// With `--day` and `--portfolio`, a schedule, cuts or changes of these; another report of them is a wrong
+/// command line. Without a side, the side is missing; a book without its point is a wrong command line.
 pub fn report_is_taken()
     ensures plain { ReportIsTaken }
     ensures format { FormatIsTaken }
@@ -78,6 +78,16 @@ pub fn explain_is_taken()
     ensures needs_an_hour { ExplainNeedsAnHour }
     ensures needs_a_format { ExplainFormatIsWrong }
     ensures missing { HourIsMissing }
+{}
+
+/// So is the program's name with the word `page`, a side and a gas day, behind `--` whatever that begins with,
+/// which asks for the page of a script; with `--book` and `--point`, of the book in that file. Without a day, the
+/// day is missing; a book without its point is a wrong command line.
+pub fn page_is_taken()
+    ensures plain { PageIsTaken }
+    ensures of_book { PageOfABookIsTaken }
+    ensures needs_a_day { PageNeedsADay }
+    ensures needs_its_point { PageNeedsItsPoint }
 {}
 
 /// So is the program's name with the word `audit`, both books' files and their point, which asks for the

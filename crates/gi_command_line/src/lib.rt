@@ -12,10 +12,11 @@ mod words;
 
 pub use expected::ExpectedFacts;
 pub use laws::{
-    hours_is_taken, match_is_taken, office_is_taken, serve_is_taken, simulate_is_taken,
+    hours_is_taken, match_is_taken, office_is_taken, page_is_taken, serve_is_taken,
+    simulate_is_taken,
 };
 pub use request::{
-    Audit, BookFile, BookFiles, BookQuestion, Explanation, Format, LineFormat, Mistake,
+    Audit, BookFile, BookFiles, BookQuestion, DayPage, Explanation, Format, LineFormat, Mistake,
     NamedQuantity, Narrowing, OfficeRun, Report, ReportKind, Request, Service, Task, format_named,
     kind_named, line_format_named,
 };

@@ -22,6 +22,8 @@ pub enum ReportKind {
     Schedule,
     /// Where a pair gets less than was nominated.
     Cut,
+    /// What each confirmed cycle changed.
+    Changes,
 }
 
 impl ReportKind {
@@ -30,7 +32,7 @@ impl ReportKind {
         ensures { result ≡ can_be_narrowed self }
     {
         match self {
-            ReportKind::Schedule | ReportKind::Cut => true,
+            ReportKind::Schedule | ReportKind::Cut | ReportKind::Changes => true,
             ReportKind::Open | ReportKind::Confirmed | ReportKind::Refused => false,
         }
     }
@@ -102,6 +104,14 @@ pub struct Explanation<'a> {
     pub book: Option<BookFile<'a>>,
 }
 
+/// The page of a gas day at a side: over its book, or else over a script.
+#[derive(Clone, Copy, Debug, PartialEq, Eq)]
+pub struct DayPage<'a> {
+    pub side: Side,
+    pub day: &'a str,
+    pub book: Option<BookFile<'a>>,
+}
+
 /// Both operators' books in files, to be compared, and the interconnection point that they are of.
 #[derive(Clone, Copy, Debug, PartialEq, Eq)]
 pub struct BookFiles<'a> {
@@ -160,7 +170,7 @@ pub enum Mistake<'a> {
     Unpaired,
     /// The word is no format of a report.
     Format(&'a str),
-    /// `--day` or `--portfolio` for another report than a schedule or cuts.
+    /// `--day` or `--portfolio` for another report than a schedule, cuts or changes.
     Narrowed,
     /// The word is no format of an explanation or an audit.
     LineFormat(&'a str),
@@ -191,6 +201,8 @@ pub enum Request<'a> {
     Report(Report<'a>),
     /// What a quantity comes from.
     Explain(Explanation<'a>),
+    /// The page of a gas day.
+    Page(DayPage<'a>),
     /// Whether both operators' books agree.
     Audit(Audit<'a>),
     /// What a book is.
@@ -217,7 +229,7 @@ impl fmt::Display for Mistake<'_> {
         match self {
             Mistake::Kind(word) => write!(
                 f,
-                "error: invalid value '{word}' for '<KIND>'\n  [possible values: open, confirmed, refused, schedule, cut]\n"
+                "error: invalid value '{word}' for '<KIND>'\n  [possible values: open, confirmed, refused, schedule, cut, changes]\n"
             ),
             Mistake::Side(word) => write!(
                 f,
@@ -231,7 +243,7 @@ impl fmt::Display for Mistake<'_> {
                 "error: invalid value '{word}' for '--format <FORMAT>'\n  [possible values: text, csv, json]\n"
             ),
             Mistake::Narrowed => f.write_str(
-                "error: '--day <DAY>' and '--portfolio <CODE>' are for a schedule and for cuts\n",
+                "error: '--day <DAY>' and '--portfolio <CODE>' are for a schedule, cuts and changes\n",
             ),
             Mistake::LineFormat(word) => write!(
                 f,
@@ -275,6 +287,7 @@ pub fn kind_named(word: &str) -> Option<ReportKind>
         "refused" => Some(ReportKind::Refused),
         "schedule" => Some(ReportKind::Schedule),
         "cut" => Some(ReportKind::Cut),
+        "changes" => Some(ReportKind::Changes),
         _ => None,
     }
 }

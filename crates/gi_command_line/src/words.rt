@@ -3,13 +3,13 @@ ghost use Rattle.std.specs.Prelude.{◌≡◌, IfOk, codes, false, map, option_m
 ghost use Rattle.std.specs.Result.{result_ok};
 ghost use Rattle.clap.specs.Words.{FailsBy, first_of, found_of, rows_of, subcommand_rows_of};
 ghost use Rattle.gi_command_line.specs.Asked.{book_of as book_words, expected_words, meaning, narrowing_words, quantity_words, task_meaning};
-ghost use Rattle.gi_command_line.specs.CommandLine.{about_book_asked, asked, asked_at_once, asked_of, audit_asked, book_asked, expected_asked, explain_asked, fits as fits_kind, format_asked, hours_asked, is_set as is_set_by, line_format_asked, narrowing_asked, objections, office_asked, quantity_asked, report_asked, serve_asked, sessions_asked, value_of as value_at, wait_asked};
+ghost use Rattle.gi_command_line.specs.CommandLine.{about_book_asked, asked, asked_at_once, asked_of, audit_asked, book_asked, expected_asked, explain_asked, fits as fits_kind, format_asked, hours_asked, is_set as is_set_by, line_format_asked, narrowing_asked, objections, office_asked, page_asked, quantity_asked, report_asked, serve_asked, sessions_asked, value_of as value_at, wait_asked};
 
 use crate::commands::commands;
 use crate::expected::ExpectedFacts;
 use crate::numbers::{cycle_named, hour_named};
 use crate::request::{
-    Audit, BookFile, BookFiles, BookQuestion, Explanation, Format, LineFormat, Mistake,
+    Audit, BookFile, BookFiles, BookQuestion, DayPage, Explanation, Format, LineFormat, Mistake,
     NamedQuantity, Narrowing, OfficeRun, Report, ReportKind, Request, Service, Task, format_named,
     kind_named, line_format_named,
 };
@@ -179,6 +179,23 @@ fn explanation_of<'a>(matches: &ArgMatches<'a>) -> Request<'a>
     })
 }
 
+fn page_of<'a>(matches: &ArgMatches<'a>) -> Request<'a>
+    ensures { meaning result ≡ page_asked (rows_of (found_of matches.now)) }
+{
+    let side_word = word_of(matches, "SIDE");
+    let Ok(side) = side_word.parse::<Side>() else {
+        return Request::Mistaken(Mistake::Side(side_word));
+    };
+    let Some(book) = book_of(matches) else {
+        return Request::Mistaken(Mistake::Unpaired);
+    };
+    Request::Page(DayPage {
+        side,
+        day: word_of(matches, "DAY"),
+        book,
+    })
+}
+
 fn audit_of<'a>(matches: &ArgMatches<'a>) -> Request<'a>
     ensures { meaning result ≡ audit_asked (rows_of (found_of matches.now)) }
 {
@@ -289,6 +306,7 @@ fn request_of<'a>(name: &str, entered: &ArgMatches<'a>) -> Request<'a>
         },
         "report" => report_of(entered),
         "explain" => explanation_of(entered),
+        "page" => page_of(entered),
         "audit" => audit_of(entered),
         "book" => about_book_of(entered),
         _ => Request::Match,

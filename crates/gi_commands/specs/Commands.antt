@@ -2,10 +2,11 @@
 use Rattle.std.specs.Prelude.{◌≡◌, ◌⊎◌, ℕ, Bool, List, Option, None, Some}
 use Rattle.std.specs.Option.{IfSome}
 use Rattle.std.specs.Io.KnownBytes.{Keeps}
+use Rattle.jiff_core.specs.declared.civil.date.Date.{Date}
 use Rattle.gi_pairs.specs.Code.{IsCode}
 use Rattle.gi_pairs.specs.declared.side.Side.{Side}
 use Rattle.gi_pairs.specs.declared.side.Side.TheVariants.{I, M}
-use Rattle.gi_command_line.specs.Asked.{Asked, about_book, audit, explain, hours, match_tables, mistaken, report, simulate}
+use Rattle.gi_command_line.specs.Asked.{Asked, about_book, audit, explain, hours, match_tables, mistaken, page, report, simulate}
 use Rattle.gi_commands.specs.Auditing.{Audits, IsFirstAuditFault, LeavesAudit}
 use Rattle.gi_commands.specs.Explaining.{Asks, IsQuestionFault, NamesNoCodes}
 use Rattle.gi_commands.specs.Fault.{OfTables}
@@ -13,11 +14,12 @@ use Rattle.gi_commands.specs.Contents.{IsFirstContentsFault, LeavesContents, Tel
 use Rattle.gi_commands.specs.Leaving.{LeavesNothing}
 use Rattle.gi_commands.specs.Narrowing.{HasNoPortfolio, IsNarrowingFault, Narrows}
 use Rattle.gi_commands.specs.Owned.{of_owner}
+use Rattle.gi_commands.specs.Paging.{IsPageFault, NamesPage}
 use Rattle.gi_commands.specs.Reporting.{IsFirstBookFault, ReportsBook}
 use Rattle.gi_commands.specs.Simulating.{CutsShort, HasReport, HasScript, IsFirstScriptFault, Reports, Simulates}
 use Rattle.gi_explanations.specs.declared.question.Question.{Question}
 use Rattle.gi_commands.specs.declared.desk_report.DeskReport.{DeskReport}
-use Rattle.gi_commands.specs.declared.desk_report.DeskReport.TheVariants.{Explanation, Listed}
+use Rattle.gi_commands.specs.declared.desk_report.DeskReport.TheVariants.{Explanation, Listed, Page}
 use Rattle.gi_table_commands.specs.Hours.{IsFirstHoursFault, TellsHours}
 use Rattle.gi_table_commands.specs.Match.{Answers, IsFirstFault}
 use Rattle.gi_schedule.specs.declared.wanted.Wanted.{Wanted}
@@ -58,6 +60,7 @@ Does books (report kind format side words book) remaining old new =
     (wanted : Wanted) × Narrows words wanted × TellsDesk books (Listed kind format wanted) side book remaining old new
 Does books (explain format side words book) remaining old new =
     (question : Question) × Asks words question × TellsDesk books (Explanation question format) side book remaining old new
+Does books (page side word book) remaining old new = (day : Date) × NamesPage word day × TellsDesk books (Page (record { day = day })) side book remaining old new
 Does books (audit format initiating matching point) remaining old new = Audits format (of_owner (books initiating) I point) (of_owner (books matching) M point) point old new
 Does books (about_book file expected) remaining old new = TellsBook (books file) expected old new
 Does books mistaken remaining old new = ⊥
@@ -72,6 +75,8 @@ IsFaultOf books (report kind format side words book) remaining why =
 IsFaultOf books (explain format side words book) remaining why =
     (why ≡ fault.OutOfMemory) ⊎ IsQuestionFault words why
     ⊎ ((question : Question) × Asks words question × IsDeskFault books (Explanation question format) side book remaining why)
+IsFaultOf books (page side word book) remaining why =
+    (why ≡ fault.OutOfMemory) ⊎ IsPageFault word why ⊎ ((day : Date) × NamesPage word day × IsDeskFault books (Page (record { day = day })) side book remaining why)
 IsFaultOf books (audit format initiating matching point) remaining why = IsFirstAuditFault format (of_owner (books initiating) I point) (of_owner (books matching) M point) point why
 IsFaultOf books (about_book file expected) remaining why = IsFirstContentsFault (books file) expected why
 IsFaultOf books mistaken remaining why = (why ≡ fault.CommandLine) ⊎ (why ≡ fault.OutOfMemory)
@@ -89,6 +94,7 @@ Leaves books (hours day) remaining old new why = LeavesNothing old new why
 Leaves books (simulate trace) remaining old new why = LeavesFront trace remaining old new why
 Leaves books (report kind format side words book) remaining old new why = LeavesNothing old new why
 Leaves books (explain format side words book) remaining old new why = LeavesNothing old new why
+Leaves books (page side word book) remaining old new why = LeavesNothing old new why
 Leaves books (audit format initiating matching point) remaining old new why = LeavesAudit format (of_owner (books initiating) I point) (of_owner (books matching) M point) point old new why
 Leaves books (about_book file expected) remaining old new why = LeavesContents (books file) expected old new why
 Leaves books mistaken remaining old new why = LeavesNothing old new why
@@ -100,17 +106,19 @@ MayRead (hours day) old new = Keeps old new
 MayRead (simulate trace) old new = Unit {0}
 MayRead (report kind format side words book) old new = ReadsUnlessBook book old new
 MayRead (explain format side words book) old new = ReadsUnlessBook book old new
+MayRead (page side word book) old new = ReadsUnlessBook book old new
 MayRead (audit format initiating matching point) old new = Keeps old new
 MayRead (about_book file expected) old new = Keeps old new
 MayRead mistaken old new = Keeps old new
 
--- a report or an audit of books whose point is no code, a report of a portfolio that is none, and a quantity with such a one
+-- a report or an audit of books whose point is no code, a report of a portfolio that is none, a quantity with such a one, and a page of a gas day with such a book
 abbrev pub HasNoCode : Asked → Type 0
 HasNoCode match_tables = ⊥
 HasNoCode (hours day) = ⊥
 HasNoCode (simulate trace) = ⊥
 HasNoCode (report kind format side words book) = HasNoPortfolio words.portfolio ⊎ ((wanted : Wanted) × Narrows words wanted × HasNoPoint book)
 HasNoCode (explain format side words book) = NamesNoCodes words ⊎ ((question : Question) × Asks words question × HasNoPoint book)
+HasNoCode (page side word book) = (day : Date) × NamesPage word day × HasNoPoint book
 HasNoCode (audit format initiating matching point) = ¬ (IsCode point)
 HasNoCode (about_book file expected) = ⊥
 HasNoCode mistaken = ⊥

@@ -1,6 +1,7 @@
 pub mod Fault
 pub mod Leaving
 pub mod Owned
+pub mod Paging
 pub mod Reporting
 pub mod Simulating
 pub mod Explaining

@@ -1,4 +1,4 @@
--- What `report` writes of a desk.
+-- What `report`, `explain` and `page` write of a desk.
 use Rattle.std.specs.Prelude.{◌≡◌, ◌⊎◌, ℕ, List, [], length, Option, None, Some, Ok, Err, false}
 use Rattle.std.specs.Io.KnownBytes.{Appends}
 use Rattle.gi_pairs.specs.Code.{IsCode}
@@ -13,6 +13,8 @@ use Rattle.gi_exports.specs.Json.{IsConfirmedJson, IsOpenJson, count_data, json_
 use Rattle.gi_reports.specs.Confirmed.{IsConfirmedReport}
 use Rattle.gi_reports.specs.Open.{IsOpenReport}
 use Rattle.gi_reports.specs.Refused.{refused_counts, refused_lines}
+use Rattle.gi_changes.specs.Forms.{IsChangeCsv, IsChangeJson, IsChangeText}
+use Rattle.gi_page.specs.Page.{IsPage}
 use Rattle.gi_schedule.specs.Csv.{IsScheduleCsv}
 use Rattle.gi_schedule.specs.CutForms.{IsCutCsv, IsCutJson, IsCutText}
 use Rattle.gi_schedule.specs.Json.{IsScheduleJson}
@@ -25,12 +27,12 @@ use Rattle.sqlite.specs.State.{State}
 use Rattle.gi_commands.specs.declared.fault.Fault.{Fault}
 use Rattle.gi_commands.specs.declared.fault.Fault.TheVariants as fault
 use Rattle.gi_commands.specs.declared.desk_report.DeskReport.{DeskReport}
-use Rattle.gi_commands.specs.declared.desk_report.DeskReport.TheVariants.{Listed, Explanation}
+use Rattle.gi_commands.specs.declared.desk_report.DeskReport.TheVariants.{Listed, Explanation, Page}
 use Rattle.gi_command_line.specs.declared.request.Format.TheVariants.{Text, Csv, Json}
 use Rattle.gi_command_line.specs.declared.request.LineFormat.{LineFormat}
 use Rattle.gi_command_line.specs.declared.request.LineFormat.TheVariants as line
 use Rattle.gi_command_line.specs.declared.request.ReportKind.{ReportKind}
-use Rattle.gi_command_line.specs.declared.request.ReportKind.TheVariants.{Open, Confirmed, Refused, Schedule, Cut}
+use Rattle.gi_command_line.specs.declared.request.ReportKind.TheVariants.{Open, Confirmed, Refused, Schedule, Cut, Changes}
 
 -- a list of a side's desk, or of its refused submissions: in columns, as CSV, and as JSON lines
 abbrev pub IsTextReport : ReportKind → Wanted → Side → DeskState → List (Option (List ℕ)) → List ℕ → Type 0
@@ -39,6 +41,7 @@ IsTextReport Confirmed wanted side s submissions text = IsConfirmedReport side s
 IsTextReport Refused wanted side s submissions text = text ≡ refused_lines (refused_counts submissions)
 IsTextReport Schedule wanted side s submissions text = IsScheduleText side s wanted text
 IsTextReport Cut wanted side s submissions text = IsCutText side s wanted text
+IsTextReport Changes wanted side s submissions text = IsChangeText side s wanted text
 
 abbrev pub IsCsvReport : ReportKind → Wanted → Side → DeskState → List (Option (List ℕ)) → List ℕ → Type 0
 IsCsvReport Open wanted side s submissions text = IsOpenCsv side s text
@@ -46,6 +49,7 @@ IsCsvReport Confirmed wanted side s submissions text = IsConfirmedCsv side s tex
 IsCsvReport Refused wanted side s submissions text = text ≡ refused_text (refused_counts submissions)
 IsCsvReport Schedule wanted side s submissions text = IsScheduleCsv side s wanted text
 IsCsvReport Cut wanted side s submissions text = IsCutCsv side s wanted text
+IsCsvReport Changes wanted side s submissions text = IsChangeCsv side s wanted text
 
 abbrev pub IsJsonReport : ReportKind → Wanted → Side → DeskState → List (Option (List ℕ)) → List ℕ → Type 0
 IsJsonReport Open wanted side s submissions text = IsOpenJson side s text
@@ -53,18 +57,20 @@ IsJsonReport Confirmed wanted side s submissions text = IsConfirmedJson side s t
 IsJsonReport Refused wanted side s submissions text = text ≡ json_lines count_data (refused_counts submissions)
 IsJsonReport Schedule wanted side s submissions text = IsScheduleJson side s wanted text
 IsJsonReport Cut wanted side s submissions text = IsCutJson side s wanted text
+IsJsonReport Changes wanted side s submissions text = IsChangeJson side s wanted text
 
 -- what a quantity comes from: in lines, and as JSON lines
 abbrev pub IsExplanation : LineFormat → Side → DeskState → Question → List ℕ → Type 0
 IsExplanation line.Text side s question text = text ≡ explanation side s question
 IsExplanation line.Json side s question text = text ≡ object_lines (explanation_objects side s question)
 
--- the report of a side's desk: such a list, or what a quantity comes from
+-- the report of a side's desk: such a list, what a quantity comes from, or the page of a gas day
 abbrev pub IsReport : DeskReport → Side → DeskState → List (Option (List ℕ)) → List ℕ → Type 0
 IsReport (Listed kind Text wanted) side s submissions text = IsTextReport kind wanted side s submissions text
 IsReport (Listed kind Csv wanted) side s submissions text = IsCsvReport kind wanted side s submissions text
 IsReport (Listed kind Json wanted) side s submissions text = IsJsonReport kind wanted side s submissions text
 IsReport (Explanation question format) side s submissions text = IsExplanation format side s question text
+IsReport (Page asked) side s submissions text = IsPage side s asked.day text
 
 -- the desk of these facts, all saved
 abbrev pub desk_of : List ℕ → List Fact → DeskState

@@ -1,6 +1,6 @@
 ghost use Rattle.std.specs.Prelude.{◌≡◌, IfErr, IfSome, OnOk, Err, option_map};
 ghost use Rattle.gi_pairs.specs.Code.{IsCode};
-ghost use Rattle.gi_command_line.specs.Asked.{book_of, expected_words, explain as asks_explanation, meaning, narrowing_words, quantity_words, report as asks_report};
+ghost use Rattle.gi_command_line.specs.Asked.{book_of, expected_words, explain as asks_explanation, meaning, narrowing_words, page as asks_page, quantity_words, report as asks_report};
 ghost use Rattle.gi_commands.specs.Auditing.{Audits, IsFirstAuditFault, LeavesAudit};
 ghost use Rattle.gi_commands.specs.Commands.{Does, HasNoCode, HasNoPoint, IsDeskFault, IsFaultOf, Leaves, LeavesFront, MayRead, ReadsUnlessBook, TellsDesk};
 ghost use Rattle.gi_commands.specs.Contents.{IsFirstContentsFault, LeavesContents, TellsBook};
@@ -14,7 +14,7 @@ ghost use Rattle.gi_commands.specs.Simulating.{HasReport, HasScript, IsFirstScri
 use crate::auditing::named_audit;
 use crate::books::named_report;
 use crate::contents::named_contents;
-use crate::desk_report::DeskReport;
+use crate::desk_report::{DeskReport, PageDay};
 use crate::explaining::question;
 use crate::fault::Fault;
 use crate::narrowing::wanted;
@@ -22,7 +22,8 @@ use crate::reporting::script_report;
 use crate::simulating::simulated;
 use crate::tables::{match_tables, read_input, tell_hours, write_text};
 use gi_audit::Verdict;
-use gi_command_line::{Audit, BookFile, BookQuestion, Explanation, Report, Request};
+use gi_command_line::{Audit, BookFile, BookQuestion, DayPage, Explanation, Report, Request};
+use gi_day::GasDay;
 use gi_pairs::Side;
 use gi_store::BookSource;
 use gi_table_commands::Calls;
@@ -161,6 +162,35 @@ fn explain<B: BookSource, R: Read, W: Write>(
     )
 }
 
+fn page<B: BookSource, R: Read, W: Write>(
+    alloc: Global,
+    books: &B,
+    wanted: DayPage<'_>,
+    input: &mut R,
+    output: &mut W,
+) -> Result<(), Fault>
+    ensures done { OnOk result (Does (B.gives books.now) (asks_page wanted.entry.side wanted.entry.day.now (book_of wanted.entry.book))
+        (R.remaining input.old) (W.contents output.old) (W.contents output.new)) }
+    ensures first { IfErr result (IsFaultOf (B.gives books.now) (asks_page wanted.entry.side wanted.entry.day.now (book_of wanted.entry.book)) (R.remaining input.old)) }
+    ensures leaves { IfErr result (LeavesNothing (W.contents output.old) (W.contents output.new)) }
+    ensures unread { ReadsUnlessBook (book_of wanted.entry.book) (R.remaining input.old) (R.remaining input.new) }
+    ensures code { HasNoCode (asks_page wanted.entry.side wanted.entry.day.now (book_of wanted.entry.book)) → result ≡ Err no_code }
+{
+    let day = match GasDay::read(wanted.day) {
+        Ok(day) => day,
+        Err(fault) => return Err(Fault::Day(fault)),
+    };
+    tell_desk(
+        alloc,
+        books,
+        DeskReport::Page(PageDay { day }),
+        wanted.side,
+        wanted.book,
+        input,
+        output,
+    )
+}
+
 fn audit_books<B: BookSource, W: Write>(
     alloc: Global,
     books: &B,
@@ -228,6 +258,7 @@ pub fn perform<B: BookSource, R: Read, W: Write>(
         Request::Audit(wanted) => audit_books(alloc, books, wanted, output),
         Request::Book(question) => tell_book(alloc, books, question, output),
         Request::Explain(wanted) => explain(alloc, books, wanted, input, output),
+        Request::Page(wanted) => page(alloc, books, wanted, input, output),
         Request::Mistaken(_) => Err(Fault::CommandLine),
     }
 }

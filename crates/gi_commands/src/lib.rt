@@ -19,7 +19,7 @@ mod tables;
 
 pub use auditing::{AuditText, facts_audit};
 pub use commands::perform;
-pub use desk_report::DeskReport;
+pub use desk_report::{DeskReport, PageDay};
 pub use fault::Fault;
 pub use laws::one_status;
 pub use owned::{facts_of, owned_facts};

@@ -1,4 +1,4 @@
-//! What `report` and `explain` write of a script's end, and of a book.
+//! What `report`, `explain` and `page` write of a script's end, and of a book.
 
 ghost use Rattle.std.specs.Prelude.{◌≡◌, Err, IfErr, IfOk, List};
 ghost use Rattle.sqlite.specs.Held.{state};
@@ -9,19 +9,22 @@ ghost use Rattle.gi_store.specs.Book.{IsRead};
 ghost use Rattle.gi_store.specs.Clean.{IsClean};
 ghost use Rattle.gi_store.specs.Keeping.{AddsNoOutcome, Keeps};
 ghost use Rattle.gi_commands.specs.Owned.{anything};
+ghost use Rattle.gi_page.specs.Page.{IsPage};
 ghost use Rattle.gi_commands.specs.Reporting.{HasBookReport, IsBookFault, IsBookReport, IsCsvReport, IsExplanation, IsFactsFault, IsJsonReport, IsReport, IsRowsFault, IsTextReport};
 ghost use Rattle.gi_commands.specs.Simulating.{IsNoScript, IsScriptReport};
 ghost use Rattle.gi_world.specs.World.{station_of};
 
-use crate::desk_report::DeskReport;
+use crate::desk_report::{DeskReport, PageDay};
 use crate::fault::Fault;
 use crate::replaying::replayed;
+use gi_changes::{change_csv, change_json, change_report};
 use gi_command_line::{Format, LineFormat, ReportKind};
 use gi_desk::{Desk, Fact, Role};
 use gi_explanations::{Question, explanation, explanation_json};
 use gi_exports::{confirmed_csv, confirmed_json, open_csv, open_json, refused_csv, refused_json};
 use gi_initiator::Initiating;
 use gi_matcher::Matching;
+use gi_page::day_page;
 use gi_pairs::{Code, Side};
 use gi_reports::{confirmed_report, open_report, refused_report};
 use gi_schedule::{
@@ -49,6 +52,7 @@ fn text_report<R: Role>(
         ReportKind::Refused => refused_report(alloc, submissions)?,
         ReportKind::Schedule => schedule_report(alloc, desk, wanted)?,
         ReportKind::Cut => cut_report(alloc, desk, wanted)?,
+        ReportKind::Changes => change_report(alloc, desk, wanted)?,
     };
     Ok(text.into_bytes())
 }
@@ -68,6 +72,7 @@ fn csv_report<R: Role>(
         ReportKind::Refused => refused_csv(alloc, submissions),
         ReportKind::Schedule => schedule_csv(alloc, desk, wanted),
         ReportKind::Cut => cut_csv(alloc, desk, wanted),
+        ReportKind::Changes => change_csv(alloc, desk, wanted),
     }
 }
 
@@ -86,6 +91,7 @@ fn json_report<R: Role>(
         ReportKind::Refused => refused_json(alloc, submissions),
         ReportKind::Schedule => schedule_json(alloc, desk, wanted),
         ReportKind::Cut => cut_json(alloc, desk, wanted),
+        ReportKind::Changes => change_json(alloc, desk, wanted),
     }
 }
 
@@ -101,6 +107,12 @@ fn explained<R: Role>(
         LineFormat::Text => Ok(explanation(alloc, desk, question)?.into_bytes()),
         LineFormat::Json => explanation_json(alloc, desk, question),
     }
+}
+
+fn paged<R: Role>(alloc: Global, desk: &Desk<R>, asked: &PageDay) -> Result<Vec<u8>, AllocError>
+    ensures { IfOk result (λ text. IsPage R.SIDE desk.now asked.now.day text.items) }
+{
+    day_page(alloc, desk, asked.day)
 }
 
 fn desk_report<R: Role>(
@@ -134,6 +146,7 @@ fn desk_report<R: Role>(
             submissions,
         ),
         DeskReport::Explanation(question, format) => explained(alloc, format, desk, &question),
+        DeskReport::Page(asked) => paged(alloc, desk, &asked),
     }
 }
 

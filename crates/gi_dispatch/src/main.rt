@@ -20,7 +20,7 @@ fn main(rt: HostRuntime) -> ExitCode {
             &mut output,
             &mut errors,
         ),
-        Err(fault) => reported(Err(ProgramFault::from(fault)), &mut errors),
+        Err(fault) => reported(rt.alloc(), Err(ProgramFault::from(fault)), &mut errors),
     };
     match done {
         Ok(()) => ExitCode::SUCCESS,

@@ -9,7 +9,7 @@ mod listing;
 mod objects;
 mod open_cycle;
 pub mod parts;
-mod sheet;
+pub mod sheet;
 
 pub use confirmed_hour::ConfirmedHour;
 pub use csv_reports::{confirmed_csv, open_csv, refused_csv};

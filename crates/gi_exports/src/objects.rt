@@ -63,7 +63,7 @@ pub fn put_portfolio(out: &mut Writer, code: &Option<Code>) -> Result<(), AllocE
 }
 
 /// What was written, and a line feed.
-pub(crate) fn ended(out: Writer) -> Result<Vec<u8>, AllocError>
+pub fn ended(out: Writer) -> Result<Vec<u8>, AllocError>
     ensures { IfOk result (λ bytes. bytes.items ≡ out.before ++ (print out.tokens ++ codes "\n")) }
 {
     let mut text = out.into_inner();

@@ -8,7 +8,7 @@ use csv::{Writer, WriterBuilder};
 use std::alloc::{AllocError, Global};
 
 /// Adds a record. A writer into memory fails only for want of it.
-pub(crate) fn put_record(out: &mut Writer<Vec<u8>>, fields: &[&[u8]]) -> Result<(), AllocError>
+pub fn put_record(out: &mut Writer<Vec<u8>>, fields: &[&[u8]]) -> Result<(), AllocError>
     ensures { OnOk result (AddsText out.old out.new (record_text (map (λ field. field.now) fields.now))) }
 {
     match out.write_fields(fields) {
@@ -18,7 +18,7 @@ pub(crate) fn put_record(out: &mut Writer<Vec<u8>>, fields: &[&[u8]]) -> Result<
 }
 
 /// A writer of a text that begins with this header.
-pub(crate) fn begun(alloc: Global, header: &[&[u8]]) -> Result<Writer<Vec<u8>>, AllocError>
+pub fn begun(alloc: Global, header: &[&[u8]]) -> Result<Writer<Vec<u8>>, AllocError>
     ensures { IfOk result (λ out. HasWritten out (record_text (map (λ field. field.now) header.now))) }
 {
     let mut out = WriterBuilder::new().from_writer(Vec::new(alloc));
@@ -27,7 +27,7 @@ pub(crate) fn begun(alloc: Global, header: &[&[u8]]) -> Result<Writer<Vec<u8>>, 
 }
 
 /// What was written.
-pub(crate) fn finished(out: Writer<Vec<u8>>) -> Result<Vec<u8>, AllocError>
+pub fn finished(out: Writer<Vec<u8>>) -> Result<Vec<u8>, AllocError>
     ensures { IfOk result (λ bytes. (text : List ℕ) → HasWritten out text → bytes.items ≡ text) }
 {
     match out.into_inner() {

@@ -26,6 +26,11 @@ use Rattle.gi_live.specs.declared.query.Query.{Query}
 use Rattle.gi_live.specs.declared.query.Query.TheVariants as queries
 use Rattle.gi_live.specs.declared.query.Report.{Report}
 use Rattle.gi_live.specs.declared.query.Report.TheVariants as reports
+use Rattle.gi_live.specs.declared.query.ReportQuery.{ReportQuery}
+use Rattle.gi_changes.specs.Forms.{IsChangeJson}
+use Rattle.gi_schedule.specs.CutForms.{IsCutJson}
+use Rattle.gi_schedule.specs.Json.{IsScheduleJson}
+use Rattle.gi_schedule.specs.declared.wanted.Wanted.{Wanted}
 
 -- ---- what facts let out
 
@@ -71,9 +76,12 @@ abbrev pub rows_text : List ℕ → List ℕ
 rows_text lines = map comma_for (take (length lines - 1) lines)
 
 -- the lines of a report as JSON
-abbrev pub IsRows : Side → DeskState → Report → List ℕ → Type 0
-IsRows side desk reports.Open lines = IsOpenJson side desk lines
-IsRows side desk reports.Confirmed lines = IsConfirmedJson side desk lines
+abbrev pub IsRows : Side → DeskState → Report → Wanted → List ℕ → Type 0
+IsRows side desk reports.Open wanted lines = IsOpenJson side desk lines
+IsRows side desk reports.Confirmed wanted lines = IsConfirmedJson side desk lines
+IsRows side desk reports.Schedule wanted lines = IsScheduleJson side desk wanted lines
+IsRows side desk reports.Cut wanted lines = IsCutJson side desk wanted lines
+IsRows side desk reports.Changes wanted lines = IsChangeJson side desk wanted lines
 
 abbrev pub report_start : ℕ → List ℕ → List ℕ
 report_start line name =
@@ -96,7 +104,7 @@ explained_text line text =
 abbrev pub Tells : Side → DeskState → ℕ → Query → List ℕ → Type 0
 Tells side desk line (queries.Outgoing from) text = text ≡ outgoing_text side desk line from
 Tells side desk line queries.Facts text = text ≡ facts_text desk line
-Tells side desk line (queries.Report kind) text = (lines : List ℕ) × IsRows side desk kind lines × (text ≡ report_text line kind lines)
+Tells side desk line (queries.Report asked) text = (lines : List ℕ) × IsRows side desk asked.kind asked.wanted lines × (text ≡ report_text line asked.kind lines)
 Tells side desk line (queries.Explain question) text = text ≡ explained_text line (explanation side desk question)
 Tells side desk line (queries.Due moment) text = ⊥
 

@@ -15,9 +15,10 @@ use crate::answer::refused_line;
 use crate::asking::{MOST_LINE, text_of};
 use crate::input::InputLine;
 use crate::live_fault::LiveFault;
-use crate::query::{Query, Report, read_query};
+use crate::query::{Query, Report, ReportQuery, read_query};
 use crate::telling::add_packets;
 use crate::writing::write;
+use gi_changes::change_json;
 use gi_desk::{Desk, Fact, Role};
 use gi_explanations::{Question, explanation};
 use gi_exports::{confirmed_json, open_json};
@@ -25,6 +26,7 @@ use gi_facts::encode_fact;
 use gi_moments::Moment;
 use gi_pairs::CycleId;
 use gi_reports::closed_cycles;
+use gi_schedule::{cut_json, schedule_json};
 use gi_text::LINE_FEED;
 use json::Writer;
 use std::alloc::{AllocError, Global};
@@ -155,12 +157,15 @@ fn add_rows(text: &mut Vec<u8>, lines: &[u8]) -> Result<(), AllocError>
     add_commas(text, &lines[..lines.len().saturating_sub(1)])
 }
 
-fn rows<R: Role>(alloc: Global, desk: &Desk<R>, kind: Report) -> Result<Vec<u8>, AllocError>
-    ensures { IfOk result (λ lines. IsRows R.SIDE desk.now kind lines.items) }
+fn rows<R: Role>(alloc: Global, desk: &Desk<R>, asked: &ReportQuery) -> Result<Vec<u8>, AllocError>
+    ensures { IfOk result (λ lines. IsRows R.SIDE desk.now asked.now.kind asked.now.wanted lines.items) }
 {
-    match kind {
+    match asked.kind {
         Report::Open => open_json(alloc, desk),
         Report::Confirmed => confirmed_json(alloc, desk),
+        Report::Schedule => schedule_json(alloc, desk, &asked.wanted),
+        Report::Cut => cut_json(alloc, desk, &asked.wanted),
+        Report::Changes => change_json(alloc, desk, &asked.wanted),
     }
 }
 
@@ -170,6 +175,9 @@ fn name_of(kind: Report) -> &'static str
     match kind {
         Report::Open => "open",
         Report::Confirmed => "confirmed",
+        Report::Schedule => "schedule",
+        Report::Cut => "cut",
+        Report::Changes => "changes",
     }
 }
 
@@ -192,12 +200,12 @@ fn desk_report<R: Role>(
     alloc: Global,
     desk: &Desk<R>,
     line: u64,
-    kind: Report,
+    asked: &ReportQuery,
 ) -> Result<Vec<u8>, AllocError>
-    ensures { IfOk result (λ text. Tells R.SIDE desk.now line (queries.Report kind) text.items) }
+    ensures { IfOk result (λ text. Tells R.SIDE desk.now line (queries.Report asked.now) text.items) }
 {
-    let lines = rows(alloc, desk, kind)?;
-    report(alloc, line, kind, &lines)
+    let lines = rows(alloc, desk, asked)?;
+    report(alloc, line, asked.kind, &lines)
 }
 
 // ---- explanations
@@ -248,7 +256,7 @@ fn query_text<R: Role>(
     match query {
         Query::Outgoing(from) => outgoing(alloc, desk, line, *from),
         Query::Facts => facts(alloc, desk, line),
-        Query::Report(kind) => desk_report(alloc, desk, line, *kind),
+        Query::Report(asked) => desk_report(alloc, desk, line, asked),
         Query::Explain(question) => desk_explanation(alloc, desk, line, question),
         Query::Due(_) => unreachable!(),
     }

@@ -9,6 +9,7 @@ ghost use Rattle.gi_live.specs.declared.came.Came.TheVariants as cames;
 use crate::asking::{add, fault_of};
 use crate::came::Came;
 use crate::live_fault::LiveFault;
+use crate::outlet::Outlet;
 use crate::running::save_and_tell;
 use gi_desk::Role;
 use gi_office::{Office, Receipt, Seat};
@@ -16,7 +17,6 @@ use gi_pairs::CycleId;
 use gi_processing::Rule;
 use gi_serving::Turns;
 use std::alloc::Global;
-use std::io::Write;
 use std::sync::Wait;
 use std::sync::ledger::Ledger;
 
@@ -81,7 +81,7 @@ fn close_all<R: Role, L: Ledger, W: Wait>(
 
 /// Closes the cycles in order, saves what that records, and writes how many there are, what came of each, all of the line of this number, and
 /// what was let out. Of a fault of the saving what may be told is written before it.
-pub(crate) fn close_cycles<R: Role, L: Ledger, B: Turns, W: Wait, O: Write>(
+pub(crate) fn close_cycles<R: Role, L: Ledger, B: Turns, W: Wait, O: Outlet>(
     rt: &W,
     alloc: Global,
     office: &Office<R, L>,
@@ -94,8 +94,8 @@ pub(crate) fn close_cycles<R: Role, L: Ledger, B: Turns, W: Wait, O: Write>(
 ) -> (Seat<L>, Result<(), LiveFault>)
     requires { line < 2 ^ 63 }
     ensures place { place_of result.0 ≡ place_of seat }
-    ensures closes { OnOk result.1 (WritesClosings R.SIDE seat saved line ids.now (O.contents output.old) (O.contents output.new) result.0) }
-    ensures leaves { IfErr result.1 (LeavesClosings R.SIDE seat saved line ids.now (O.contents output.old) (O.contents output.new)) }
+    ensures closes { OnOk result.1 (WritesClosings R.SIDE seat saved line ids.now (O.told output.old) (O.told output.new) result.0) }
+    ensures leaves { IfErr result.1 (LeavesClosings R.SIDE seat saved line ids.now (O.told output.old) (O.told output.new)) }
 {
     let (seat, cames) = close_all(rt, alloc, office, seat, ids);
     match cames {

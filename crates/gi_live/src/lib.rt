@@ -33,6 +33,8 @@ mod due;
 mod input;
 mod live_fault;
 mod living;
+mod marks;
+mod outlet;
 mod packet;
 mod query;
 mod running;

@@ -2,11 +2,12 @@
 
 ghost use Rattle.std.specs.Prelude.{◌≡◌};
 ghost use Rattle.gi_script.specs.Reading.{Finds};
-ghost use Rattle.gi_live.specs.Queries.{AsksQuery, SaysKind, SaysMoment, SaysQuantity, SaysQuery, SaysStart, kind_named as kind_of, query_word as query_word_of};
+ghost use Rattle.gi_live.specs.Queries.{AsksQuery, IsPortfolioAfter, SaysMoment, SaysNarrowing, SaysQuantity, SaysQuery, SaysReport, SaysStart, SaysWanted, everything as all_wanted, kind_named as kind_of, query_word as query_word_of};
 
 use gi_explanations::Question;
 use gi_moments::Moment;
-use gi_pairs::{CycleId, Pair};
+use gi_pairs::{Code, CycleId, Pair};
+use gi_schedule::Wanted;
 use gi_script::Words;
 
 /// Which report is asked for.
@@ -16,6 +17,19 @@ pub enum Report {
     Open,
     /// The confirmed quantities.
     Confirmed,
+    /// What is in force for each hour.
+    Schedule,
+    /// Where a pair gets less than was nominated.
+    Cut,
+    /// What each confirmed cycle changed.
+    Changes,
+}
+
+/// A report, and the gas day and the portfolio to which it is narrowed.
+#[derive(Clone, Copy)]
+pub struct ReportQuery {
+    pub kind: Report,
+    pub wanted: Wanted,
 }
 
 /// What a line asks beside a call.
@@ -25,7 +39,7 @@ pub enum Query {
     Outgoing(u32),
     /// All facts.
     Facts,
-    Report(Report),
+    Report(ReportQuery),
     /// What a quantity comes from.
     Explain(Question),
     /// That the cycles be closed which are due at the moment.
@@ -63,6 +77,9 @@ fn kind_named(text: &str) -> Option<Report>
     match text {
         "open" => Some(Report::Open),
         "confirmed" => Some(Report::Confirmed),
+        "schedule" => Some(Report::Schedule),
+        "cut" => Some(Report::Cut),
+        "changes" => Some(Report::Changes),
         _ => None,
     }
 }
@@ -77,14 +94,58 @@ fn start(mut words: Words<'_>) -> Option<u32>
     Some(number)
 }
 
-fn kind(mut words: Words<'_>) -> Option<Report>
-    ensures { Finds (SaysKind words.entry) result }
+fn everything() -> Wanted
+    ensures { result ≡ all_wanted }
 {
-    let kind = kind_named(words.next()?)?;
+    Wanted {
+        day: None,
+        portfolio: None,
+    }
+}
+
+fn portfolio_after(mut words: Words<'_>) -> Option<Option<Code>>
+    ensures { Finds (IsPortfolioAfter words.entry) result }
+{
+    if words.is_empty() {
+        return Some(None);
+    }
+    let code = words.code()?;
     if !words.is_empty() {
         return None;
     }
-    Some(kind)
+    Some(Some(code))
+}
+
+fn narrowing(mut words: Words<'_>) -> Option<Wanted>
+    ensures { Finds (SaysNarrowing words.entry) result }
+{
+    if words.is_empty() {
+        return Some(everything());
+    }
+    let day = words.day()?;
+    let portfolio = portfolio_after(words)?;
+    Some(Wanted {
+        day: Some(day),
+        portfolio,
+    })
+}
+
+fn wanted(kind: Report, words: Words<'_>) -> Option<Wanted>
+    ensures { Finds (SaysWanted kind words.entry) result }
+{
+    match kind {
+        Report::Open | Report::Confirmed if words.is_empty() => Some(everything()),
+        Report::Open | Report::Confirmed => None,
+        Report::Schedule | Report::Cut | Report::Changes => narrowing(words),
+    }
+}
+
+fn asked_report(mut words: Words<'_>) -> Option<ReportQuery>
+    ensures { Finds (SaysReport words.entry) result }
+{
+    let kind = kind_named(words.next()?)?;
+    let wanted = wanted(kind, words)?;
+    Some(ReportQuery { kind, wanted })
 }
 
 /// The greatest number of a cycle that a gas day can have.
@@ -134,7 +195,7 @@ fn query_of(word: QueryWord, words: Words<'_>) -> Option<Query>
         QueryWord::Outgoing => Some(Query::Outgoing(start(words)?)),
         QueryWord::Facts if words.is_empty() => Some(Query::Facts),
         QueryWord::Facts => None,
-        QueryWord::Report => Some(Query::Report(kind(words)?)),
+        QueryWord::Report => Some(Query::Report(asked_report(words)?)),
         QueryWord::Explain => Some(Query::Explain(quantity(words)?)),
         QueryWord::Due => Some(Query::Due(moment(words)?)),
     }

@@ -15,13 +15,14 @@ use crate::asking::ask_all;
 use crate::came::Came;
 use crate::input::{InputLine, has_query, next_lines};
 use crate::live_fault::LiveFault;
-use crate::telling::{may_tell_all, saved_by, step_text};
-use crate::writing::write;
+use crate::marks::saved_now;
+use crate::outlet::Outlet;
+use crate::telling::may_tell_all;
 use gi_desk::{Answer, Role};
 use gi_office::{Note, Office, SaveFault, Seat};
-use gi_serving::{Turns, saved_all};
+use gi_serving::Turns;
 use std::alloc::Global;
-use std::io::{BufReader, Read, Write};
+use std::io::{BufReader, Read};
 use std::sync::Wait;
 use std::sync::ledger::Ledger;
 
@@ -30,31 +31,6 @@ const MOST_STEPS: u64 = 1 << 24;
 
 /// Behind so many notes of its seat a stretch ends, so that what an office keeps of its calls is bounded.
 const MOST_NOTED: usize = 100_000;
-
-/// The notes behind the first so many.
-fn notes_behind(notes: &[Note], noted: usize) -> &[Note]
-    ensures { result.now ≡ drop noted notes.now }
-{
-    &notes[noted.min(notes.len())..]
-}
-
-fn tell<O: Write>(
-    alloc: Global,
-    saved: u32,
-    line: u64,
-    cames: &[Came],
-    marks: &[Note],
-    output: &mut O,
-) -> Result<(), LiveFault>
-    requires { line + length cames.now < 2 ^ 64 }
-    ensures written { OnOk result (Appends (O.contents output.old) (O.contents output.new) (step_text_of saved line cames.now marks.now)) }
-    ensures fault { IfErr result (λ fault. (fault ≡ LiveFault.Write) ⊎ ((fault ≡ LiveFault.OutOfMemory) × (output.new ≡ output.old))) }
-{
-    match step_text(alloc, saved, line, cames, marks) {
-        Ok(text) => write(output, &text),
-        Err(_) => Err(LiveFault::OutOfMemory),
-    }
-}
 
 /// The first fault: of the writing, of the saving, or that not all could be told.
 fn first_fault(
@@ -77,7 +53,7 @@ fn first_fault(
 }
 
 /// Saves all, and writes what came of the lines from this number on, and what was let out.
-pub(crate) fn save_and_tell<R: Role, L: Ledger, B: Turns, W: Wait, O: Write>(
+pub(crate) fn save_and_tell<R: Role, L: Ledger, B: Turns, W: Wait, O: Outlet>(
     rt: &W,
     alloc: Global,
     office: &Office<R, L>,
@@ -94,22 +70,19 @@ pub(crate) fn save_and_tell<R: Role, L: Ledger, B: Turns, W: Wait, O: Write>(
     ensures marks { OnOk result.2 (NotesMarks seat result.0) }
     ensures notes { NotesTurns seat result.0 }
     ensures answered { OnOk result.2 (list_all (may_tell_of result.1) cames.items ≡ true) }
-    ensures written { OnOk result.2 (Appends (O.contents output.old) (O.contents output.new) (step_text_of result.1 line cames.items (notes_since seat result.0))) }
-    ensures leaves { IfErr result.2 (LeavesTold (step_text_of result.1 line cames.items (notes_since seat result.0)) (O.contents output.old) (O.contents output.new)) }
+    ensures written { OnOk result.2 (Appends (O.told output.old) (O.told output.new) (step_text_of result.1 line cames.items (notes_since seat result.0))) }
+    ensures leaves { IfErr result.2 (LeavesTold (step_text_of result.1 line cames.items (notes_since seat result.0)) (O.told output.old) (O.told output.new)) }
 {
-    let noted = seat.notes().len();
-    let (seat, end) = saved_all(rt, office, book, seat);
-    let marks = notes_behind(seat.notes(), noted);
-    let now = saved_by(saved, marks);
-    let told = tell(alloc, now, line, &cames, marks, output);
-    let are_told = may_tell_all(now, &cames);
+    let (seat, marks, end) = saved_now(rt, office, book, seat, saved);
+    let told = output.tell(alloc, line, &cames, &marks, seat.notes());
+    let are_told = may_tell_all(marks.saved(), &cames);
     drop(cames);
-    (seat, now, first_fault(told, end, are_told))
+    (seat, marks.saved(), first_fault(told, end, are_told))
 }
 
 /// Makes the calls that the lines ask for, behind so many lines, saves what they record, and writes what came of each line, and what
 /// was let out. Of a fault of the saving what may be told is written before it.
-fn step<R: Role, L: Ledger, B: Turns, W: Wait, O: Write>(
+fn step<R: Role, L: Ledger, B: Turns, W: Wait, O: Outlet>(
     rt: &W,
     alloc: Global,
     office: &Office<R, L>,
@@ -126,8 +99,8 @@ fn step<R: Role, L: Ledger, B: Turns, W: Wait, O: Write>(
     requires resends { ResendsFirst lines.now }
     requires has_room { HasRoom seat }
     ensures place { place_of result.0 ≡ place_of seat }
-    ensures steps { OnOk result.2 (WritesStep R.SIDE (live seat saved before) lines.now (O.contents output.old) (O.contents output.new) (live result.0 result.1 (before + length lines.now))) }
-    ensures leaves { IfErr result.2 (LeavesStep R.SIDE (live seat saved before) lines.now (O.contents output.old) (O.contents output.new)) }
+    ensures steps { OnOk result.2 (WritesStep R.SIDE (live seat saved before) lines.now (O.told output.old) (O.told output.new) (live result.0 result.1 (before + length lines.now))) }
+    ensures leaves { IfErr result.2 (LeavesStep R.SIDE (live seat saved before) lines.now (O.told output.old) (O.told output.new)) }
 {
     let (seat, cames) = ask_all(rt, alloc, office, seat, lines);
     match cames {
@@ -202,7 +175,7 @@ fn asked(lines: Vec<InputLine>) -> End
 /// lines that have come are taken together, 64 at most, and saved together. A stretch ends at the end of the input, at a
 /// query and behind 100,000 notes, unless the office is halted, of which there are 2^24 steps at most (`Read`). Else the fault is the first: what was written before it is
 /// whole. The seat comes back, and how many lines are answered.
-pub(crate) fn run<R: Role, L: Ledger, B: Turns, W: Wait, I: Read, O: Write>(
+pub(crate) fn run<R: Role, L: Ledger, B: Turns, W: Wait, I: Read, O: Outlet>(
     rt: &W,
     alloc: Global,
     office: &Office<R, L>,
@@ -218,8 +191,8 @@ pub(crate) fn run<R: Role, L: Ledger, B: Turns, W: Wait, I: Read, O: Write>(
     requires begins { HasRoom seat }
     ensures place { place_of result.0 ≡ place_of seat }
     ensures few { result.1 ≤ before + 2 ^ 30 }
-    ensures until { IfOk result.2 (RunsUntil R.SIDE (live seat saved before) (lines_left kept.old (reader_remaining I.remaining input.old)) (lines_left kept.new (reader_remaining I.remaining input.new)) (O.contents output.old) (O.contents output.new) result.0 result.1) }
-    ensures some { IfErr result.2 (RunsSome R.SIDE (live seat saved before) (lines_left kept.old (reader_remaining I.remaining input.old)) (O.contents output.old) (O.contents output.new)) }
+    ensures until { IfOk result.2 (RunsUntil R.SIDE (live seat saved before) (lines_left kept.old (reader_remaining I.remaining input.old)) (lines_left kept.new (reader_remaining I.remaining input.new)) (O.told output.old) (O.told output.new) result.0 result.1) }
+    ensures some { IfErr result.2 (RunsSome R.SIDE (live seat saved before) (lines_left kept.old (reader_remaining I.remaining input.old)) (O.told output.old) (O.told output.new)) }
 {
     let mut seat = seat;
     let mut saved = saved;

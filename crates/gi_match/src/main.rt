@@ -16,7 +16,7 @@ fn main(rt: HostRuntime) -> ExitCode {
             &mut output,
             &mut errors,
         ),
-        Err(fault) => reported(Err(fault), &mut errors),
+        Err(fault) => reported(rt.alloc(), Err(fault), &mut errors),
     };
     match done {
         Ok(()) => ExitCode::SUCCESS,

@@ -121,7 +121,7 @@ in_force side s day hour found end fits ends is =
 -- ---- numbers in turn
 
 -- what numbers from one on give, the last of them apart
-last_apart : {X : Type 0} (f : ℕ → List X) (from count : ℕ) → flat_map f (range_with_len from (suc count)) ≡ flat_map f (range_with_len from count) ++ f (from + count)
+pub last_apart : {X : Type 0} (f : ℕ → List X) (from count : ℕ) → flat_map f (range_with_len from (suc count)) ≡ flat_map f (range_with_len from count) ++ f (from + count)
 last_apart f from zero = append-nil (f from) ∙ ap f (omega arith)
 last_apart f from (suc count) =
     let next : (from + 1) + count ≡ from + suc count = omega arith in

@@ -1,22 +1,13 @@
 -- A schedule as CSV: a header line, and a line for each entry.
-use Rattle.std.specs.Prelude.{◌≡◌, ℕ, List, [], ◌∷◌, ◌++◌, Option, Some, None, codes}
+use Rattle.std.specs.Prelude.{◌≡◌, ℕ, List, [], ◌∷◌, Option, Some, None, codes}
 use Rattle.std.specs.Fmt.{decimal, signed_decimal}
-use Rattle.std.specs.List.{flat_map}
-use Rattle.csv.specs.Writing.{default_writer, row_text}
 use Rattle.gi_day.specs.Day.{day_text}
 use Rattle.gi_pairs.specs.declared.side.Side.{Side}
 use Rattle.gi_desk.specs.Machine.{DeskState}
+use Rattle.gi_exports.specs.Csv.{csv_text}
 use Rattle.gi_schedule.specs.Lines.{IsSchedule, flow_text, initiating_of, matching_of}
 use Rattle.gi_schedule.specs.declared.schedule_line.ScheduleLine.{ScheduleLine}
 use Rattle.gi_schedule.specs.declared.wanted.Wanted.{Wanted}
-
--- the text of a record: commas between its fields, and a line feed at its end
-unfoldable pub record_text : List (List ℕ) → List ℕ
-record_text fields = row_text default_writer fields
-
--- the header, and the record of each entry
-abbrev pub csv_text : {X : Type 0} → List (List ℕ) → (X → List (List ℕ)) → List X → List ℕ
-csv_text header fields entries = record_text header ++ flat_map (λ entry. record_text (fields entry)) entries
 
 abbrev pub schedule_header : List (List ℕ)
 schedule_header = codes "day" ∷ codes "cycle" ∷ codes "direction" ∷ codes "initiating" ∷ codes "matching" ∷ codes "hour" ∷ codes "quantity" ∷ []

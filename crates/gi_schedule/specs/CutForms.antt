@@ -5,14 +5,17 @@ use Rattle.std.specs.List.{flat_map}
 use Rattle.serde_json.specs.Data.{Data, string, object, no_members, member}
 use Rattle.gi_day.specs.Day.{day_text}
 use Rattle.gi_pairs.specs.Direction.{direction_text}
+use Rattle.gi_pairs.specs.declared.cycle_id.CycleId.{CycleId}
+use Rattle.gi_pairs.specs.declared.direction.Direction.{Direction}
+use Rattle.gi_pairs.specs.declared.pair.Pair.{Pair}
 use Rattle.gi_pairs.specs.declared.side.Side.{Side}
 use Rattle.gi_text.specs.Columns.{right_in}
 use Rattle.gi_messages.specs.Writing.{whole}
 use Rattle.gi_desk.specs.Machine.{DeskState}
 use Rattle.gi_reports.specs.Columns.{left_in}
-use Rattle.gi_schedule.specs.Csv.{csv_text}
+use Rattle.gi_exports.specs.Csv.{csv_text}
 use Rattle.gi_schedule.specs.Cuts.{AreCuts}
-use Rattle.gi_schedule.specs.Json.{json_lines}
+use Rattle.gi_exports.specs.Json.{json_lines}
 use Rattle.gi_schedule.specs.declared.cut_line.CutLine.{CutLine}
 use Rattle.gi_schedule.specs.declared.wanted.Wanted.{Wanted}
 
@@ -23,10 +26,10 @@ cut_word line = if nat_eq line.by_capacity 0 then codes "peer" else (if nat_eq l
 -- ---- in text
 
 -- `2026-01-15 35 IM A                B                24`
-abbrev pub place_text : CutLine → List ℕ
-place_text line =
-    day_text line.id.day ++ (codes " " ++ (right_in 2 line.id.cycle ++ (codes " " ++ (direction_text line.direction ++ (codes " "
-    ++ (left_in 16 line.pair.initiating ++ (codes " " ++ (left_in 16 line.pair.matching ++ (codes " " ++ right_in 2 line.hour)))))))))
+abbrev pub place_text : CycleId → Direction → Pair → ℕ → List ℕ
+place_text id direction pair hour =
+    day_text id.day ++ (codes " " ++ (right_in 2 id.cycle ++ (codes " " ++ (direction_text direction ++ (codes " "
+    ++ (left_in 16 pair.initiating ++ (codes " " ++ (left_in 16 pair.matching ++ (codes " " ++ right_in 2 hour)))))))))
 
 -- `          10            8            7            7`
 abbrev pub amounts_text : CutLine → List ℕ
@@ -36,7 +39,7 @@ amounts_text line =
 -- the same with what was cut: `           2            1 both`
 abbrev pub cut_text : CutLine → List ℕ
 cut_text line =
-    place_text line ++ (codes " " ++ (amounts_text line ++ (codes " " ++ (right_in 12 line.by_capacity ++ (codes " " ++ (right_in 12 line.by_peer
+    place_text line.id line.direction line.pair line.hour ++ (codes " " ++ (amounts_text line ++ (codes " " ++ (right_in 12 line.by_capacity ++ (codes " " ++ (right_in 12 line.by_peer
     ++ (codes " " ++ (cut_word line ++ codes "\n"))))))))
 
 abbrev pub cuts_text : List CutLine → List ℕ

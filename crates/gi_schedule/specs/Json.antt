@@ -1,36 +1,16 @@
 -- A schedule as JSON lines: an object for each entry, compact, its keys in byte order.
-use Rattle.std.specs.Prelude.{◌≡◌, ℕ, ℤ, pos, negsuc, List, ◌∷◌, ◌++◌, Option, Some, None, Result, IfOk, codes}
-use Rattle.std.specs.List.{flat_map}
-use Rattle.json.specs.Token.{Token}
-use Rattle.json.specs.Written.{Written}
+use Rattle.std.specs.Prelude.{◌≡◌, ℕ, ℤ, pos, negsuc, List, Option, Some, None, codes}
 use Rattle.serde_json.specs.Data.{Data, negative, null, number, string, object, no_members, member}
-use Rattle.serde_json.specs.Written.{compact_text}
 use Rattle.gi_day.specs.Day.{day_text}
 use Rattle.gi_pairs.specs.declared.side.Side.{Side}
-use Rattle.gi_messages.specs.Adding.{Added, tokens_of}
 use Rattle.gi_messages.specs.Writing.{whole}
 use Rattle.gi_desk.specs.Machine.{DeskState}
+use Rattle.gi_exports.specs.Json.{json_lines, number_or_null}
 use Rattle.gi_schedule.specs.Lines.{IsSchedule, flow_text, initiating_of, matching_of}
 use Rattle.gi_schedule.specs.declared.schedule_line.ScheduleLine.{ScheduleLine}
 use Rattle.gi_schedule.specs.declared.wanted.Wanted.{Wanted}
 
--- the member of an object with that name and that value is added
-abbrev pub AddsAt : {E : Type 0} → Result (Unit {0}) E → Written → Written → List ℕ → Data → Type 0
-AddsAt r old new name d = IfOk r (λ _. Added old new (Token.key name ∷ tokens_of d))
-
--- the text of a value, and a line feed
-unfoldable pub line_of : Data → List ℕ
-line_of d = compact_text d ++ codes "\n"
-
--- the line of each entry
-abbrev pub json_lines : {X : Type 0} → (X → Data) → List X → List ℕ
-json_lines value_of entries = flat_map (λ entry. line_of (value_of entry)) entries
-
--- null stands where there is no number or no code
-abbrev pub number_data : Option ℕ → Data
-number_data None = null
-number_data (Some n) = whole n
-
+-- null stands where there is no code
 abbrev pub code_data : Option (List ℕ) → Data
 code_data None = null
 code_data (Some code) = string code
@@ -42,8 +22,8 @@ signed_data (negsuc n) = number (negative (negsuc n))
 -- `{"cycle":35,"day":"2026-01-15","direction":"IM","hour":24,"initiating":"A","matching":"B","quantity":7}`
 unfoldable pub line_data : ScheduleLine → Data
 line_data line =
-    object (member (codes "cycle") (number_data line.cycle) (member (codes "day") (string (day_text line.day)) (member (codes "direction") (string (flow_text line.flow))
-    (member (codes "hour") (number_data line.hour) (member (codes "initiating") (code_data (initiating_of line))
+    object (member (codes "cycle") (number_or_null line.cycle) (member (codes "day") (string (day_text line.day)) (member (codes "direction") (string (flow_text line.flow))
+    (member (codes "hour") (number_or_null line.hour) (member (codes "initiating") (code_data (initiating_of line))
     (member (codes "matching") (code_data (matching_of line)) (member (codes "quantity") (signed_data line.quantity) no_members)))))))
 
 pub record IsScheduleJson (side : Side) (s : DeskState) (wanted : Wanted) (text : List ℕ) : Type 0 where

@@ -30,9 +30,12 @@ unfoldable pub with_each : List Key → List Key → List Key
 with_each keys [] = keys
 with_each keys (key ∷ others) = with_each (insert_key key_cmp keys key) others
 
--- in table order, each once
+-- those of the day's confirmed cycles before a number, in table order, each once
+abbrev pub keys_before : Confirmed → Option (List ℕ) → Date → ℕ → List Key
+keys_before confirmed portfolio day end = with_each [] (flat_map (λ cycle. keys_if portfolio (confirmed (cycle_of day cycle))) (range_with_len 0 end))
+
 unfoldable pub day_keys : Confirmed → Option (List ℕ) → Date → List Key
-day_keys confirmed portfolio day = with_each [] (flat_map (λ cycle. keys_if portfolio (confirmed (cycle_of day cycle))) (range_with_len 0 (last_cycle + 1)))
+day_keys confirmed portfolio day = keys_before confirmed portfolio day (last_cycle + 1)
 
 -- as many as the confirmed tables of a day have rows at most
 abbrev pub most_keys : ℕ

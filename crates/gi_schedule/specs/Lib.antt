@@ -5,7 +5,6 @@ pub mod Lines
 pub mod Columns
 pub mod Text
 pub mod Csv
-pub mod Sheet
 pub mod Json
 pub mod Nominated
 pub mod Cuts

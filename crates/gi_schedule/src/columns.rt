@@ -82,7 +82,7 @@ impl fmt::Display for CodeInSixteen {
 
 /// A number that is printed right in twelve places.
 #[derive(Clone, Copy)]
-pub(crate) struct SignedInTwelve {
+pub struct SignedInTwelve {
     pub number: i64,
 }
 
@@ -97,7 +97,7 @@ impl fmt::Display for SignedInTwelve {
 
 /// A quantity that is printed right in twelve places.
 #[derive(Clone, Copy)]
-pub(crate) struct RightInTwelve {
+pub struct RightInTwelve {
     pub number: u64,
 }
 

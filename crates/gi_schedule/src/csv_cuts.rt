@@ -1,16 +1,16 @@
 //! The cuts of a side as CSV.
 
 ghost use Rattle.std.specs.Prelude.{◌≡◌, IfOk, OnOk};
-ghost use Rattle.gi_schedule.specs.Csv.{csv_text, record_text};
+ghost use Rattle.gi_exports.specs.Csv.{csv_text, record_text};
 ghost use Rattle.gi_schedule.specs.CutForms.{IsCutCsv, cut_fields, cut_header};
-ghost use Rattle.gi_schedule.specs.Sheet.{AddsText};
+ghost use Rattle.gi_exports.specs.Sheet.{AddsText};
 
 use crate::cut_line::CutLine;
 use crate::cuts::cut_lines;
-use crate::sheet::{begun, finished, put_record};
 use crate::wanted::Wanted;
 use csv::Writer;
 use gi_desk::{Desk, Role};
+use gi_exports::sheet::{begun, finished, put_record};
 use std::alloc::{AllocError, Global};
 
 fn put_cut(alloc: Global, out: &mut Writer<Vec<u8>>, line: &CutLine) -> Result<(), AllocError>

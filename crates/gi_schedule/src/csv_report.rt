@@ -1,15 +1,16 @@
 //! A schedule as CSV.
 
 ghost use Rattle.std.specs.Prelude.{◌≡◌, IfOk, OnOk, string_bytes};
-ghost use Rattle.gi_schedule.specs.Csv.{IsScheduleCsv, code_field, csv_text, line_fields, number_field, record_text, schedule_header};
-ghost use Rattle.gi_schedule.specs.Sheet.{AddsText};
+ghost use Rattle.gi_exports.specs.Csv.{csv_text, record_text};
+ghost use Rattle.gi_schedule.specs.Csv.{IsScheduleCsv, code_field, line_fields, number_field, schedule_header};
+ghost use Rattle.gi_exports.specs.Sheet.{AddsText};
 
 use crate::listing::schedule_lines;
 use crate::schedule_line::ScheduleLine;
-use crate::sheet::{begun, finished, put_record};
 use crate::wanted::Wanted;
 use csv::Writer;
 use gi_desk::{Desk, Role};
+use gi_exports::sheet::{begun, finished, put_record};
 use gi_pairs::Code;
 use std::alloc::{AllocError, Global};
 

@@ -4,7 +4,7 @@ ghost use Rattle.std.specs.Prelude.{◌≡◌, ◌≤◌, ◌++◌, ℕ, false, 
 ghost use Rattle.gi_desk.specs.Queries.{confirmed};
 ghost use Rattle.gi_pairs.specs.Limits.{last_hour};
 ghost use Rattle.gi_pairs.specs.Quantity.{IsQuantity};
-ghost use Rattle.gi_schedule.specs.InForce.{IsInForce, cycle_in_force as cycle_of_hour, hour_if, hours_in_force as hours_of, is_covered as is_covered_by, last_confirmed as last_of, quantity_of};
+ghost use Rattle.gi_schedule.specs.InForce.{IsInForce, cycle_in_force as cycle_of_hour, hour_if, hours_in_force as hours_of, is_covered as is_covered_by, last_below, last_confirmed as last_of, quantity_of};
 
 use crate::hour_in_force::HourInForce;
 use gi_day::GasDay;
@@ -22,6 +22,20 @@ fn is_covered<R: Role>(desk: &Desk<R>, day: GasDay, hour: u8, cycle: u8) -> bool
     }
 }
 
+/// The number of the last of the day's confirmed cycles before a number that covers the hour, where
+/// there is one.
+pub fn last_before<R: Role>(desk: &Desk<R>, day: GasDay, hour: u8, end: u8) -> Option<u8>
+    ensures { result ≡ last_below (is_covered_by (confirmed R.SIDE desk.now) day hour) end }
+{
+    let mut found = None;
+    for cycle in 0..end {
+        if is_covered(desk, day, hour, cycle) {
+            found = Some(cycle);
+        }
+    }
+    found
+}
+
 /// The number of the cycle in force for an hour of a gas day: of the confirmed cycles of the day the
 /// last that covers the hour, where there is one.
 pub fn cycle_in_force<R: Role>(desk: &Desk<R>, day: GasDay, hour: u8) -> Option<u8>
@@ -31,13 +45,7 @@ pub fn cycle_in_force<R: Role>(desk: &Desk<R>, day: GasDay, hour: u8) -> Option<
         (IsInForce (confirmed R.SIDE desk.now) day hour) }
 {
     desk.reveal_invariant();
-    let mut found = None;
-    for cycle in 0..LAST_CYCLE + 1 {
-        if is_covered(desk, day, hour, cycle) {
-            found = Some(cycle);
-        }
-    }
-    found
+    last_before(desk, day, hour, LAST_CYCLE + 1)
 }
 
 /// The quantity in force for a pair, a direction and an hour, in kWh/h: what the cycle that is in

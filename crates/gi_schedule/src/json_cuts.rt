@@ -3,13 +3,13 @@
 ghost use Rattle.std.specs.Prelude.{◌≡◌, ◌++◌, IfOk};
 ghost use Rattle.gi_messages.specs.Adding.{Adds};
 ghost use Rattle.gi_schedule.specs.CutForms.{IsCutJson, cut_data};
-ghost use Rattle.gi_schedule.specs.Json.{json_lines, line_of};
+ghost use Rattle.gi_exports.specs.Json.{json_lines, line_of};
 
 use crate::cut_line::CutLine;
 use crate::cuts::cut_lines;
-use crate::objects::{ended, put_quantity, put_word};
 use crate::wanted::Wanted;
 use gi_desk::{Desk, Role};
+use gi_exports::parts::{ended, put_whole, put_word};
 use gi_messages::Key;
 use gi_messages::parts::{put_code, put_day, put_direction, put_number};
 use json::Writer;
@@ -19,19 +19,19 @@ fn put_cut(alloc: Global, out: &mut Writer, line: &CutLine) -> Result<(), AllocE
     ensures { Adds result out.old out.new (cut_data line.now) }
 {
     out.begin_object()?;
-    put_quantity(out, "by_capacity", line.by_capacity)?;
-    put_quantity(out, "by_peer", line.by_peer)?;
-    put_quantity(out, "confirmed", line.confirmed)?;
+    put_whole(out, "by_capacity", line.by_capacity)?;
+    put_whole(out, "by_peer", line.by_peer)?;
+    put_whole(out, "confirmed", line.confirmed)?;
     put_word(out, "cut", line.word())?;
     put_number(out, Key::Cycle, u64::from(line.id.cycle))?;
     put_day(alloc, out, &line.id.day)?;
     put_direction(out, line.direction)?;
-    put_quantity(out, "hour", u64::from(line.hour))?;
+    put_whole(out, "hour", u64::from(line.hour))?;
     put_code(out, Key::Initiating, &line.pair.initiating)?;
     put_code(out, Key::Matching, &line.pair.matching)?;
-    put_quantity(out, "nominated", line.nominated)?;
-    put_quantity(out, "peer", line.peer)?;
-    put_quantity(out, "processed", line.processed)?;
+    put_whole(out, "nominated", line.nominated)?;
+    put_whole(out, "peer", line.peer)?;
+    put_whole(out, "processed", line.processed)?;
     out.end_object()
 }
 

@@ -2,13 +2,15 @@
 
 ghost use Rattle.std.specs.Prelude.{◌≡◌, ◌++◌, IfOk};
 ghost use Rattle.gi_messages.specs.Adding.{Adds};
-ghost use Rattle.gi_schedule.specs.Json.{IsScheduleJson, json_lines, line_data, line_of};
+ghost use Rattle.gi_exports.specs.Json.{json_lines, line_of};
+ghost use Rattle.gi_schedule.specs.Json.{IsScheduleJson, line_data};
 
 use crate::listing::schedule_lines;
-use crate::objects::{ended, put_code_at, put_signed, put_whole, put_word};
+use crate::objects::{put_code_at, put_signed, widened};
 use crate::schedule_line::ScheduleLine;
 use crate::wanted::Wanted;
 use gi_desk::{Desk, Role};
+use gi_exports::parts::{ended, put_number_or_null, put_word};
 use gi_messages::parts::put_day;
 use json::Writer;
 use std::alloc::{AllocError, Global};
@@ -19,10 +21,10 @@ fn put_line(alloc: Global, out: &mut Writer, line: &ScheduleLine) -> Result<(), 
     let initiating = line.initiating();
     let matching = line.matching();
     out.begin_object()?;
-    put_whole(out, "cycle", line.cycle)?;
+    put_number_or_null(out, "cycle", widened(line.cycle))?;
     put_day(alloc, out, &line.day)?;
     put_word(out, "direction", line.flow.as_str())?;
-    put_whole(out, "hour", line.hour)?;
+    put_number_or_null(out, "hour", widened(line.hour))?;
     put_code_at(out, "initiating", &initiating)?;
     put_code_at(out, "matching", &matching)?;
     put_signed(out, "quantity", &line.quantity)?;

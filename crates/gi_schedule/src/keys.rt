@@ -33,7 +33,8 @@ fn add_table(keys: &mut BTreeSet<Key>, wanted: &Wanted, table: &Table) -> Result
     Ok(())
 }
 
-fn add_cycle<R: Role>(
+/// Adds each pair and direction for which a cycle, where it is confirmed, has a row with a wanted pair.
+pub fn add_cycle_keys<R: Role>(
     keys: &mut BTreeSet<Key>,
     desk: &Desk<R>,
     wanted: &Wanted,
@@ -59,7 +60,7 @@ fn collected<R: Role>(
 {
     let mut keys = BTreeSet::new(alloc);
     for cycle in 0..LAST_CYCLE + 1 {
-        add_cycle(&mut keys, desk, wanted, CycleId { day, cycle })?;
+        add_cycle_keys(&mut keys, desk, wanted, CycleId { day, cycle })?;
     }
     Ok(keys)
 }

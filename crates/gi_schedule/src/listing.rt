@@ -115,8 +115,9 @@ fn is_number(n: u8, number: Option<u8>) -> bool
     }
 }
 
+/// Whether a gas day that is wanted is listed at this cycle: it is the day's last confirmed one.
 #[tactic(auto, unfolding(crate::specs::Lines::is_listed))]
-fn is_listed<R: Role>(desk: &Desk<R>, wanted: &Wanted, id: &CycleId) -> bool
+pub fn is_listed<R: Role>(desk: &Desk<R>, wanted: &Wanted, id: &CycleId) -> bool
     ensures { result ≡ is_listed_of (confirmed R.SIDE desk.now) wanted.now id.now }
 {
     wanted.has_day(id.day) && is_number(id.cycle, last_confirmed(desk, id.day))

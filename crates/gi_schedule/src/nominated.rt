@@ -3,6 +3,7 @@
 ghost use Rattle.std.specs.Prelude.{◌≡◌, ◌≤◌, ◌-◌, find, length, take};
 ghost use Rattle.std.specs.Option.{option_copied};
 ghost use Rattle.gi_desk.specs.History.{documents_of, facts_before, is_closing};
+ghost use Rattle.gi_pairs.specs.Quantity.{IsQuantity};
 ghost use Rattle.gi_nominations.specs.Book.{in_force, is_of as is_of_day};
 ghost use Rattle.gi_processing.specs.Processing.{lines_of};
 ghost use Rattle.gi_processing.specs.Reduction.{quantity_at as quantity_of_line};
@@ -56,7 +57,12 @@ fn line_for(lines: &[NominationLine], code: Code, direction: Direction) -> Optio
     lines.iter().find(|line| is_line(line, code, direction))
 }
 
-fn line_in(document: Option<&Nomint>, code: Code, direction: Direction) -> Option<&NominationLine>
+/// A nomination's line for a counterparty and a direction.
+pub fn line_in(
+    document: Option<&Nomint>,
+    code: Code,
+    direction: Direction,
+) -> Option<&NominationLine>
     ensures { option_copied result ≡ find (is_line_of code direction) (lines_of (option_copied document.entry)) }
 {
     match document {
@@ -66,7 +72,7 @@ fn line_in(document: Option<&Nomint>, code: Code, direction: Direction) -> Optio
 }
 
 /// How many facts stand before the cycle's closing, of which all are taken where it is not closed.
-fn count_before<R: Role>(desk: &Desk<R>, id: CycleId) -> u32
+pub fn count_before<R: Role>(desk: &Desk<R>, id: CycleId) -> u32
     ensures value { take result desk.now.facts ≡ facts_before (is_closing id) desk.now.facts }
     ensures within { result ≤ length desk.now.facts }
 {
@@ -91,7 +97,8 @@ pub(crate) fn nominated_line<'a, R: Role>(
 }
 
 fn quantity_at(line: &NominationLine, hour: u8) -> u64
-    ensures { result ≡ quantity_of_line (hour - 1) line.now }
+    ensures value { result ≡ quantity_of_line (hour - 1) line.now }
+    ensures in_range { IsQuantity result }
 {
     match line
         .hours
@@ -104,8 +111,9 @@ fn quantity_at(line: &NominationLine, hour: u8) -> u64
 }
 
 /// What a line nominates for an hour, numbered from 1, in kWh/h; 0 where there is none.
-pub(crate) fn quantity(line: Option<&NominationLine>, hour: u8) -> u64
-    ensures { result ≡ quantity_if hour (option_copied line.entry) }
+pub fn quantity(line: Option<&NominationLine>, hour: u8) -> u64
+    ensures value { result ≡ quantity_if hour (option_copied line.entry) }
+    ensures in_range { IsQuantity result }
 {
     match line {
         Some(line) => quantity_at(line, hour),

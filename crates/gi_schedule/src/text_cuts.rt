@@ -8,25 +8,31 @@ use crate::cut_line::CutLine;
 use crate::cuts::cut_lines;
 use crate::wanted::Wanted;
 use gi_desk::{Desk, Role};
+use gi_pairs::{CycleId, Direction, Pair};
 use std::alloc::{AllocError, Global};
 
-fn place_text(alloc: Global, line: &CutLine) -> Result<String, AllocError>
-    ensures { IfOk result (λ text. string_bytes text ≡ text_of_place line.now) }
+/// The day, the cycle's number right in 2 places, the direction, the initiating and the matching code
+/// left in 16, and the hour right in 2.
+pub fn place_text(
+    alloc: Global,
+    id: &CycleId,
+    direction: Direction,
+    pair: &Pair,
+    hour: u8,
+) -> Result<String, AllocError>
+    ensures { IfOk result (λ text. string_bytes text ≡ text_of_place id.now direction pair.now hour) }
 {
-    let day = line.id.day;
+    let day = id.day;
     let cycle = NumberInTwo {
-        number: Some(line.id.cycle),
+        number: Some(id.cycle),
     };
-    let direction = line.direction;
     let initiating = CodeInSixteen {
-        code: Some(line.pair.initiating),
+        code: Some(pair.initiating),
     };
     let matching = CodeInSixteen {
-        code: Some(line.pair.matching),
+        code: Some(pair.matching),
     };
-    let hour = NumberInTwo {
-        number: Some(line.hour),
-    };
+    let hour = NumberInTwo { number: Some(hour) };
     format!(in alloc; "{day} {cycle} {direction} {initiating} {matching} {hour}")
 }
 
@@ -49,7 +55,7 @@ fn amounts_text(alloc: Global, line: &CutLine) -> Result<String, AllocError>
 fn cut_text(alloc: Global, line: &CutLine) -> Result<String, AllocError>
     ensures { IfOk result (λ text. string_bytes text ≡ text_of line.now) }
 {
-    let place = place_text(alloc, line)?;
+    let place = place_text(alloc, &line.id, line.direction, &line.pair, line.hour)?;
     let amounts = amounts_text(alloc, line)?;
     let capacity = RightInTwelve {
         number: line.by_capacity,

@@ -5,7 +5,7 @@ use Rattle.std.specs.Io.KnownBytes.{Keeps}
 use Rattle.clap.specs.Words.{HasKind, IsAmong, kind_of}
 use Rattle.clap.specs.declared.error.Error.{Error}
 use Rattle.clap.specs.declared.error.kind.ErrorKind.TheVariants as kind
-use Rattle.gi_command_line.specs.Asked.{Wanted, about_book, at_once, audit, explain, hours, match_tables, mistaken, office, report, serve, simulate}
+use Rattle.gi_command_line.specs.Asked.{Wanted, about_book, at_once, audit, explain, hours, match_tables, mistaken, office, page, report, serve, simulate}
 use Rattle.gi_command_line.specs.CommandLine.{IsMistaken, objections}
 use Rattle.gi_table_commands.specs.Match.{IsFirstFault}
 use Rattle.gi_table_commands.specs.declared.fault.Fault.TheVariants as table
@@ -27,6 +27,7 @@ may_want from (at_once (hours day)) remaining = (table.OutOfMemory, refl, tt)
 may_want from (at_once (simulate trace)) remaining = if_some remaining (λ input. IsFirstScriptFault HasScript input fault.OutOfMemory) (λ input. tt)
 may_want from (at_once (report kind format side words book)) remaining = inl refl
 may_want from (at_once (explain format side words book)) remaining = inl refl
+may_want from (at_once (page side word book)) remaining = inl refl
 may_want from (at_once (audit format initiating matching point)) remaining = tt
 may_want from (at_once (about_book file expected)) remaining = tt
 may_want from (at_once mistaken) remaining = inr refl
@@ -42,6 +43,8 @@ may_leave (at_once (report kind format side words None)) remaining = tt
 may_leave (at_once (report kind format side words (Some book))) remaining = keeps_same remaining
 may_leave (at_once (explain format side words None)) remaining = tt
 may_leave (at_once (explain format side words (Some book))) remaining = keeps_same remaining
+may_leave (at_once (page side word None)) remaining = tt
+may_leave (at_once (page side word (Some book))) remaining = keeps_same remaining
 may_leave (at_once (audit format initiating matching point)) remaining = keeps_same remaining
 may_leave (at_once (about_book file expected)) remaining = keeps_same remaining
 may_leave (at_once mistaken) remaining = keeps_same remaining
@@ -55,6 +58,7 @@ may_keep from (at_once (hours day)) remaining old new kept = kept
 may_keep from (at_once (simulate trace)) remaining old new kept = if_some remaining (λ input. CutsShort trace input old new) (λ input. inl kept)
 may_keep from (at_once (report kind format side words book)) remaining old new kept = kept
 may_keep from (at_once (explain format side words book)) remaining old new kept = kept
+may_keep from (at_once (page side word book)) remaining old new kept = kept
 may_keep from (at_once (audit format initiating matching point)) remaining old new kept = kept
 may_keep from (at_once (about_book file expected)) remaining old new kept = kept
 may_keep from (at_once mistaken) remaining old new kept = kept

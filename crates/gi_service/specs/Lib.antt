@@ -7,3 +7,4 @@ pub mod Pasts
 pub mod Status
 pub mod Serving
 pub mod Tasks
+pub mod Teaching

@@ -1,13 +1,15 @@
 //! From the words of a command line to what is written, and the fault: all commands together.
 
-ghost use Rattle.std.specs.Prelude.{◌≡◌, ◌≢◌, ◌⊎◌, [], IfErr, IsErrAnd, OnOk, Err, map};
-ghost use Rattle.std.specs.Io.KnownBytes.{Keeps};
+ghost use Rattle.std.specs.Prelude.{◌≡◌, ◌≢◌, ◌⊎◌, [], IfErr, IfSome, IsErrAnd, None, OnOk, Err, map};
+ghost use Rattle.std.specs.Io.KnownBytes.{Appends, Keeps};
 ghost use Rattle.clap.specs.Words.{kind_of};
 ghost use Rattle.gi_command_line.specs.CommandLine.{AsksForHelp, IsMistaken, asked, objections};
+ghost use Rattle.gi_service.specs.Teaching.{taught_by};
 ghost use Rattle.gi_service.specs.Tasks.{DoesTask, IsTaskFault, LeavesTask, LeavesNothingBut, MayReadTask, NamesNoCode, no_task_code};
 
 use crate::program_fault::ProgramFault;
 use crate::tasks::perform_task;
+use crate::teaching::{taught, teach};
 use clap::Error;
 use clap::error::ErrorKind;
 use gi_command_line::{Mistake, Request, Task, requested};
@@ -15,15 +17,17 @@ use gi_commands::Fault;
 use gi_serving::Watch;
 use gi_store::BookSource;
 use gi_table_commands::reported;
+use std::alloc::Global;
 use std::convert::AsStr;
-use std::io::{Read, Write};
+use std::io::{IsTerminal, Read, Write};
 use std::sync::Wait;
 use std::thread::Threads;
 use std::time::Clock;
 
 /// Writes what `clap` says in place of a command: help and the version to the output, and what is
 /// wrong with the words to the errors.
-fn explain<W: Write, E: Write>(
+fn explain<W: Write, E: Write + IsTerminal>(
+    alloc: Global,
     said: &Error,
     output: &mut W,
     errors: &mut E,
@@ -38,7 +42,7 @@ fn explain<W: Write, E: Write>(
     ensures silent { OnOk result (Keeps (E.contents errors.old) (E.contents errors.new)) }
     ensures leaves { IfErr result (LeavesNothingBut (W.contents output.old) (W.contents output.new)) }
 {
-    match gi_table_commands::explain(said, output, errors) {
+    match gi_table_commands::explain(alloc, said, output, errors) {
         Ok(()) => Ok(()),
         Err(fault) => Err(ProgramFault::from(fault)),
     }
@@ -53,18 +57,13 @@ fn point_out<E: Write>(mistake: Mistake<'_>, errors: &mut E) -> Result<(), Progr
     }
 }
 
-/// Does what the words ask for, the first being the program's own name, and answers the fault, if
-/// any. Words in which `clap` objects to nothing ask for the command that they name, or else for
-/// `match`. Books are read from `books`, by the names in the words, and those of `serve` are files. A
-/// fault is one line on `errors` (a wrong command line has more words there) and nothing
-/// on `output`, unless memory runs out in a script's step, a running office gives up, books differ or
-/// close no cycle, or a writer fails: that is `Write`, after all other faults but those four.
-pub fn dispatch<
+/// What words ask for that ask for no name's meaning, as [`dispatch`] says.
+fn dispatch_command<
     B: BookSource,
     S: AsStr,
     R: Read,
     W: Write,
-    E: Write,
+    E: Write + IsTerminal,
     T: Threads + Wait + Clock + Copy + Send + Sync + 'static,
     V: Watch,
 >(
@@ -101,9 +100,65 @@ pub fn dispatch<
     match requested(rt.alloc(), words) {
         Ok(Task::AtOnce(Request::Mistaken(mistake))) => point_out(mistake, errors),
         Ok(task) => reported(
+            rt.alloc(),
             perform_task(rt, threads, watch, books, &task, input, output),
             errors,
         ),
-        Err(said) => explain(&said, output, errors),
+        Err(said) => explain(rt.alloc(), &said, output, errors),
+    }
+}
+
+/// Does what the words ask for, the first being the program's own name, and answers the fault, if
+/// any. `help` with a name that the program prints asks for what that means, which [`gi_names::NAMES`]
+/// tells. Of all other words, those in which `clap` objects to nothing ask for the command that they
+/// name, or else for `match`. Books are read from `books`, by the names in the words, and those of `serve` are files. A
+/// fault is one line on `errors`, and what it means behind it where that is a terminal (a wrong command line has more words there), and
+/// nothing on `output`, unless memory runs out in a script's step, a running office gives up, books differ or
+/// close no cycle, or a writer fails: that is `Write`, after all other faults but those four.
+pub fn dispatch<
+    B: BookSource,
+    S: AsStr,
+    R: Read,
+    W: Write,
+    E: Write + IsTerminal,
+    T: Threads + Wait + Clock + Copy + Send + Sync + 'static,
+    V: Watch,
+>(
+    rt: &HostRuntime,
+    threads: &T,
+    watch: &mut V,
+    books: &B,
+    words: &[S],
+    input: &mut R,
+    output: &mut W,
+    errors: &mut E,
+) -> Result<(), ProgramFault>
+    ensures teaches { IfSome (taught_by (map S.text words.now)) (λ text. OnOk result (Appends (W.contents output.old) (W.contents output.new) text)) }
+    ensures teaches_or_fails { IfSome (taught_by (map S.text words.now)) (λ text. IfErr result (λ fault. fault ≡ ProgramFault.Command Fault.Write)) }
+    ensures teaches_unread { IfSome (taught_by (map S.text words.now)) (λ text. Keeps (R.remaining input.old) (R.remaining input.new)) }
+    ensures done { taught_by (map S.text words.now) ≡ None → objections (map S.text words.now) ≡ [] → OnOk result (
+        DoesTask (B.gives books.now) (asked (map S.text words.now)) (R.remaining input.old) (W.contents output.old) (W.contents output.new)) }
+    ensures first { taught_by (map S.text words.now) ≡ None → objections (map S.text words.now) ≡ []
+        → IfErr result (IsTaskFault (B.gives books.now) (asked (map S.text words.now)) (R.remaining input.old)) }
+    ensures leaves { taught_by (map S.text words.now) ≡ None → objections (map S.text words.now) ≡ [] → IfErr result (
+        LeavesTask (B.gives books.now) (asked (map S.text words.now)) (R.remaining input.old) (W.contents output.old) (W.contents output.new)) }
+    ensures unread { taught_by (map S.text words.now) ≡ None → objections (map S.text words.now) ≡ []
+        → MayReadTask (asked (map S.text words.now)) (R.remaining input.old) (R.remaining input.new) }
+    // A point that is no code is told whatever the file is.
+    ensures code { taught_by (map S.text words.now) ≡ None → objections (map S.text words.now) ≡ [] → NamesNoCode (asked (map S.text words.now))
+        → IsErrAnd result (λ fault. (fault ≡ no_task_code) ⊎ (fault ≡ ProgramFault.Command Fault.OutOfMemory)) }
+    ensures silent { OnOk result (Keeps (E.contents errors.old) (E.contents errors.new)) }
+    ensures unread_where_refused { taught_by (map S.text words.now) ≡ None → objections (map S.text words.now) ≢ []
+        → Keeps (R.remaining input.old) (R.remaining input.new) }
+    ensures nothing_where_refused { taught_by (map S.text words.now) ≡ None → objections (map S.text words.now) ≢ []
+        → IfErr result (LeavesNothingBut (W.contents output.old) (W.contents output.new)) }
+    ensures taught { taught_by (map S.text words.now) ≡ None → AsksForHelp (map S.text words.now) →
+        IfErr result (λ fault. (fault ≡ ProgramFault.Command Fault.Write) ⊎ (fault ≡ ProgramFault.Command Fault.OutOfMemory)) }
+    ensures mistaken { taught_by (map S.text words.now) ≡ None → IsMistaken (map S.text words.now) →
+        IsErrAnd result (λ fault. (fault ≡ ProgramFault.Command Fault.CommandLine) ⊎ (fault ≡ ProgramFault.Command Fault.OutOfMemory)) }
+{
+    match taught(words) {
+        Some(entry) => reported(rt.alloc(), teach(entry, output), errors),
+        None => dispatch_command(rt, threads, watch, books, words, input, output, errors),
     }
 }

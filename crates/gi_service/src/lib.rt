@@ -12,6 +12,7 @@ mod service;
 mod standing;
 mod stations;
 mod tasks;
+mod teaching;
 
 pub use dispatching::dispatch;
 pub use living::run_office;

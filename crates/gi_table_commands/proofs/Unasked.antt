@@ -5,7 +5,7 @@ use Rattle.std.specs.Io.KnownBytes.{Keeps}
 use Rattle.clap.specs.Words.{HasKind, IsAmong, Kinds, kind_of}
 use Rattle.clap.specs.declared.error.Error.{Error}
 use Rattle.clap.specs.declared.error.kind.ErrorKind.TheVariants as kind
-use Rattle.gi_command_line.specs.Asked.{Wanted, about_book, at_once, audit, explain, hours, match_tables, mistaken, office, report, serve, simulate}
+use Rattle.gi_command_line.specs.Asked.{Wanted, about_book, at_once, audit, explain, hours, match_tables, mistaken, office, page, report, serve, simulate}
 use Rattle.gi_command_line.specs.CommandLine.{IsMistaken, objections}
 use Rattle.gi_table_commands.specs.Match.{IsFirstFault}
 use Rattle.gi_table_commands.specs.Tables.{IsTablesFault, MayReadTables}
@@ -33,6 +33,7 @@ may_want (at_once (hours day)) remaining = tt
 may_want (at_once (simulate trace)) remaining = inr refl
 may_want (at_once (report kind format side words book)) remaining = inr refl
 may_want (at_once (explain format side words book)) remaining = inr refl
+may_want (at_once (page side word book)) remaining = inr refl
 may_want (at_once (audit format initiating matching point)) remaining = inr refl
 may_want (at_once (about_book file expected)) remaining = inr refl
 may_want (at_once mistaken) remaining = inr refl
@@ -46,6 +47,7 @@ may_leave (at_once (hours day)) remaining = keeps_same remaining
 may_leave (at_once (simulate trace)) remaining = keeps_same remaining
 may_leave (at_once (report kind format side words book)) remaining = keeps_same remaining
 may_leave (at_once (explain format side words book)) remaining = keeps_same remaining
+may_leave (at_once (page side word book)) remaining = keeps_same remaining
 may_leave (at_once (audit format initiating matching point)) remaining = keeps_same remaining
 may_leave (at_once (about_book file expected)) remaining = keeps_same remaining
 may_leave (at_once mistaken) remaining = keeps_same remaining

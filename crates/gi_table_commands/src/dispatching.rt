@@ -13,7 +13,7 @@ use crate::said::{explain, point_out, reported};
 use gi_command_line::{Request, Task, requested};
 use std::alloc::Global;
 use std::convert::AsStr;
-use std::io::{Read, Write};
+use std::io::{IsTerminal, Read, Write};
 use std::thread::Threads;
 
 /// Tells which program has a command that this one has not.
@@ -27,7 +27,7 @@ fn refer<E: Write>(errors: &mut E) -> Result<(), Fault>
     Err(Fault::CommandLine)
 }
 
-fn perform_tables<R: Read, W: Write, E: Write>(
+fn perform_tables<R: Read, W: Write, E: Write + IsTerminal>(
     threads: &(impl Threads + Sync),
     alloc: Global,
     task: Task<'_>,
@@ -44,9 +44,11 @@ fn perform_tables<R: Read, W: Write, E: Write>(
 {
     match task {
         Task::AtOnce(Request::Match) => {
-            reported(match_tables(threads, alloc, input, output), errors)
+            reported(alloc, match_tables(threads, alloc, input, output), errors)
         }
-        Task::AtOnce(Request::Hours(day)) => reported(tell_hours(alloc, day, output), errors),
+        Task::AtOnce(Request::Hours(day)) => {
+            reported(alloc, tell_hours(alloc, day, output), errors)
+        }
         Task::AtOnce(Request::Mistaken(mistake)) => point_out(mistake, errors),
         Task::AtOnce(_) => refer(errors),
         Task::Office(_) => refer(errors),
@@ -57,9 +59,9 @@ fn perform_tables<R: Read, W: Write, E: Write>(
 /// Does what the words ask for, the first being the program's own name, and answers the fault, if
 /// any, as the whole program does. Words in which `clap` objects to nothing ask for the command that
 /// they name, or else for `match`. A command other than `match` and `hours` is a wrong command line.
-/// A fault is one line on `errors` (a wrong command line has more words there) and nothing on
-/// `output`, unless a writer fails: that is `Write`, after all other faults.
-pub fn dispatch_tables<S: AsStr, R: Read, W: Write, E: Write>(
+/// A fault is one line on `errors`, and what it means behind it where that is a terminal (a wrong command line has more words there),
+/// and nothing on `output`, unless a writer fails: that is `Write`, after all other faults.
+pub fn dispatch_tables<S: AsStr, R: Read, W: Write, E: Write + IsTerminal>(
     threads: &(impl Threads + Sync),
     alloc: Global,
     words: &[S],
@@ -84,6 +86,6 @@ pub fn dispatch_tables<S: AsStr, R: Read, W: Write, E: Write>(
 {
     match requested(alloc, words) {
         Ok(task) => perform_tables(threads, alloc, task, input, output, errors),
-        Err(said) => explain(&said, output, errors),
+        Err(said) => explain(alloc, &said, output, errors),
     }
 }

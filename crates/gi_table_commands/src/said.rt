@@ -9,24 +9,45 @@ use crate::fault::Fault;
 use clap::Error;
 use clap::error::ErrorKind;
 use gi_command_line::Mistake;
+use gi_names::{NAMES, hint_in};
+use std::alloc::Global;
 use std::fmt::Display;
-use std::io::Write;
+use std::io::{IsTerminal, Write};
 
-/// Writes the one line that names the fault, where there is one. A writer that fails leaves it at
-/// that.
-pub fn reported<F: Display, E: Write>(done: Result<(), F>, errors: &mut E) -> Result<(), F>
+/// Tells what a fault's name means, where memory is there: lines that are indented.
+fn tell_meaning<F: Display, E: Write>(alloc: Global, fault: &F, errors: &mut E) {
+    let Ok(said) = format!(in alloc; "{fault}") else {
+        return;
+    };
+    if let Some(meaning) = hint_in(NAMES, &said) {
+        let _ = errors.write_all(meaning.as_bytes());
+    }
+    drop(said);
+}
+
+/// Writes the one line that names the fault, where there is one, and to a terminal what that name means. A writer that fails leaves
+/// it at that.
+pub fn reported<F: Display, E: Write + IsTerminal>(
+    alloc: Global,
+    done: Result<(), F>,
+    errors: &mut E,
+) -> Result<(), F>
     ensures same { result ≡ done }
     ensures silent { OnOk result (Keeps (E.contents errors.old) (E.contents errors.new)) }
 {
     if let Err(fault) = &done {
         let _ = writeln!(errors, "gi_dispatch: {fault}");
+        if errors.is_terminal() {
+            tell_meaning(alloc, fault, errors);
+        }
     }
     done
 }
 
 /// Writes what `clap` says in place of a command: help and the version to the output, and what is
 /// wrong with the words to the errors.
-pub fn explain<W: Write, E: Write>(
+pub fn explain<W: Write, E: Write + IsTerminal>(
+    alloc: Global,
     said: &Error,
     output: &mut W,
     errors: &mut E,
@@ -42,7 +63,7 @@ pub fn explain<W: Write, E: Write>(
     ensures leaves { IfErr result (LeavesNothing (W.contents output.old) (W.contents output.new)) }
 {
     if said.kind() == ErrorKind::OutOfMemory {
-        return reported(Err(Fault::OutOfMemory), errors);
+        return reported(alloc, Err(Fault::OutOfMemory), errors);
     }
     if said.use_stderr() {
         let _ = write!(errors, "{said}");
@@ -50,7 +71,7 @@ pub fn explain<W: Write, E: Write>(
     }
     match write!(output, "{said}") {
         Ok(()) => Ok(()),
-        Err(_) => reported(Err(Fault::Write), errors),
+        Err(_) => reported(alloc, Err(Fault::Write), errors),
     }
 }
 

@@ -11,7 +11,7 @@ use Rattle.gi_command_line.specs.ReportWords.{can_be_narrowed, format_text, kind
 use Rattle.gi_command_line.specs.declared.request.Format.{Format}
 use Rattle.gi_command_line.specs.declared.request.Format.TheVariants.{Text, Csv, Json}
 use Rattle.gi_command_line.specs.declared.request.ReportKind.{ReportKind}
-use Rattle.gi_command_line.specs.declared.request.ReportKind.TheVariants.{Open, Confirmed, Refused, Schedule, Cut}
+use Rattle.gi_command_line.specs.declared.request.ReportKind.TheVariants.{Open, Confirmed, Refused, Schedule, Cut, Changes}
 use Rattle.gi_command_line.proofs.laws.report_is_taken.Goals as goal
 
 no_objection : (program : List ℕ) (kind : ReportKind) (side : Side) → objections (report_words program kind side []) ≡ []
@@ -25,7 +25,9 @@ no_objection program Refused M = refl
 no_objection program Schedule I = refl
 no_objection program Schedule M = refl
 no_objection program Cut I = refl
+no_objection program Changes I = refl
 no_objection program Cut M = refl
+no_objection program Changes M = refl
 
 asks : (program : List ℕ) (kind : ReportKind) (side : Side) → asked (report_words program kind side []) ≡ at_once (report kind Text side not_narrowed None)
 unfolding clap_on_literals side_named
@@ -38,7 +40,9 @@ asks program Refused M = refl
 asks program Schedule I = refl
 asks program Schedule M = refl
 asks program Cut I = refl
+asks program Changes I = refl
 asks program Cut M = refl
+asks program Changes M = refl
 
 no_objection_to_format : (program : List ℕ) (kind : ReportKind) (side : Side) (format : Format) → objections (report_words program kind side (codes "--format" ∷ format_text format ∷ [])) ≡ []
 unfolding clap_on_literals side_named
@@ -67,11 +71,17 @@ no_objection_to_format program Schedule M Text = refl
 no_objection_to_format program Schedule M Csv = refl
 no_objection_to_format program Schedule M Json = refl
 no_objection_to_format program Cut I Text = refl
+no_objection_to_format program Changes I Text = refl
 no_objection_to_format program Cut I Csv = refl
+no_objection_to_format program Changes I Csv = refl
 no_objection_to_format program Cut I Json = refl
+no_objection_to_format program Changes I Json = refl
 no_objection_to_format program Cut M Text = refl
+no_objection_to_format program Changes M Text = refl
 no_objection_to_format program Cut M Csv = refl
+no_objection_to_format program Changes M Csv = refl
 no_objection_to_format program Cut M Json = refl
+no_objection_to_format program Changes M Json = refl
 
 asks_in_format : (program : List ℕ) (kind : ReportKind) (side : Side) (format : Format) → asked (report_words program kind side (codes "--format" ∷ format_text format ∷ [])) ≡ at_once (report kind format side not_narrowed None)
 unfolding clap_on_literals side_named
@@ -100,11 +110,17 @@ asks_in_format program Schedule M Text = refl
 asks_in_format program Schedule M Csv = refl
 asks_in_format program Schedule M Json = refl
 asks_in_format program Cut I Text = refl
+asks_in_format program Changes I Text = refl
 asks_in_format program Cut I Csv = refl
+asks_in_format program Changes I Csv = refl
 asks_in_format program Cut I Json = refl
+asks_in_format program Changes I Json = refl
 asks_in_format program Cut M Text = refl
+asks_in_format program Changes M Text = refl
 asks_in_format program Cut M Csv = refl
+asks_in_format program Changes M Csv = refl
 asks_in_format program Cut M Json = refl
+asks_in_format program Changes M Json = refl
 
 no_objection_to_book : (program file point : List ℕ) (kind : ReportKind) (side : Side) → objections (report_words program kind side (book_words file point)) ≡ []
 unfolding clap_on_literals side_named
@@ -117,7 +133,9 @@ no_objection_to_book program file point Refused M = refl
 no_objection_to_book program file point Schedule I = refl
 no_objection_to_book program file point Schedule M = refl
 no_objection_to_book program file point Cut I = refl
+no_objection_to_book program file point Changes I = refl
 no_objection_to_book program file point Cut M = refl
+no_objection_to_book program file point Changes M = refl
 
 asks_of_book : (program file point : List ℕ) (kind : ReportKind) (side : Side) → asked (report_words program kind side (book_words file point)) ≡ at_once (report kind Text side not_narrowed (Some (file, point)))
 unfolding clap_on_literals side_named
@@ -130,7 +148,9 @@ asks_of_book program file point Refused M = refl
 asks_of_book program file point Schedule I = refl
 asks_of_book program file point Schedule M = refl
 asks_of_book program file point Cut I = refl
+asks_of_book program file point Changes I = refl
 asks_of_book program file point Cut M = refl
+asks_of_book program file point Changes M = refl
 
 no_objection_in_words : (program file point : List ℕ) (kind : ReportKind) (side : Side) → objections (report_words program kind side (book_in_words file point)) ≡ []
 unfolding clap_on_literals side_named
@@ -143,7 +163,9 @@ no_objection_in_words program file point Refused M = refl
 no_objection_in_words program file point Schedule I = refl
 no_objection_in_words program file point Schedule M = refl
 no_objection_in_words program file point Cut I = refl
+no_objection_in_words program file point Changes I = refl
 no_objection_in_words program file point Cut M = refl
+no_objection_in_words program file point Changes M = refl
 
 asks_in_words : (program file point : List ℕ) (kind : ReportKind) (side : Side) → asked (report_words program kind side (book_in_words file point)) ≡ at_once (report kind Text side not_narrowed (Some (codes "day" ++ file, codes "BORDER" ++ point)))
 unfolding clap_on_literals side_named
@@ -156,7 +178,9 @@ asks_in_words program file point Refused M = refl
 asks_in_words program file point Schedule I = refl
 asks_in_words program file point Schedule M = refl
 asks_in_words program file point Cut I = refl
+asks_in_words program file point Changes I = refl
 asks_in_words program file point Cut M = refl
+asks_in_words program file point Changes M = refl
 
 no_side : (program : List ℕ) (kind : ReportKind) → objections (program ∷ codes "report" ∷ kind_text kind ∷ []) ≡ MissingRequiredArgument ∷ []
 unfolding clap_on_literals side_named
@@ -165,6 +189,7 @@ no_side program Confirmed = refl
 no_side program Refused = refl
 no_side program Schedule = refl
 no_side program Cut = refl
+no_side program Changes = refl
 
 no_objection_to_file : (program file : List ℕ) (kind : ReportKind) (side : Side) → objections (report_words program kind side (with_value (codes "book") file ∷ [])) ≡ []
 unfolding clap_on_literals side_named
@@ -177,7 +202,9 @@ no_objection_to_file program file Refused M = refl
 no_objection_to_file program file Schedule I = refl
 no_objection_to_file program file Schedule M = refl
 no_objection_to_file program file Cut I = refl
+no_objection_to_file program file Changes I = refl
 no_objection_to_file program file Cut M = refl
+no_objection_to_file program file Changes M = refl
 
 asks_in_wrong_words : (program file : List ℕ) (kind : ReportKind) (side : Side) → asked (report_words program kind side (with_value (codes "book") file ∷ [])) ≡ at_once mistaken
 unfolding clap_on_literals side_named
@@ -190,7 +217,9 @@ asks_in_wrong_words program file Refused M = refl
 asks_in_wrong_words program file Schedule I = refl
 asks_in_wrong_words program file Schedule M = refl
 asks_in_wrong_words program file Cut I = refl
+asks_in_wrong_words program file Changes I = refl
 asks_in_wrong_words program file Cut M = refl
+asks_in_wrong_words program file Changes M = refl
 
 no_objection_to_narrowing : (program day portfolio : List ℕ) (kind : ReportKind) (side : Side) → objections (report_words program kind side (narrowing_options day portfolio)) ≡ []
 unfolding clap_on_literals side_named
@@ -203,7 +232,9 @@ no_objection_to_narrowing program day portfolio Refused M = refl
 no_objection_to_narrowing program day portfolio Schedule I = refl
 no_objection_to_narrowing program day portfolio Schedule M = refl
 no_objection_to_narrowing program day portfolio Cut I = refl
+no_objection_to_narrowing program day portfolio Changes I = refl
 no_objection_to_narrowing program day portfolio Cut M = refl
+no_objection_to_narrowing program day portfolio Changes M = refl
 
 asks_narrowed : (program day portfolio : List ℕ) (kind : ReportKind) (side : Side) → can_be_narrowed kind ≡ true
     → asked (report_words program kind side (narrowing_options day portfolio)) ≡ at_once (report kind Text side (record { day = Some day; portfolio = Some portfolio }) None)
@@ -214,7 +245,9 @@ asks_narrowed program day portfolio Refused side e = absurd (true≢false (sym e
 asks_narrowed program day portfolio Schedule I e = refl
 asks_narrowed program day portfolio Schedule M e = refl
 asks_narrowed program day portfolio Cut I e = refl
+asks_narrowed program day portfolio Changes I e = refl
 asks_narrowed program day portfolio Cut M e = refl
+asks_narrowed program day portfolio Changes M e = refl
 
 asks_wrongly : (program day portfolio : List ℕ) (kind : ReportKind) (side : Side) → can_be_narrowed kind ≡ false
     → asked (report_words program kind side (narrowing_options day portfolio)) ≡ at_once mistaken
@@ -227,6 +260,7 @@ asks_wrongly program day portfolio Refused I e = refl
 asks_wrongly program day portfolio Refused M e = refl
 asks_wrongly program day portfolio Schedule side e = absurd (true≢false e)
 asks_wrongly program day portfolio Cut side e = absurd (true≢false e)
+asks_wrongly program day portfolio Changes side e = absurd (true≢false e)
 
 pub returns-clause-narrowed : goal.returns-clause-narrowed
 returns-clause-narrowed c = λ program day portfolio kind side can. (no_objection_to_narrowing program day portfolio kind side, asks_narrowed program day portfolio kind side can)

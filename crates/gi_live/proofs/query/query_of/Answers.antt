@@ -1,13 +1,13 @@
-use Rattle.gi_live.proofs.Queried.{moment, no_kind, no_moment, no_quantity, no_start, quantity}
+use Rattle.gi_live.proofs.Queried.{moment, no_report, no_moment, no_quantity, no_start, quantity}
 use Rattle.gi_live.proofs.query.query_of.Goals as goal
 
 pub returns-in_err-start-in-Outgoing : goal.returns-in_err-start-in-Outgoing
 returns-in_err-start-in-Outgoing c =
     no_start c.args.word c.args.words c.from_residual.result c.in-Outgoing.is c.from_residual.ensures c.in_err-start-in-Outgoing.ensures
 
-pub returns-in_err-kind-in-Report : goal.returns-in_err-kind-in-Report
-returns-in_err-kind-in-Report c =
-    no_kind c.args.word c.args.words c.from_residual-in_err-kind-in-Report.result c.in-Report.is c.from_residual-in_err-kind-in-Report.ensures c.in_err-kind-in-Report.ensures
+pub returns-in_err-asked_report-in-Report : goal.returns-in_err-asked_report-in-Report
+returns-in_err-asked_report-in-Report c =
+    no_report c.args.word c.args.words c.from_residual-in_err-asked_report-in-Report.result c.in-Report.is c.from_residual-in_err-asked_report-in-Report.ensures c.in_err-asked_report-in-Report.ensures
 
 pub returns-in_err-quantity-in-Explain : goal.returns-in_err-quantity-in-Explain
 returns-in_err-quantity-in-Explain c =

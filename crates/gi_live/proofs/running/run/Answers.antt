@@ -33,7 +33,7 @@ returns-then-is_empty-clause-until g c =
     let rest = lines_left c.next_lines.new.kept (reader_remaining g.I.Read.remaining c.next_lines.new.input) in
     let none : c.next_lines.new.lines.items ≡ [] = grind (arith, common_steps, c.is_empty.ensures, c.if-is_empty.true, c.next_lines.new.lines.ok) in
     until_input g.R.Role.SIDE (live c.args.seat c.args.saved c.args.before) (lines_left c.args.kept.now (reader_remaining g.I.Read.remaining c.args.input.now)) left rest
-    (g.O.Write.contents c.args.output.now) (g.O.Write.contents c.loop.output) c.loop.seat c.loop.saved c.loop.taken c.loop.invariant.runs (c.in_default.ensures.end none)
+    (g.O.Outlet.told c.args.output.now) (g.O.Outlet.told c.loop.output) c.loop.seat c.loop.saved c.loop.taken c.loop.invariant.runs (c.in_default.ensures.end none)
     (subst (λ ls. TakesLines left ls rest) none c.in_default.ensures.taken)
 
 pub returns-then-not-has_halted-clause-until : goal.returns-then-not-has_halted-clause-until
@@ -43,7 +43,7 @@ returns-then-not-has_halted-clause-until g c =
     let query : list_any is_query c.next_lines.new.lines.items ≡ true =
     subst (λ ls. list_any is_query ls ≡ true) c.deref.ensures.value (sym c.has_query.ensures ∙ c.if-has_query.true) in
     until_asked g.R.Role.SIDE (live c.args.seat c.args.saved c.args.before) (lines_left c.args.kept.now (reader_remaining g.I.Read.remaining c.args.input.now)) left rest
-    (g.O.Write.contents c.args.output.now) (g.O.Write.contents c.loop.output) c.loop.seat c.loop.saved c.loop.taken c.next_lines.new.lines.items c.asked.result
+    (g.O.Outlet.told c.args.output.now) (g.O.Outlet.told c.loop.output) c.loop.seat c.loop.saved c.loop.taken c.next_lines.new.lines.items c.asked.result
     c.loop.invariant.runs c.in_default.ensures.taken query c.asked.ensures
     (subst (λ ns. has_halted ns ≡ false) c.notes.ensures.notes (sym c.has_halted.ensures ∙ c.if-not-has_halted.true))
 
@@ -55,9 +55,9 @@ returns-then-is_full-clause-until g c =
     let input = lines_left c.args.kept.now (reader_remaining g.I.Read.remaining c.args.input.now) in
     let left = lines_left c.loop.kept (reader_remaining g.I.Read.remaining c.loop.input) in
     let rest = lines_left c.next_lines.new.kept (reader_remaining g.I.Read.remaining c.next_lines.new.input) in
-    let first = g.O.Write.contents c.args.output.now in
-    let before = g.O.Write.contents c.loop.output in
-    let after = g.O.Write.contents c.step-back.new.output in
+    let first = g.O.Outlet.told c.args.output.now in
+    let before = g.O.Outlet.told c.loop.output in
+    let after = g.O.Outlet.told c.step-back.new.output in
     let lines = c.next_lines.new.lines.items in
     let seat = c.step-back.result.0 in
     let saved = c.step-back.result.1 in
@@ -80,9 +80,9 @@ loop-preserved g c =
     let input = lines_left c.args.kept.now (reader_remaining g.I.Read.remaining c.args.input.now) in
     let left = lines_left c.loop.kept (reader_remaining g.I.Read.remaining c.loop.input) in
     let rest = lines_left c.next_lines.new.kept (reader_remaining g.I.Read.remaining c.next_lines.new.input) in
-    let first = g.O.Write.contents c.args.output.now in
-    let before = g.O.Write.contents c.loop.output in
-    let after = g.O.Write.contents c.step-back.new.output in
+    let first = g.O.Outlet.told c.args.output.now in
+    let before = g.O.Outlet.told c.loop.output in
+    let after = g.O.Outlet.told c.step-back.new.output in
     let lines = c.next_lines.new.lines.items in
     let seat = c.step-back.result.0 in
     let saved = c.step-back.result.1 in

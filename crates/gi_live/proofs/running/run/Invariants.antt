@@ -10,6 +10,6 @@ invariant-loop g l = record {
   place : place_of l.seat ≡ place_of l.initial.seat;
   few : l.taken ≤ l.before + 64 * l.counter;
   runs : RunsTo g.R.Role.SIDE (live l.initial.seat l.initial.saved l.before) (lines_left l.initial.kept (reader_remaining g.I.Read.remaining l.initial.input))
-      (lines_left l.kept (reader_remaining g.I.Read.remaining l.input)) (g.O.Write.contents l.initial.output) (g.O.Write.contents l.output) (live l.seat l.saved l.taken);
+      (lines_left l.kept (reader_remaining g.I.Read.remaining l.input)) (g.O.Outlet.told l.initial.output) (g.O.Outlet.told l.output) (live l.seat l.saved l.taken);
   room : HasRoom l.seat;
 }

@@ -1,6 +1,6 @@
 use Rattle.std.proofs.lemmas.Result.{IfOk-weaker}
 use Rattle.gi_schedule.specs.CutForms.{cut_fields, cut_header}
-use Rattle.gi_schedule.proofs.SheetLemmas.{record_more, records_all}
+use Rattle.gi_exports.proofs.SheetLemmas.{record_more, records_all}
 use Rattle.gi_schedule.proofs.csv_cuts.cuts_csv.Goals as goal
 
 pub loop-line-preserved : goal.loop-line-preserved

@@ -2,9 +2,9 @@ use Rattle.std.proofs.Common.{◌≡◌, ℕ, List, [], ◌∷◌, ◌∙◌, On
 use Rattle.std.specs.Fmt.{decimal}
 use Rattle.gi_day.specs.Day.{day_text}
 use Rattle.gi_pairs.specs.Direction.{direction_text}
-use Rattle.gi_schedule.specs.Csv.{record_text}
+use Rattle.gi_exports.specs.Csv.{record_text}
 use Rattle.gi_schedule.specs.CutForms.{cut_word}
-use Rattle.gi_schedule.specs.Sheet.{AddsText}
+use Rattle.gi_exports.specs.Sheet.{AddsText}
 use Rattle.gi_schedule.proofs.csv_cuts.put_cut.Goals as goal
 
 pub returns : goal.returns

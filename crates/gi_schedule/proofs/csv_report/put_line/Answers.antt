@@ -1,9 +1,10 @@
 use Rattle.std.proofs.Common.{◌≡◌, ℕ, List, [], ◌∷◌, ◌∙◌, OnOk, ap, subst}
 use Rattle.std.specs.Fmt.{signed_decimal}
 use Rattle.gi_day.specs.Day.{day_text}
-use Rattle.gi_schedule.specs.Csv.{code_field, number_field, record_text}
+use Rattle.gi_exports.specs.Csv.{record_text}
+use Rattle.gi_schedule.specs.Csv.{code_field, number_field}
 use Rattle.gi_schedule.specs.Lines.{flow_text, initiating_of, matching_of}
-use Rattle.gi_schedule.specs.Sheet.{AddsText}
+use Rattle.gi_exports.specs.Sheet.{AddsText}
 use Rattle.gi_schedule.proofs.csv_report.put_line.Goals as goal
 
 pub returns : goal.returns

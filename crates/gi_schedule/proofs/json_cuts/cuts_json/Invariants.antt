@@ -1,6 +1,6 @@
 use Rattle.std.proofs.Common.{◌≡◌, take}
 use Rattle.gi_schedule.specs.CutForms.{cut_data}
-use Rattle.gi_schedule.specs.Json.{json_lines}
+use Rattle.gi_exports.specs.Json.{json_lines}
 use Rattle.gi_schedule.proofs.json_cuts.cuts_json.Given as goal
 
 abbrev pub invariant-loop-line : goal.invariant-loop-line

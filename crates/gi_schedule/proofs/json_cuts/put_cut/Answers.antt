@@ -8,17 +8,17 @@ returns c =
     let r = c.end_object.result in
     let out = c.end_object.new.self in
     followed r out _ (wrote c.in_ok-begin_object.ensures)
-    (followed r out _ c.in_ok-put_quantity.ensures
-    (followed r out _ c.in_ok-put_quantity-2.ensures
-    (followed r out _ c.in_ok-put_quantity-3.ensures
+    (followed r out _ c.in_ok-put_whole.ensures
+    (followed r out _ c.in_ok-put_whole-2.ensures
+    (followed r out _ c.in_ok-put_whole-3.ensures
     (followed r out _ (rw c.word.ensures at c.in_ok-put_word.ensures)
     (followed r out _ (rw c.from.ensures at c.in_ok-put_number.ensures)
     (followed r out _ c.in_ok-put_day.ensures
     (followed r out _ c.in_ok-put_direction.ensures
-    (followed r out _ (rw c.from-2.ensures at c.in_ok-put_quantity-4.ensures)
+    (followed r out _ (rw c.from-2.ensures at c.in_ok-put_whole-4.ensures)
     (followed r out _ c.in_ok-put_code.ensures
     (followed r out _ c.in_ok-put_code-2.ensures
-    (followed r out _ c.in_ok-put_quantity-5.ensures
-    (followed r out _ c.in_ok-put_quantity-6.ensures
-    (followed r out _ c.in_ok-put_quantity-7.ensures
+    (followed r out _ c.in_ok-put_whole-5.ensures
+    (followed r out _ c.in_ok-put_whole-6.ensures
+    (followed r out _ c.in_ok-put_whole-7.ensures
     (ended c.end_object.ensures))))))))))))))

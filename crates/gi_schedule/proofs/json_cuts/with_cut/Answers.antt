@@ -1,6 +1,6 @@
 use Rattle.std.proofs.lemmas.Result.{IfOk-weaker}
 use Rattle.gi_schedule.specs.CutForms.{cut_data}
-use Rattle.gi_schedule.proofs.ObjectLemmas.{line_more}
+use Rattle.gi_exports.proofs.LineLemmas.{line_more}
 use Rattle.gi_schedule.proofs.json_cuts.with_cut.Goals as goal
 
 pub returns : goal.returns

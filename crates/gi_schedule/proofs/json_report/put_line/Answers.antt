@@ -8,10 +8,10 @@ returns c =
     let r = c.end_object.result in
     let out = c.end_object.new.self in
     followed r out _ (wrote c.in_ok-begin_object.ensures)
-    (followed r out _ c.in_ok-put_whole.ensures
+    (followed r out _ (rw c.widened.ensures at c.in_ok-put_number_or_null.ensures)
     (followed r out _ c.in_ok-put_day.ensures
     (followed r out _ (rw c.as_str.ensures at c.in_ok-put_word.ensures)
-    (followed r out _ c.in_ok-put_whole-2.ensures
+    (followed r out _ (rw c.widened-2.ensures at c.in_ok-put_number_or_null-2.ensures)
     (followed r out _ (rw c.initiating-initiating.ensures at c.in_ok-put_code_at.ensures)
     (followed r out _ (rw c.matching-matching.ensures at c.in_ok-put_code_at-2.ensures)
     (followed r out _ c.in_ok-put_signed.ensures

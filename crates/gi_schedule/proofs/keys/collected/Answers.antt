@@ -15,8 +15,8 @@ pub loop-cycle-preserved : goal.loop-cycle-preserved
 loop-cycle-preserved g c =
     let of : ℕ → List Key = λ cycle. keys_if c.args.wanted.now.portfolio (confirmed g.R.Role.SIDE c.args.desk.now (cycle_of c.args.day cycle)) in
     record {
-      added = cycle_more of c.loop-cycle.cycle (of c.loop-cycle.cycle) c.loop-cycle.keys.keys c.add_cycle.new.keys.keys c.loop-cycle.invariant.added (λ _. of c.loop-cycle.cycle) c.in_ok-add_cycle.ensures.added;
-      few = omega (arith, c.loop-cycle.invariant.few, c.in_ok-add_cycle.ensures.few);
+      added = cycle_more of c.loop-cycle.cycle (of c.loop-cycle.cycle) c.loop-cycle.keys.keys c.add_cycle_keys.new.keys.keys c.loop-cycle.invariant.added (λ _. of c.loop-cycle.cycle) c.in_ok-add_cycle_keys.ensures.added;
+      few = omega (arith, c.loop-cycle.invariant.few, c.in_ok-add_cycle_keys.ensures.few);
     }
 
 pub returns-clause-keys : goal.returns-clause-keys

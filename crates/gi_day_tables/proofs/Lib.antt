@@ -1,0 +1,4 @@
+pub mod BarLemmas
+pub mod FlowRunLemmas
+pub mod TextLemmas
+pub mod LawLemmas

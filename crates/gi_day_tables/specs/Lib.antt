@@ -1,0 +1,13 @@
+pub mod Columns
+pub mod Spans
+pub mod Cells
+pub mod Net
+pub mod Cycles
+pub mod Totals
+pub mod ByHour
+pub mod Bars
+pub mod Pairs
+pub mod FlowRuns
+pub mod CutLines
+pub mod Cuts
+pub mod Laws

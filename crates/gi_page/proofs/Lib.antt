@@ -1,0 +1,7 @@
+pub mod KeyLemmas
+pub mod KeyOrderLemmas
+pub mod SumLemmas
+pub mod LawLemmas
+pub mod PageLemmas
+pub mod BookLemmas
+pub mod MarkLemmas

@@ -1,0 +1,10 @@
+use Rattle.std.proofs.Common.{◌≡◌, ◌≤◌, ◌*◌, take}
+use Rattle.gi_pairs.specs.Quantity.{most_quantity}
+use Rattle.gi_page.specs.Flows.{sum_of}
+use Rattle.gi_page.proofs.flows.in_force_sum.Given as goal
+
+abbrev pub invariant-loop-key : goal.invariant-loop-key
+invariant-loop-key g l = record {
+  counted : l.total ≡ sum_of (λ amounts. amounts.in_force) g.R.Role.SIDE l.desk l.day l.direction l.at (take l.key-index l.keys);
+  within : l.total ≤ l.key-index * most_quantity;
+}

@@ -1,0 +1,11 @@
+pub mod Style
+pub mod Header
+pub mod Waiting
+pub mod Sections
+pub mod Keys
+pub mod Shown
+pub mod DayBook
+pub mod Flows
+pub mod Marks
+pub mod Page
+pub mod Laws

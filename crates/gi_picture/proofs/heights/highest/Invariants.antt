@@ -1,0 +1,6 @@
+use Rattle.std.proofs.Common.{◌≡◌, take}
+use Rattle.gi_picture.specs.Heights.{highest}
+use Rattle.gi_picture.proofs.heights.highest.Given as goal
+
+abbrev pub invariant-loop-hour : goal.invariant-loop-hour
+invariant-loop-hour l = l.most ≡ highest l.direction (take l.hour-index l.hours)
