@@ -6,7 +6,7 @@ use Rattle.serde_json.specs.Data.{Data, Items}
 use Rattle.serde_json.specs.Events.{items_len}
 use Rattle.serde_json.specs.Find.{as_str, get}
 use Rattle.gi_pairs.specs.Direction.{direction_named}
-use Rattle.gi_pairs.specs.Limits.{last_hour, most_processed_rows, most_rows}
+use Rattle.gi_pairs.specs.Limits.{last_hour}
 use Rattle.gi_pairs.specs.Quantity.{most_quantity}
 use Rattle.gi_pairs.specs.Row.{IsRow}
 use Rattle.gi_pairs.specs.Table.{TableContents, built, covered}
@@ -21,7 +21,7 @@ use Rattle.gi_messages.specs.Grammar.{AreElements, Each, Has, HasOr, HasRows, Ha
 use Rattle.gi_messages.specs.Json.{json_of}
 use Rattle.gi_messages.specs.Key.{key_text}
 use Rattle.gi_messages.specs.Laws.{MissesKind, NamesFirstKey}
-use Rattle.gi_messages.specs.Limits.{last_cycle, last_priority, last_version, most_bytes, usual_priority}
+use Rattle.gi_messages.specs.Limits.{last_cycle, last_priority, last_version, most_bytes, most_confirmed_elements, most_processed_elements, usual_priority}
 use Rattle.gi_messages.specs.Names.{code_of}
 use Rattle.gi_messages.specs.Reading.{Read, ◌>>=◌, code, day, direction, each, hours, items, line, lines, member_at, nomination_line, number, number_or, or_usual, quantities, row, rows_of, span, table, wanted, whole}
 use Rattle.gi_messages.specs.Reading as reading
@@ -251,15 +251,15 @@ nomres_refused d =
 
 delord_refused : (d : Data) → Refused (delord d) (Refuses kinds.Delord d)
 unfolding delord
-delord_refused d = head_field d _ _ (λ point date cycle first last. made (table keys.Processed most_processed_rows first last d) _ _ (table_refused most_processed_rows first last keys.Processed d))
+delord_refused d = head_field d _ _ (λ point date cycle first last. made (table keys.Processed most_processed_elements first last d) _ _ (table_refused most_processed_elements first last keys.Processed d))
 
 delres_refused : (d : Data) → Refused (delres d) (Refuses kinds.Delres d)
 unfolding delres
 delres_refused d = head_field d _ _ (λ point date cycle first last.
-    part (table keys.Processed most_processed_rows first last d) _ (HasTable most_processed_rows first last keys.Processed d) (RefusesTable most_processed_rows first last keys.Processed d) _
-    (record { takes = table_takes keys.Processed most_processed_rows first last d; again = table_again keys.Processed most_processed_rows first last d })
-    (table_refused most_processed_rows first last keys.Processed d)
-    (λ processed _. made (table keys.Confirmed most_rows first last d) _ _ (table_refused most_rows first last keys.Confirmed d)))
+    part (table keys.Processed most_processed_elements first last d) _ (HasTable most_processed_elements first last keys.Processed d) (RefusesTable most_processed_elements first last keys.Processed d) _
+    (record { takes = table_takes keys.Processed most_processed_elements first last d; again = table_again keys.Processed most_processed_elements first last d })
+    (table_refused most_processed_elements first last keys.Processed d)
+    (λ processed _. made (table keys.Confirmed most_confirmed_elements first last d) _ _ (table_refused most_confirmed_elements first last keys.Confirmed d)))
 
 pub kind_refused : (kind : Kind) (d : Data) → Refused (of_kind kind d) (Refuses kind d)
 kind_refused kinds.Nomint d = made (nomint d) messages.Nomint (Refuses kinds.Nomint d) (nomint_refused d)

@@ -3,12 +3,12 @@ use Rattle.std.proofs.Common.{◌≡◌, ℕ, List, Ok, refl, sym, subst}
 use Rattle.jiff_core.specs.declared.civil.date.Date.{Date}
 use Rattle.serde_json.specs.Data.{Data}
 use Rattle.gi_pairs.specs.Table.{TableContents}
-use Rattle.gi_pairs.specs.Limits.{last_hour, most_processed_rows, most_rows}
+use Rattle.gi_pairs.specs.Limits.{last_hour}
 use Rattle.gi_messages.specs.declared.head.Head.{Head}
 use Rattle.gi_messages.specs.declared.key.Key.TheVariants as keys
 use Rattle.gi_messages.specs.declared.message.Delord.{Delord}
 use Rattle.gi_messages.specs.declared.message.Delres.{Delres}
-use Rattle.gi_messages.specs.Limits.{last_cycle}
+use Rattle.gi_messages.specs.Limits.{last_cycle, most_confirmed_elements, most_processed_elements}
 use Rattle.gi_messages.specs.Grammar.{Has, IsText, IsWhole, HasTable, IsDelord, IsDelres, NamesCode, NamesDay}
 use Rattle.gi_messages.specs.Reading.{◌>>=◌, table}
 use Rattle.gi_messages.specs.Decoding.{delord, delres, head, processed}
@@ -35,7 +35,7 @@ delord_takes d m e =
     let h = bind_ok (head d) second m e in
     let t = bind_ok (processed h.0.span d) (λ t. Ok (made_delord h.0 t)) m h.2 in
     let is = Reads-head.takes d h.0 h.1 in
-    let own = table_takes keys.Processed most_processed_rows h.0.span.first h.0.span.last d t.0 t.1 in
+    let own = table_takes keys.Processed most_processed_elements h.0.span.first h.0.span.last d t.0 t.1 in
     let moved = λ (P : ℕ → ℕ → Type 0). for_its_hours P h.0.span.first h.0.span.last t.0 own.makes.begins own.makes.ends in
     subst {A = Delord} (IsDelord d) (ok_is (made_delord h.0 t.0) m t.2) (record {
       point = is.point;
@@ -43,7 +43,7 @@ delord_takes d m e =
       cycle = is.cycle;
       first = moved (λ first last. Has (IsWhole 1 last_hour) keys.First d first) is.span.first;
       last = moved (λ first last. Has (IsWhole first last_hour) keys.Last d last) is.span.last;
-      processed = moved (λ first last. HasTable most_processed_rows first last keys.Processed d t.0) own;
+      processed = moved (λ first last. HasTable most_processed_elements first last keys.Processed d t.0) own;
     })
 
 head_again : (d : Data) (point : List ℕ) (date : Date) (cycle : ℕ) (t : TableContents) → Has (IsText NamesCode) keys.Point d point → Has (IsText NamesDay) keys.Day d date → Has (IsWhole 0 last_cycle) keys.Cycle d cycle
@@ -55,7 +55,7 @@ unfolding delord
 delord_again d m h =
     rw (
       head_again d m.point m.day m.cycle m.processed h.point h.day h.cycle h.first h.last,
-      table_again keys.Processed most_processed_rows m.processed.first m.processed.last d m.processed h.processed,
+      table_again keys.Processed most_processed_elements m.processed.first m.processed.last d m.processed h.processed,
     ) refl
 
 made_delres : Head → TableContents → TableContents → Delres
@@ -64,14 +64,14 @@ made_delres h t u = record { point = h.point; day = h.day; cycle = h.cycle; proc
 pub delres_takes : (d : Data) (m : Delres) → delres d ≡ Ok m → IsDelres d m
 unfolding delres made_delres
 delres_takes d m e =
-    let third = λ (h : Head) (t : TableContents). table keys.Confirmed most_rows h.span.first h.span.last d >>= λ u. Ok (made_delres h t u) in
+    let third = λ (h : Head) (t : TableContents). table keys.Confirmed most_confirmed_elements h.span.first h.span.last d >>= λ u. Ok (made_delres h t u) in
     let second = λ (h : Head). processed h.span d >>= third h in
     let h = bind_ok (head d) second m e in
     let t = bind_ok (processed h.0.span d) (third h.0) m h.2 in
-    let u = bind_ok (table keys.Confirmed most_rows h.0.span.first h.0.span.last d) (λ u. Ok (made_delres h.0 t.0 u)) m t.2 in
+    let u = bind_ok (table keys.Confirmed most_confirmed_elements h.0.span.first h.0.span.last d) (λ u. Ok (made_delres h.0 t.0 u)) m t.2 in
     let is = Reads-head.takes d h.0 h.1 in
-    let own = table_takes keys.Processed most_processed_rows h.0.span.first h.0.span.last d t.0 t.1 in
-    let both = table_takes keys.Confirmed most_rows h.0.span.first h.0.span.last d u.0 u.1 in
+    let own = table_takes keys.Processed most_processed_elements h.0.span.first h.0.span.last d t.0 t.1 in
+    let both = table_takes keys.Confirmed most_confirmed_elements h.0.span.first h.0.span.last d u.0 u.1 in
     let moved = λ (P : ℕ → ℕ → Type 0). for_its_hours P h.0.span.first h.0.span.last t.0 own.makes.begins own.makes.ends in
     subst {A = Delres} (IsDelres d) (ok_is (made_delres h.0 t.0 u.0) m u.2) (record {
       point = is.point;
@@ -79,8 +79,8 @@ delres_takes d m e =
       cycle = is.cycle;
       first = moved (λ first last. Has (IsWhole 1 last_hour) keys.First d first) is.span.first;
       last = moved (λ first last. Has (IsWhole first last_hour) keys.Last d last) is.span.last;
-      processed = moved (λ first last. HasTable most_processed_rows first last keys.Processed d t.0) own;
-      confirmed = moved (λ first last. HasTable most_rows first last keys.Confirmed d u.0) both;
+      processed = moved (λ first last. HasTable most_processed_elements first last keys.Processed d t.0) own;
+      confirmed = moved (λ first last. HasTable most_confirmed_elements first last keys.Confirmed d u.0) both;
     })
 
 pub delres_again : (d : Data) (m : Delres) → IsDelres d m → delres d ≡ Ok m
@@ -88,6 +88,6 @@ unfolding delres
 delres_again d m h =
     rw (
       head_again d m.point m.day m.cycle m.processed h.point h.day h.cycle h.first h.last,
-      table_again keys.Processed most_processed_rows m.processed.first m.processed.last d m.processed h.processed,
-      table_again keys.Confirmed most_rows m.processed.first m.processed.last d m.confirmed h.confirmed,
+      table_again keys.Processed most_processed_elements m.processed.first m.processed.last d m.processed h.processed,
+      table_again keys.Confirmed most_confirmed_elements m.processed.first m.processed.last d m.confirmed h.confirmed,
     ) refl

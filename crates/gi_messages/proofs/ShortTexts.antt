@@ -7,7 +7,7 @@ use Rattle.serde_json.specs.Data.{Data, string, Members, no_members, member}
 use Rattle.gi_day.specs.Day.{day_text}
 use Rattle.gi_pairs.specs.Code.{IsCode}
 use Rattle.gi_pairs.specs.Direction.{direction_text}
-use Rattle.gi_pairs.specs.Limits.{last_hour, most_processed_rows, most_rows}
+use Rattle.gi_pairs.specs.Limits.{last_hour}
 use Rattle.gi_pairs.specs.Quantity.{IsQuantity}
 use Rattle.gi_pairs.specs.Row.{IsRow}
 use Rattle.gi_pairs.specs.Table.{TableContents, IsTable}
@@ -30,7 +30,7 @@ use Rattle.gi_messages.specs.declared.message.Message.TheVariants as messages
 use Rattle.gi_messages.specs.Grammar.{FitsLine, FitsNominationLine, FitsNomint, FitsAcknow, FitsNomres, FitsDelord, FitsDelres, Fits, IsWritable, HasFewLines}
 use Rattle.gi_messages.specs.Key.{key_text}
 use Rattle.gi_messages.specs.Kind.{kind_text}
-use Rattle.gi_messages.specs.Limits.{most_bytes, usual_priority}
+use Rattle.gi_messages.specs.Limits.{most_bytes, most_confirmed_elements, most_lines, most_processed_elements, usual_priority}
 use Rattle.gi_messages.specs.Writing.{whole, whole_numbers, row_data, rows_data, line_data, priority_members, nomination_line_data, lines_data, nomint_data, acknow_data, nomres_data, delord_data, delres_data, data_of, text_of}
 use Rattle.gi_messages.proofs.Lengths.{IsWithin, AreWithin, quoted_le, array_within, none_within, member_within, object_within, members_wider, wider}
 use Rattle.gi_messages.proofs.WritingLemmas.{fits_from_writable}
@@ -139,11 +139,11 @@ row_hours t h i r at = omega (arith, h.whole i r at, h.begins, h.ends)
 table_within : (most : ℕ) (t : TableContents) → IsTable t → length t.rows ≤ most → IsWithin (most * 1_000 + 2) (rows_data t.rows)
 table_within most t h few = wider _ _ _ (array_within row_data 999 t.rows (λ i r at. row_within _ (h.all i r at) (row_hours t h i r at))) (omega (arith, few))
 
-lines_within : (ls : List Line) → All FitsLine ls → All (λ l. length l.hours ≤ last_hour) ls → length ls ≤ most_rows → IsWithin (most_rows * 1_000 + 2) (lines_data line_data ls)
+lines_within : (ls : List Line) → All FitsLine ls → All (λ l. length l.hours ≤ last_hour) ls → length ls ≤ most_lines → IsWithin (most_lines * 1_000 + 2) (lines_data line_data ls)
 lines_within ls fits short few = wider _ _ _ (array_within line_data 999 ls (λ i l at. line_within _ (fits i l at) (short i l at))) (omega (arith, few))
 
-nomination_lines_within : (ls : List NominationLine) → All FitsNominationLine ls → All (λ l. length l.hours ≤ last_hour) ls → length ls ≤ most_rows
-    → IsWithin (most_rows * 1_000 + 2) (lines_data nomination_line_data ls)
+nomination_lines_within : (ls : List NominationLine) → All FitsNominationLine ls → All (λ l. length l.hours ≤ last_hour) ls → length ls ≤ most_lines
+    → IsWithin (most_lines * 1_000 + 2) (lines_data nomination_line_data ls)
 nomination_lines_within ls fits short few = wider _ _ _ (array_within nomination_line_data 999 ls (λ i l at. nomination_line_within _ (fits i l at) (short i l at))) (omega (arith, few))
 
 -- ---- messages
@@ -173,7 +173,7 @@ acknow_within m h =
 nomres_hours : (m : Nomres) → FitsNomres m → All (λ l. length l.hours ≤ last_hour) m.lines
 nomres_hours m h i l at = omega (arith, h.whole i l at, h.begins, h.ends)
 
-nomres_within : (m : Nomres) → FitsNomres m → length m.lines ≤ most_rows → IsWithin most_bytes (nomres_data m)
+nomres_within : (m : Nomres) → FitsNomres m → length m.lines ≤ most_lines → IsWithin most_bytes (nomres_data m)
 unfolding nomres_data
 nomres_within m h few =
     let portfolio = with_key keys.Portfolio _ _ _ _ (code_within m.portfolio h.portfolio) none_within in
@@ -189,7 +189,7 @@ nomres_within m h few =
 delord_within : (m : Delord) → FitsDelord m → IsWithin most_bytes (delord_data m)
 unfolding delord_data
 delord_within m h =
-    let processed = with_key keys.Processed _ _ _ _ (table_within most_processed_rows m.processed h.processed h.few) none_within in
+    let processed = with_key keys.Processed _ _ _ _ (table_within most_processed_elements m.processed h.processed h.few) none_within in
     let point = with_key keys.Point _ _ _ _ (code_within m.point h.point) processed in
     let last = with_key keys.Last _ _ _ _ (number_within m.processed.last (omega (arith, h.processed.ends))) point in
     let kind = with_key keys.Kind _ _ _ _ (kind_within kinds.Delord) last in
@@ -201,14 +201,14 @@ delord_within m h =
 delres_within : (m : Delres) → FitsDelres m → IsWithin most_bytes (delres_data m)
 unfolding delres_data
 delres_within m h =
-    let processed = with_key keys.Processed _ _ _ _ (table_within most_processed_rows m.processed h.processed h.few) none_within in
+    let processed = with_key keys.Processed _ _ _ _ (table_within most_processed_elements m.processed h.processed h.few) none_within in
     let point = with_key keys.Point _ _ _ _ (code_within m.point h.point) processed in
     let last = with_key keys.Last _ _ _ _ (number_within m.processed.last (omega (arith, h.processed.ends))) point in
     let kind = with_key keys.Kind _ _ _ _ (kind_within kinds.Delres) last in
     let first = with_key keys.First _ _ _ _ (number_within m.processed.first (omega (arith, h.processed.ordered, h.processed.ends))) kind in
     let day = with_key keys.Day _ _ _ _ (day_within m.day) first in
     let cycle = with_key keys.Cycle _ _ _ _ (number_within m.cycle (omega (arith, h.cycle))) day in
-    let confirmed = with_key keys.Confirmed _ _ _ _ (table_within most_rows m.confirmed h.confirmed h.confirmed.few) cycle in
+    let confirmed = with_key keys.Confirmed _ _ _ _ (table_within most_confirmed_elements m.confirmed h.confirmed h.few_confirmed) cycle in
     wider _ _ most_bytes (object_within _ _ confirmed) (omega arith)
 
 within : (m : Message) → Fits m → HasFewLines m → IsWithin most_bytes (data_of m)

@@ -80,6 +80,7 @@ fits_from_writable (messages.Delres m) w =
       processed = h.processed.makes.table;
       few = few_rows _ _ _ _ _ m.processed h.processed;
       confirmed = h.confirmed.makes.table;
+      few_confirmed = few_rows _ _ _ _ _ m.confirmed h.confirmed;
       begins = h.confirmed.makes.begins;
       ends = h.confirmed.makes.ends;
     }

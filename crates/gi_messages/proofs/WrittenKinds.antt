@@ -1,9 +1,9 @@
 -- What is written for a message of each kind stands for it, and is plain.
 use Rattle.std.proofs.Common.{refl, arith}
 use Rattle.json.proofs.Printed.Utf8.{IsUtf8-are_ascii}
-use Rattle.gi_pairs.specs.Limits.{last_hour, most_processed_rows, most_rows}
+use Rattle.gi_pairs.specs.Limits.{last_hour}
 use Rattle.gi_pairs.specs.Table.{covered}
-use Rattle.gi_messages.specs.Limits.{last_cycle, last_version}
+use Rattle.gi_messages.specs.Limits.{last_cycle, last_version, most_confirmed_elements, most_processed_elements}
 use Rattle.gi_messages.specs.declared.key.Key.TheVariants as keys
 use Rattle.gi_messages.specs.declared.kind.Kind.TheVariants as kinds
 use Rattle.gi_messages.specs.declared.message.Nomint.{Nomint}
@@ -57,7 +57,7 @@ delord_stands m h = record {
   cycle = stands_number keys.Cycle _ 0 last_cycle m.cycle (omega arith) h.cycle refl;
   first = stands_number keys.First _ 1 last_hour m.processed.first h.processed.begins (omega (arith, h.processed.ordered, h.processed.ends)) refl;
   last = stands_number keys.Last _ m.processed.first last_hour m.processed.last h.processed.ordered h.processed.ends refl;
-  processed = stands_table keys.Processed _ most_processed_rows m.processed.first m.processed.last m.processed h.processed refl refl h.few refl;
+  processed = stands_table keys.Processed _ most_processed_elements m.processed.first m.processed.last m.processed h.processed refl refl h.few refl;
 }
 
 pub delres_stands : (m : Delres) → FitsDelres m → IsDelres (delres_data m) m
@@ -68,8 +68,8 @@ delres_stands m h = record {
   cycle = stands_number keys.Cycle _ 0 last_cycle m.cycle (omega arith) h.cycle refl;
   first = stands_number keys.First _ 1 last_hour m.processed.first h.processed.begins (omega (arith, h.processed.ordered, h.processed.ends)) refl;
   last = stands_number keys.Last _ m.processed.first last_hour m.processed.last h.processed.ordered h.processed.ends refl;
-  processed = stands_table keys.Processed _ most_processed_rows m.processed.first m.processed.last m.processed h.processed refl refl h.few refl;
-  confirmed = stands_table keys.Confirmed _ most_rows m.processed.first m.processed.last m.confirmed h.confirmed h.begins h.ends h.confirmed.few refl;
+  processed = stands_table keys.Processed _ most_processed_elements m.processed.first m.processed.last m.processed h.processed refl refl h.few refl;
+  confirmed = stands_table keys.Confirmed _ most_confirmed_elements m.processed.first m.processed.last m.confirmed h.confirmed h.begins h.ends h.few_confirmed refl;
 }
 
 pub of_kind-delord : (m : Delord) → IsOfKind kinds.Delord (delord_data m)

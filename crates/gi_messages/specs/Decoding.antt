@@ -2,7 +2,6 @@
 use Rattle.std.specs.Prelude.{◌≡◌, ℕ, List, length, nat_lt, Option, Some, None, option_and_then, Result, Ok, Err, if◌then◌else◌}
 use Rattle.serde_json.specs.Data.{Data}
 use Rattle.serde_json.specs.Find.{get, as_str}
-use Rattle.gi_pairs.specs.Limits.{most_processed_rows, most_rows}
 use Rattle.gi_pairs.specs.Table.{TableContents, covered}
 use Rattle.gi_messages.specs.declared.key.Key.TheVariants.{Point, Portfolio, Day, Version, Cycle, Processed, Confirmed}
 use Rattle.gi_messages.specs.declared.key.Key.TheVariants as keys
@@ -10,7 +9,7 @@ use Rattle.gi_messages.specs.declared.head.Head.{Head}
 use Rattle.gi_messages.specs.declared.head.Span.{Span}
 use Rattle.gi_messages.specs.declared.kind.Kind.{Kind}
 use Rattle.gi_messages.specs.declared.kind.Kind.TheVariants as kinds
-use Rattle.gi_messages.specs.Limits.{most_bytes, last_cycle, last_version}
+use Rattle.gi_messages.specs.Limits.{last_cycle, last_version, most_bytes, most_confirmed_elements, most_processed_elements}
 use Rattle.gi_messages.specs.declared.message.Nomint.{Nomint}
 use Rattle.gi_messages.specs.declared.message.Acknow.{Acknow}
 use Rattle.gi_messages.specs.declared.message.Nomres.{Nomres}
@@ -63,7 +62,7 @@ head d = do
   Ok (record { point = point; day = date; cycle = cycle; span = span })
 
 abbrev pub processed : Span → Data → Read TableContents
-processed span d = table Processed most_processed_rows span.first span.last d
+processed span d = table Processed most_processed_elements span.first span.last d
 
 unfoldable pub delord : Data → Read Delord
 delord d = do
@@ -75,7 +74,7 @@ unfoldable pub delres : Data → Read Delres
 delres d = do
   head ← head d
   processed ← processed head.span d
-  confirmed ← table Confirmed most_rows head.span.first head.span.last d
+  confirmed ← table Confirmed most_confirmed_elements head.span.first head.span.last d
   Ok (record { point = head.point; day = head.day; cycle = head.cycle; processed = processed; confirmed = confirmed })
 
 -- the kind that an object names

@@ -3,7 +3,7 @@
 use Rattle.std.specs.Prelude.{◌≡◌, ◌≤◌, ◌⊎◌, ℕ, List, length, Some}
 use Rattle.serde_json.specs.Data.{Data, array, object, Items, no_items, item, Members}
 use Rattle.serde_json.specs.Events.{items_len}
-use Rattle.gi_pairs.specs.Limits.{last_hour, most_processed_rows, most_rows}
+use Rattle.gi_pairs.specs.Limits.{last_hour}
 use Rattle.gi_pairs.specs.Quantity.{most_quantity}
 use Rattle.gi_pairs.specs.Table.{covered}
 use Rattle.gi_messages.specs.declared.key.Key.{Key}
@@ -12,7 +12,7 @@ use Rattle.gi_messages.specs.declared.kind.Kind.{Kind}
 use Rattle.gi_messages.specs.declared.kind.Kind.TheVariants as kinds
 use Rattle.gi_messages.specs.Grammar.{AreElements, Each, Has, HasOr, HasRows, HasTable, IsLineFor, IsNominationLine, IsOfKind, IsRowFor, IsText, IsWhole, NamesCode, NamesDay, NamesDirection}
 use Rattle.gi_messages.specs.Json.{json_of}
-use Rattle.gi_messages.specs.Limits.{last_cycle, last_priority, last_version, most_bytes, usual_priority}
+use Rattle.gi_messages.specs.Limits.{last_cycle, last_priority, last_version, most_bytes, most_confirmed_elements, most_processed_elements, usual_priority}
 
 -- A part says itself which key is named where it has no value; where it has one, what comes after it says so.
 abbrev pub Part : {X : Type 0} → (X → Type 0) → (Key → Type 0) → (X → Key → Type 0) → Key → Type 0
@@ -116,11 +116,11 @@ Refuses kinds.Nomres d =
     Field (IsText NamesDay) keys.Day d (λ _.
     Field (IsWhole 0 last_cycle) keys.Cycle d (λ _.
     RefusesSpan d (λ first last. RefusesLinesFor (covered first last) d)))))
-Refuses kinds.Delord d = RefusesHead d (λ first last. RefusesTable most_processed_rows first last keys.Processed d)
+Refuses kinds.Delord d = RefusesHead d (λ first last. RefusesTable most_processed_elements first last keys.Processed d)
 Refuses kinds.Delres d =
     RefusesHead d (λ first last.
-    Part (HasTable most_processed_rows first last keys.Processed d) (RefusesTable most_processed_rows first last keys.Processed d) (λ _.
-    RefusesTable most_rows first last keys.Confirmed d))
+    Part (HasTable most_processed_elements first last keys.Processed d) (RefusesTable most_processed_elements first last keys.Processed d) (λ _.
+    RefusesTable most_confirmed_elements first last keys.Confirmed d))
 
 -- bytes within the limit, the JSON text of a value
 pub record IsJson (bytes : List ℕ) (d : Data) : Type 0 where

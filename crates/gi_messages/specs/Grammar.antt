@@ -10,9 +10,9 @@ use Rattle.gi_pairs.specs.Direction.{direction_text}
 use Rattle.gi_pairs.specs.Table.{TableContents, IsTable, covered}
 use Rattle.gi_pairs.specs.declared.direction.Direction.{Direction}
 use Rattle.gi_pairs.specs.Quantity.{IsQuantity, most_quantity}
-use Rattle.gi_messages.specs.Limits.{most_bytes, last_cycle, last_priority, last_version, usual_priority}
+use Rattle.gi_messages.specs.Limits.{last_cycle, last_priority, last_version, most_bytes, most_confirmed_elements, most_lines, most_processed_elements, usual_priority}
 use Rattle.gi_pairs.specs.declared.row.Row.{Row}
-use Rattle.gi_pairs.specs.Limits.{last_hour, most_processed_rows, most_rows}
+use Rattle.gi_pairs.specs.Limits.{last_hour}
 use Rattle.gi_messages.specs.declared.key.Key.{Key}
 use Rattle.gi_messages.specs.declared.key.Key.TheVariants as keys
 use Rattle.gi_messages.specs.declared.kind.Kind.{Kind}
@@ -146,7 +146,7 @@ pub record IsDelord (d : Data) (m : Delord) : Type 0 where
   pub cycle : Has (IsWhole 0 last_cycle) keys.Cycle d m.cycle
   pub first : Has (IsWhole 1 last_hour) keys.First d m.processed.first
   pub last : Has (IsWhole m.processed.first last_hour) keys.Last d m.processed.last
-  pub processed : HasTable most_processed_rows m.processed.first m.processed.last keys.Processed d m.processed
+  pub processed : HasTable most_processed_elements m.processed.first m.processed.last keys.Processed d m.processed
 
 -- both tables are for the hours of the message
 pub record IsDelres (d : Data) (m : Delres) : Type 0 where
@@ -155,8 +155,8 @@ pub record IsDelres (d : Data) (m : Delres) : Type 0 where
   pub cycle : Has (IsWhole 0 last_cycle) keys.Cycle d m.cycle
   pub first : Has (IsWhole 1 last_hour) keys.First d m.processed.first
   pub last : Has (IsWhole m.processed.first last_hour) keys.Last d m.processed.last
-  pub processed : HasTable most_processed_rows m.processed.first m.processed.last keys.Processed d m.processed
-  pub confirmed : HasTable most_rows m.processed.first m.processed.last keys.Confirmed d m.confirmed
+  pub processed : HasTable most_processed_elements m.processed.first m.processed.last keys.Processed d m.processed
+  pub confirmed : HasTable most_confirmed_elements m.processed.first m.processed.last keys.Confirmed d m.confirmed
 
 -- an object whose `kind` is the kind's name
 abbrev pub IsOfKind : Kind → Data → Type 0
@@ -226,15 +226,16 @@ pub record FitsDelord (m : Delord) : Type 0 where
   pub day : IsGasYear m.day.year
   pub cycle : m.cycle ≤ last_cycle
   pub processed : IsTable m.processed
-  pub few : length m.processed.rows ≤ most_processed_rows
+  pub few : length m.processed.rows ≤ most_processed_elements
 
 pub record FitsDelres (m : Delres) : Type 0 where
   pub point : IsCode m.point
   pub day : IsGasYear m.day.year
   pub cycle : m.cycle ≤ last_cycle
   pub processed : IsTable m.processed
-  pub few : length m.processed.rows ≤ most_processed_rows
+  pub few : length m.processed.rows ≤ most_processed_elements
   pub confirmed : IsTable m.confirmed
+  pub few_confirmed : length m.confirmed.rows ≤ most_confirmed_elements
   pub begins : m.confirmed.first ≡ m.processed.first
   pub ends : m.confirmed.last ≡ m.processed.last
 
@@ -245,11 +246,11 @@ Fits (messages.Nomres m) = FitsNomres m
 Fits (messages.Delord m) = FitsDelord m
 Fits (messages.Delres m) = FitsDelres m
 
--- A message with no more lines than a table has rows at most. Each line of a nomination, which could have any number of quantities, has no more than the
+-- A message with few lines. Each line of a nomination, which could have any number of quantities, has no more than the
 -- longest gas day has hours.
 abbrev pub HasFewLines : Message → Type 0
-HasFewLines (messages.Nomint m) = (length m.lines ≤ most_rows) × All (λ l. length l.hours ≤ last_hour) m.lines
+HasFewLines (messages.Nomint m) = (length m.lines ≤ most_lines) × All (λ l. length l.hours ≤ last_hour) m.lines
 HasFewLines (messages.Acknow m) = Unit {0}
-HasFewLines (messages.Nomres m) = length m.lines ≤ most_rows
+HasFewLines (messages.Nomres m) = length m.lines ≤ most_lines
 HasFewLines (messages.Delord m) = Unit {0}
 HasFewLines (messages.Delres m) = Unit {0}

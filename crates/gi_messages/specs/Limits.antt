@@ -5,6 +5,17 @@ use Rattle.std.specs.Prelude.{ℕ}
 abbrev pub most_bytes : ℕ
 most_bytes = 16_777_216
 
+-- how many elements the array `processed` of a message has at most, and the array `confirmed`
+abbrev pub most_processed_elements : ℕ
+most_processed_elements = 4_096
+
+abbrev pub most_confirmed_elements : ℕ
+most_confirmed_elements = 8_192
+
+-- how many lines a message has at most whose text is known to be short
+abbrev pub most_lines : ℕ
+most_lines = 8_192
+
 -- the highest number of a cycle
 abbrev pub last_cycle : ℕ
 last_cycle = 36

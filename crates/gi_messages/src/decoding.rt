@@ -19,12 +19,13 @@ use crate::key::Key;
 use crate::kind::{Kind, kind_named};
 use crate::line_reading::lines;
 use crate::message::{
-    Acknow, Delord, Delres, LAST_CYCLE, LAST_VERSION, MOST_BYTES, Message, Nomint, Nomres,
+    Acknow, Delord, Delres, LAST_CYCLE, LAST_VERSION, MOST_BYTES, MOST_CONFIRMED_ELEMENTS,
+    MOST_PROCESSED_ELEMENTS, Message, Nomint, Nomres,
 };
 use crate::message_fault::MessageFault;
 use crate::rows::table;
 use crate::written::written;
-use gi_pairs::{MOST_PROCESSED_ROWS, MOST_ROWS, Table};
+use gi_pairs::Table;
 use json::Scratch;
 use std::alloc::Global;
 
@@ -101,7 +102,7 @@ fn processed(alloc: Global, object: &JsonValue<'_, '_>, span: Span) -> Result<Ta
         alloc,
         object,
         Key::Processed,
-        MOST_PROCESSED_ROWS,
+        MOST_PROCESSED_ELEMENTS,
         first,
         last,
     )
@@ -128,7 +129,7 @@ fn delres(alloc: Global, object: &JsonValue<'_, '_>) -> Result<Delres, FieldFaul
     let head = head_of(object)?;
     let Span { first, last } = head.span;
     let processed = processed(alloc, object, head.span)?;
-    let confirmed = table(alloc, object, Key::Confirmed, MOST_ROWS, first, last)?;
+    let confirmed = table(alloc, object, Key::Confirmed, MOST_CONFIRMED_ELEMENTS, first, last)?;
     Ok(Delres {
         point: head.point,
         day: head.day,

@@ -40,7 +40,8 @@ pub use laws::{
 pub use line::Line;
 pub use lines::Lines;
 pub use message::{
-    Acknow, Delord, Delres, LAST_CYCLE, LAST_VERSION, MOST_BYTES, Message, Nomint, Nomres,
+    Acknow, Delord, Delres, LAST_CYCLE, LAST_VERSION, MOST_BYTES, MOST_CONFIRMED_ELEMENTS,
+    MOST_PROCESSED_ELEMENTS, Message, Nomint, Nomres,
 };
 pub use message_fault::MessageFault;
 pub use message_line::MessageLine;

@@ -10,6 +10,12 @@ use std::alloc::AllocError;
 /// How many bytes a message has at most.
 pub const MOST_BYTES: usize = 16_777_216;
 
+/// How many elements the array `processed` of a message has at most.
+pub const MOST_PROCESSED_ELEMENTS: usize = 4096;
+
+/// How many elements its array `confirmed` has at most.
+pub const MOST_CONFIRMED_ELEMENTS: usize = 8192;
+
 /// The highest number of a cycle.
 pub const LAST_CYCLE: u8 = 36;
 

@@ -13,8 +13,10 @@ ghost use Rattle.gi_messages.specs.Writing.{text_of};
 use crate::encoding::encode;
 use crate::front::Front;
 use crate::head::{Head, Span};
-use crate::message::{Delord, Delres, LAST_CYCLE, Message};
-use gi_pairs::{MOST_PROCESSED_ROWS, MOST_ROWS, Table};
+use crate::message::{
+    Delord, Delres, LAST_CYCLE, MOST_CONFIRMED_ELEMENTS, MOST_PROCESSED_ELEMENTS, Message,
+};
+use gi_pairs::Table;
 use std::alloc::Global;
 
 /// What stands before the processed rows: `start` goes before the number of the cycle, and `kind`
@@ -36,7 +38,7 @@ fn head(front: &mut Front<'_>, start: &[u8], kind: &[u8]) -> Option<Head> {
 /// An order, or what a response has as an order has it.
 fn order(alloc: Global, front: &mut Front<'_>, start: &[u8], kind: &[u8]) -> Option<Delord> {
     let head = head(front, start, kind)?;
-    let rows = front.rows(alloc, b",\"processed\":[", MOST_PROCESSED_ROWS)?;
+    let rows = front.rows(alloc, b",\"processed\":[", MOST_PROCESSED_ELEMENTS)?;
     Some(Delord {
         point: head.point,
         day: head.day,
@@ -55,7 +57,7 @@ fn delord(alloc: Global, front: &mut Front<'_>) -> Option<Delord> {
 }
 
 fn delres(alloc: Global, front: &mut Front<'_>) -> Option<Delres> {
-    let rows = front.rows(alloc, b"{\"confirmed\":[", MOST_ROWS)?;
+    let rows = front.rows(alloc, b"{\"confirmed\":[", MOST_CONFIRMED_ELEMENTS)?;
     let order = order(
         alloc,
         front,
@@ -78,7 +80,7 @@ fn fits_delord(order: &Delord) -> bool
     order.point.reveal_invariant();
     order.day.reveal_invariant();
     order.processed.reveal_invariant();
-    order.cycle <= LAST_CYCLE && order.processed.rows().len() <= MOST_PROCESSED_ROWS
+    order.cycle <= LAST_CYCLE && order.processed.rows().len() <= MOST_PROCESSED_ELEMENTS
 }
 
 fn fits_delres(response: &Delres) -> bool
@@ -89,7 +91,7 @@ fn fits_delres(response: &Delres) -> bool
     response.processed.reveal_invariant();
     response.confirmed.reveal_invariant();
     response.cycle <= LAST_CYCLE
-        && response.processed.rows().len() <= MOST_PROCESSED_ROWS
+        && response.processed.rows().len() <= MOST_PROCESSED_ELEMENTS
         && response.confirmed.first() == response.processed.first()
         && response.confirmed.last() == response.processed.last()
 }
