@@ -1,5 +1,6 @@
 -- What a desk keeps stays so with one more fact.
 use Rattle.std.proofs.Common.{◌≡◌, ◌<◌, ◌+◌, ℕ, List, [], ◌∷◌, ◌++◌, length, length-append, append-nil, refl, true, false, All, None, sym, ap, subst, ◌∙◌, arith}
+use Rattle.std.specs.BTreeMap.{BTreeMap}
 use Rattle.jiff_core.specs.declared.civil.date.Date.{Date}
 use Rattle.gi_day.specs.Cycles.{IsCycle}
 use Rattle.gi_day.proofs.CycleLemmas.{below_is_cycle}
@@ -21,11 +22,12 @@ use Rattle.gi_processing.specs.declared.notice.Notice.{Notice}
 use Rattle.gi_processing.specs.Processing.{AreSound, processed}
 use Rattle.gi_processing.specs.declared.rule.Rule.{Rule}
 use Rattle.gi_desk.specs.History.{capacity_of, documents_of, is_closed}
-use Rattle.gi_desk.specs.DeskRepr.{DeskInvariant, IsRunning}
+use Rattle.gi_desk.specs.DeskRepr.{DeskInvariant, IsKept, IsRunning}
 use Rattle.gi_desk.specs.Caches.{HasInForce, changes_cycle, states_of}
 use Rattle.gi_desk.specs.Machine.{DeskState, bad_fact, most_facts, would_record}
 use Rattle.gi_desk.specs.Stages.{AreStages, closed_stage, stage_in}
 use Rattle.gi_desk.specs.Takings.{AreTakings}
+use Rattle.gi_desk.specs.declared.kept.Kept.{Kept}
 use Rattle.gi_desk.specs.declared.stage.Stage.{Stage}
 use Rattle.gi_desk.specs.Writable.{FitsDesk, FitsState}
 use Rattle.gi_facts.specs.Writable.{FitsCycle, FitsFact, FitsProcessed}
@@ -112,33 +114,33 @@ pub takings-same : (side : Side) (point : List ℕ) (old : List Fact) (fact : Fa
 takings-same side point old fact takings other legal = takings-other old fact takings (no_document fact other) (legal-rising side point old legal)
 
 -- a desk without facts
-pub kept-none : (side : Side) (point : List ℕ) (facts : List Fact) (entries : List (CycleId × Stage)) (book : Documents) (contracts : Capacity) (takings : List (PortfolioDay × ℕ))
-    → IsCode point → facts ≡ [] → entries ≡ [] → takings ≡ [] → book ≡ record { point = point; documents = [] } → contracts ≡ record { contracts = []; notices = [] }
-    → DeskInvariant side point facts entries book contracts takings 0
+pub kept-none : (side : Side) (point : List ℕ) (facts : List Fact) (kept : Kept) → IsCode point → facts ≡ [] → kept.stages.entries ≡ [] → kept.takings.entries ≡ []
+    → kept.book ≡ record { point = point; documents = [] } → kept.contracts ≡ record { contracts = []; notices = [] } → DeskInvariant side point facts kept 0
 unfolding bad_fact is_closed capacity_of documents_of
-kept-none side point facts entries book contracts takings code none no_stage no_number no_nomination no_contract = record {
-  stages = record {
-    legal = ap (bad_fact side point) none;
-    at = λ id. ap (λ (es : List (CycleId × Stage)). stage_in es id) no_stage ∙ ap (λ (fs : List Fact). closed_stage side fs id) (sym none);
+kept-none side point facts kept code none no_stage no_number no_nomination no_contract = record {
+  keeps = record {
+    stages = record {
+      legal = ap (bad_fact side point) none;
+      at = λ id. ap (λ (es : List (CycleId × Stage)). stage_in es id) no_stage ∙ ap (λ (fs : List Fact). closed_stage side fs id) (sym none);
+    };
+    running = record {
+      at = ap (λ (d : Documents). d.point) no_nomination;
+      nominations = λ portfolio day. (λ t. in_force portfolio day (no_nomination t).documents) ∙ (λ t. in_force portfolio day (documents_of (sym none t)));
+      capacity = subst (λ (c : Capacity). ReadsAs kept.contracts c) (no_contract ∙ ap capacity_of (sym none)) (reads-self kept.contracts);
+    };
+    numbers = takings-none facts kept.takings.entries none no_number;
   };
-  running = record {
-    at = ap (λ (d : Documents). d.point) no_nomination;
-    nominations = λ portfolio day. (λ t. in_force portfolio day (no_nomination t).documents) ∙ (λ t. in_force portfolio day (documents_of (sym none t)));
-    capacity = subst (λ (c : Capacity). ReadsAs contracts c) (no_contract ∙ ap capacity_of (sym none)) (reads-self contracts);
-  };
-  numbers = takings-none facts takings none no_number;
   within = omega arith;
   fits = subst (λ (all : List Fact). FitsDesk side point all) (sym none) (fits-none side point code);
 }
 
 -- the same facts and nominations, with numbers that belong to them
-pub kept-numbered : (side : Side) (point : List ℕ) (facts : List Fact) (entries : List (CycleId × Stage)) (book : Documents) (contracts : Capacity) (takings : List (PortfolioDay × ℕ)) (saved : ℕ)
-    (new : List Fact) (new_book : Documents) (new_takings : List (PortfolioDay × ℕ)) → DeskInvariant side point facts entries book contracts takings saved → new ≡ facts → new_book ≡ book → AreTakings facts new_takings
-    → DeskInvariant side point new entries new_book contracts new_takings saved
-kept-numbered side point facts entries book contracts takings saved new new_book new_takings kept new_is book_is numbers =
-    subst (λ (fs : List Fact). DeskInvariant side point fs entries new_book contracts new_takings saved) (sym new_is)
-    (subst (λ (b : Documents). DeskInvariant side point facts entries b contracts new_takings saved) (sym book_is)
-    (record { stages = kept.stages; running = kept.running; numbers = numbers; within = kept.within; fits = kept.fits }))
+pub kept-numbered : (side : Side) (point : List ℕ) (facts : List Fact) (kept : Kept) (saved : ℕ) (new : List Fact) (book : Documents) (takings : BTreeMap PortfolioDay ℕ)
+    → DeskInvariant side point facts kept saved → new ≡ facts → book ≡ kept.book → AreTakings facts takings.entries → DeskInvariant side point new (record kept { book = book; takings = takings }) saved
+kept-numbered side point facts kept saved new book takings is new_is book_is numbers =
+    subst (λ (fs : List Fact). DeskInvariant side point fs (record kept { book = book; takings = takings }) saved) (sym new_is)
+    (subst (λ (b : Documents). DeskInvariant side point facts (record kept { book = b; takings = takings }) saved) (sym book_is)
+    (record { keeps = record { stages = is.keeps.stages; running = is.keeps.running; numbers = numbers }; within = is.within; fits = is.fits }))
 
 -- a fact that some call would record may come next
 pub kept-legal : (side : Side) (point : List ℕ) (old : List Fact) (s : DeskState) (fact : Fact) → bad_fact side point old ≡ None → s.point ≡ point → s.facts ≡ old
@@ -147,20 +149,18 @@ kept-legal side point old s fact legal point_is facts_is recorded room =
     legal-more side point old fact legal ((λ t. would_record side (sym point_is t) (sym facts_is t) fact) ∙ recorded)
     (subst (λ (facts : List Fact). length facts < most_facts) facts_is room)
 
--- and with the stages that belong to it, where all states can be written, what is kept stays so
-kept-more : (side : Side) (point : List ℕ) (old : List Fact) (entries : List (CycleId × Stage)) (book new_book : Documents) (contracts new_contracts : Capacity) (takings new_takings : List (PortfolioDay × ℕ)) (saved : ℕ) (fact : Fact) (new : List Fact) (later : List (CycleId × Stage))
-    → DeskInvariant side point old entries book contracts takings saved → FitsFact fact → All FitsState (states_of side (old ++ fact ∷ []))
-    → new ≡ old ++ fact ∷ [] → AreStages side point (old ++ fact ∷ []) later → IsRunning point (old ++ fact ∷ []) new_book new_contracts → AreTakings (old ++ fact ∷ []) new_takings → DeskInvariant side point new later new_book new_contracts new_takings saved
-kept-more side point old entries book new_book contracts new_contracts takings new_takings saved fact new later kept fits all_fit new_is stages running numbers =
+-- and with what belongs to it, where all states can be written, what is kept stays so
+kept-more : (side : Side) (point : List ℕ) (old : List Fact) (kept later : Kept) (saved : ℕ) (fact : Fact) (new : List Fact)
+    → DeskInvariant side point old kept saved → FitsFact fact → All FitsState (states_of side (old ++ fact ∷ []))
+    → new ≡ old ++ fact ∷ [] → IsKept side point (old ++ fact ∷ []) later → DeskInvariant side point new later saved
+kept-more side point old kept later saved fact new is fits all_fit new_is keeps =
     let longer : length (old ++ fact ∷ []) ≡ length old + 1 = length-append old (fact ∷ []) in
-    let within = kept.within in
-    subst (λ (facts : List Fact). DeskInvariant side point facts later new_book new_contracts new_takings saved) (sym new_is)
+    let within = is.within in
+    subst (λ (facts : List Fact). DeskInvariant side point facts later saved) (sym new_is)
     (record {
-      stages = stages;
-      running = running;
-      numbers = numbers;
+      keeps = keeps;
       within = omega (arith, longer, within);
-      fits = fits-more side point old fact kept.fits fits all_fit;
+      fits = fits-more side point old fact is.fits fits all_fit;
     })
 
 -- the nominations in force are sound, by what is kept of them and of the contracts
@@ -176,26 +176,35 @@ pub recorded-cycle : (side : Side) (s : DeskState) (id : CycleId) (rule : Rule) 
 recorded-cycle side s id rule e = below_is_cycle id.day id.cycle (recorded-below side s.point s.facts id rule e)
 
 -- one more fact that changes no cycle
-pub kept-other : (side : Side) (point : List ℕ) (old : List Fact) (entries : List (CycleId × Stage)) (book new_book : Documents) (contracts new_contracts : Capacity) (takings new_takings : List (PortfolioDay × ℕ)) (saved : ℕ) (s : DeskState) (fact : Fact) (new : List Fact)
-    → DeskInvariant side point old entries book contracts takings saved → changes_cycle fact ≡ false → s.point ≡ point → s.facts ≡ old → would_record side s.point s.facts fact ≡ true → length s.facts < most_facts → FitsFact fact
-    → new ≡ old ++ fact ∷ [] → IsRunning point (old ++ fact ∷ []) new_book new_contracts → AreTakings (old ++ fact ∷ []) new_takings → DeskInvariant side point new entries new_book new_contracts new_takings saved
-kept-other side point old entries book new_book contracts new_contracts takings new_takings saved s fact new kept other point_is facts_is recorded room fits new_is running numbers =
-    let legal = kept-legal side point old s fact kept.stages.legal point_is facts_is recorded room in
-    kept-more side point old entries book new_book contracts new_contracts takings new_takings saved fact new entries kept fits (states_fit-other side old fact other kept.fits.states) new_is
-    (stages-other side point old fact entries other legal kept.stages) running numbers
+pub kept-other : (side : Side) (point : List ℕ) (old : List Fact) (kept : Kept) (book : Documents) (contracts : Capacity) (takings : BTreeMap PortfolioDay ℕ) (saved : ℕ) (s : DeskState) (fact : Fact) (new : List Fact)
+    → DeskInvariant side point old kept saved → changes_cycle fact ≡ false → s.point ≡ point → s.facts ≡ old → would_record side s.point s.facts fact ≡ true → length s.facts < most_facts → FitsFact fact
+    → new ≡ old ++ fact ∷ [] → IsRunning point (old ++ fact ∷ []) book contracts → AreTakings (old ++ fact ∷ []) takings.entries
+    → DeskInvariant side point new (record kept { book = book; contracts = contracts; takings = takings }) saved
+kept-other side point old kept book contracts takings saved s fact new is other point_is facts_is recorded room fits new_is running numbers =
+    let legal = kept-legal side point old s fact is.keeps.stages.legal point_is facts_is recorded room in
+    kept-more side point old kept (record kept { book = book; contracts = contracts; takings = takings }) saved fact new is fits (states_fit-other side old fact other is.fits.states) new_is
+    (record { stages = stages-other side point old fact kept.stages.entries other legal is.keeps.stages; running = running; numbers = numbers })
 
 -- one more closing
-pub kept-closed : (side : Side) (point : List ℕ) (old : List Fact) (entries : List (CycleId × Stage)) (book : Documents) (contracts : Capacity) (takings : List (PortfolioDay × ℕ)) (saved : ℕ) (id : CycleId) (rule : Rule) (new : List Fact) (later : List (CycleId × Stage))
-    → DeskInvariant side point old entries book contracts takings saved → FitsCycle id → FitsProcessed (processed (capacity_of old) (documents_of old) side id.day id.cycle rule)
-    → new ≡ old ++ Closed id rule ∷ [] → AreStages side point (old ++ Closed id rule ∷ []) later → DeskInvariant side point new later book contracts takings saved
-kept-closed side point old entries book contracts takings saved id rule new later kept fits own_fits new_is stages =
-    kept-more side point old entries book book contracts contracts takings takings saved (Closed id rule) new later kept fits (states_fit-closed side point old id rule stages.legal kept.fits.states fits own_fits) new_is stages
-    (running-closed point old book contracts id rule kept.running) (takings-same side point old (Closed id rule) takings (λ document e. absurd cc) kept.stages.legal kept.numbers)
+pub kept-closed : (side : Side) (point : List ℕ) (old : List Fact) (kept : Kept) (saved : ℕ) (id : CycleId) (rule : Rule) (new : List Fact) (stages : BTreeMap CycleId Stage)
+    → DeskInvariant side point old kept saved → FitsCycle id → FitsProcessed (processed (capacity_of old) (documents_of old) side id.day id.cycle rule)
+    → new ≡ old ++ Closed id rule ∷ [] → AreStages side point (old ++ Closed id rule ∷ []) stages.entries → DeskInvariant side point new (record kept { stages = stages }) saved
+kept-closed side point old kept saved id rule new stages is fits own_fits new_is are =
+    kept-more side point old kept (record kept { stages = stages }) saved (Closed id rule) new is fits (states_fit-closed side point old id rule are.legal is.fits.states fits own_fits) new_is
+    (record {
+      stages = are;
+      running = running-closed point old kept.book kept.contracts id rule is.keeps.running;
+      numbers = takings-same side point old (Closed id rule) kept.takings.entries (λ document e. absurd cc) is.keeps.stages.legal is.keeps.numbers;
+    })
 
 -- one more meeting
-pub kept-met : (side : Side) (point : List ℕ) (old : List Fact) (entries : List (CycleId × Stage)) (book : Documents) (contracts : Capacity) (takings : List (PortfolioDay × ℕ)) (saved : ℕ) (id : CycleId) (peer : TableContents) (new : List Fact) (later : List (CycleId × Stage))
-    → DeskInvariant side point old entries book contracts takings saved → FitsFact (Met id peer) → new ≡ old ++ Met id peer ∷ [] → AreStages side point (old ++ Met id peer ∷ []) later
-    → DeskInvariant side point new later book contracts takings saved
-kept-met side point old entries book contracts takings saved id peer new later kept fits new_is stages =
-    kept-more side point old entries book book contracts contracts takings takings saved (Met id peer) new later kept fits (states_fit-met side point old id peer stages.legal kept.fits.states fits) new_is stages
-    (running-met point old book contracts id peer kept.running) (takings-same side point old (Met id peer) takings (λ document e. absurd cc) kept.stages.legal kept.numbers)
+pub kept-met : (side : Side) (point : List ℕ) (old : List Fact) (kept : Kept) (saved : ℕ) (id : CycleId) (peer : TableContents) (new : List Fact) (stages : BTreeMap CycleId Stage)
+    → DeskInvariant side point old kept saved → FitsFact (Met id peer) → new ≡ old ++ Met id peer ∷ [] → AreStages side point (old ++ Met id peer ∷ []) stages.entries
+    → DeskInvariant side point new (record kept { stages = stages }) saved
+kept-met side point old kept saved id peer new stages is fits new_is are =
+    kept-more side point old kept (record kept { stages = stages }) saved (Met id peer) new is fits (states_fit-met side point old id peer are.legal is.fits.states fits) new_is
+    (record {
+      stages = are;
+      running = running-met point old kept.book kept.contracts id peer is.keeps.running;
+      numbers = takings-same side point old (Met id peer) kept.takings.entries (λ document e. absurd cc) is.keeps.stages.legal is.keeps.numbers;
+    })

@@ -8,9 +8,10 @@ use Rattle.gi_pairs.specs.declared.cycle_id.CycleId.{CycleId}
 use Rattle.gi_pairs.specs.declared.side.Side.{Side}
 use Rattle.gi_pairs.specs.declared.side.Side.TheVariants.{I, M}
 use Rattle.gi_messages.specs.declared.message.Message.{Message}
+use Rattle.gi_messages.specs.declared.message.Message.TheVariants.{Nomint, Acknow, Nomres, Delord, Delres}
 use Rattle.gi_cycles.specs.declared.cycle_state.CycleState.{CycleState}
 use Rattle.gi_cycles.specs.declared.cycle_state.CycleState.TheVariants.{Collecting}
-use Rattle.gi_desk.specs.Deciding.{IsDecided, IsUnlessShort, address_of, by_order, decision, may_want_at}
+use Rattle.gi_desk.specs.Deciding.{IsDecided, IsUnlessShort, address_of, by_order, decision, for_role, may_want_at}
 use Rattle.gi_desk.specs.History.{frozen_cycle, is_closed, met_by, peer_of, state_of}
 use Rattle.gi_desk.specs.Judging.{by_decision, delivered, if_addressed}
 use Rattle.gi_desk.specs.Caches.{closed_state}
@@ -21,7 +22,7 @@ use Rattle.gi_desk.specs.declared.decision.Decision.TheVariants.{Refused}
 use Rattle.gi_facts.specs.declared.fact.Fact.{Fact}
 use Rattle.gi_desk.specs.declared.outcome.Outcome.{Outcome}
 use Rattle.gi_desk.specs.declared.outcome.Outcome.TheVariants.{Refuses}
-use Rattle.gi_desk.specs.declared.refusal.Refusal.TheVariants.{Halted, OutOfMemory, WrongPoint}
+use Rattle.gi_desk.specs.declared.refusal.Refusal.TheVariants.{Halted, OutOfMemory, WrongKind, WrongPoint}
 
 -- ---- how far a cycle is
 
@@ -67,6 +68,46 @@ pub delivered-addressed : (side : Side) (point kept own : List ℕ) (history : L
 delivered-addressed side point kept own history id message addressed same is_own =
     let same_here : false ≡ not (bytes_eq point own) = same ∙ ap (λ (p : List ℕ). not (bytes_eq point p)) is_own in
     sym (taken (bytes_eq point own) _ same_here) ∙ ap (if_addressed side own history message) addressed
+
+-- one of another point
+elsewhere : (b : Bool) (o : Outcome) → true ≡ not b → cond b o (Refuses WrongPoint) ≡ Refuses WrongPoint
+elsewhere true o e = absurd cc
+elsewhere false o e = refl
+
+pub delivered-elsewhere : (side : Side) (point kept own : List ℕ) (history : List Fact) (id : CycleId) (message : Message) → Some (point, id) ≡ address_of side message → true ≡ not (bytes_eq point kept) → kept ≡ own
+    → Refuses WrongPoint ≡ delivered side own history (Ok message)
+delivered-elsewhere side point kept own history id message addressed other is_own =
+    let other_here : true ≡ not (bytes_eq point own) = other ∙ ap (λ (p : List ℕ). not (bytes_eq point p)) is_own in
+    sym (elsewhere (bytes_eq point own) _ other_here) ∙ ap (if_addressed side own history message) addressed
+
+-- and one of another kind
+unaddressed : (side : Side) (message : Message) → None ≡ for_role side message → None ≡ address_of side message
+unaddressed I (Nomint message) e = refl
+unaddressed I (Acknow message) e = refl
+unaddressed I (Nomres message) e = refl
+unaddressed I (Delord message) e = refl
+unaddressed I (Delres message) e = absurd cc
+unaddressed M (Nomint message) e = refl
+unaddressed M (Acknow message) e = refl
+unaddressed M (Nomres message) e = refl
+unaddressed M (Delord message) e = absurd cc
+unaddressed M (Delres message) e = refl
+
+pub delivered-unaddressed : (side : Side) (own : List ℕ) (history : List Fact) (message : Message) → None ≡ for_role side message → Refuses WrongKind ≡ delivered side own history (Ok message)
+delivered-unaddressed side own history message other = ap (if_addressed side own history message) (unaddressed side message other)
+
+-- what a role receives is the message
+pub received-is : (side : Side) (message received : Message) → Some received ≡ for_role side message → received ≡ message
+received-is I (Nomint message) received e = absurd cc
+received-is I (Acknow message) received e = absurd cc
+received-is I (Nomres message) received e = absurd cc
+received-is I (Delord message) received e = absurd cc
+received-is I (Delres message) received e = cc
+received-is M (Nomint message) received e = absurd cc
+received-is M (Acknow message) received e = absurd cc
+received-is M (Nomres message) received e = absurd cc
+received-is M (Delord message) received e = cc
+received-is M (Delres message) received e = absurd cc
 
 -- what was decoded, where what comes of it is known
 pub delivered-from : {E : Type 0} (r : Result Outcome E) (read other : Outcome) → IfOk r (λ outcome. outcome ≡ read) → read ≡ other → IfOk r (λ outcome. outcome ≡ other)

@@ -67,6 +67,7 @@ response-fits point cycle code fits = record {
   processed = fits.own.table;
   few = fits.own.few;
   confirmed = fits.confirmed;
+  few_confirmed = fits.confirmed.few;
   begins = fits.begins;
   ends = fits.ends;
 }

@@ -166,6 +166,7 @@ response_fits point id own peer code cycle own_fits fits shape =
       processed = fits.table;
       few = fits.few;
       confirmed = lesser.table;
+      few_confirmed = lesser.table.few;
       begins = lesser.first ∙ shape.first;
       ends = lesser.last ∙ shape.last;
     }

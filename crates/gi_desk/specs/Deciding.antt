@@ -1,13 +1,13 @@
 -- What a desk makes of its peer's message, by the state of the cycle.
 use Rattle.std.specs.Prelude.{◌≡◌, ◌≤◌, ◌⊎◌, ℕ, ◌+◌, List, [], ◌∷◌, length, Bool, false, if◌then◌else◌, Option, Some, None, IsTrue}
 use Rattle.jiff_core.specs.declared.civil.date.Date.{Date}
-use Rattle.gi_pairs.specs.Limits.{most_processed_rows}
 use Rattle.gi_pairs.specs.Row.{row_eq}
 use Rattle.gi_pairs.specs.Table.{TableContents, same_hours, table_eq}
 use Rattle.gi_pairs.specs.declared.cycle_id.CycleId.{CycleId}
 use Rattle.gi_pairs.specs.declared.row.Row.{Row}
 use Rattle.gi_pairs.specs.declared.side.Side.{Side}
 use Rattle.gi_pairs.specs.declared.side.Side.TheVariants.{I, M}
+use Rattle.gi_messages.specs.Limits.{most_processed_elements}
 use Rattle.gi_messages.specs.declared.message.Message.{Message}
 use Rattle.gi_messages.specs.declared.message.Message.TheVariants.{Nomint, Acknow, Nomres, Delord, Delres}
 use Rattle.gi_lesser.specs.Lesser.{lesser_of}
@@ -58,11 +58,11 @@ decision M state (Delord message) = by_order message.processed state
 decision I state (Delres message) = by_response message.processed message.confirmed state
 decision side state message = Refused WrongKind
 
--- a message of the kind that is for the side
-abbrev pub IsForRole : Side → Message → Type 0
-IsForRole M (Delord message) = Unit {0}
-IsForRole I (Delres message) = Unit {0}
-IsForRole side message = ⊥
+-- a message, where it is of the kind that is for the side
+abbrev pub for_role : Side → Message → Option Message
+for_role M (Delord message) = Some (Delord message)
+for_role I (Delres message) = Some (Delres message)
+for_role side message = None
 
 -- the interconnection point and the cycle of such a message
 abbrev pub cycle_of : (day : Date) → ℕ → CycleId
@@ -75,8 +75,8 @@ address_of side message = None
 
 -- the processed table of an order or a response has as few rows as a message may carry
 abbrev pub HasFewRows : Message → Type 0
-HasFewRows (Delord message) = length message.processed.rows ≤ most_processed_rows
-HasFewRows (Delres message) = length message.processed.rows ≤ most_processed_rows
+HasFewRows (Delord message) = length message.processed.rows ≤ most_processed_elements
+HasFewRows (Delres message) = length message.processed.rows ≤ most_processed_elements
 HasFewRows (Nomint message) = Unit {0}
 HasFewRows (Acknow message) = Unit {0}
 HasFewRows (Nomres message) = Unit {0}

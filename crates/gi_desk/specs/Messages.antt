@@ -35,9 +35,17 @@ acknow_of document = record { point = document.point; portfolio = document.portf
 abbrev pub order_of : List ℕ → FrozenCycle → Delord
 order_of point cycle = record { point = point; day = cycle.id.day; cycle = cycle.id.cycle; processed = cycle.own }
 
+-- the messages that carry it, in order
+abbrev pub orders_of : List ℕ → FrozenCycle → List Message
+orders_of point cycle = messages.Delord (order_of point cycle) ∷ []
+
 -- the matching operator's response: its frozen table, and the confirmed one
 abbrev pub response_of : List ℕ → MatchedCycle → Delres
 response_of point cycle = record { point = point; day = cycle.id.day; cycle = cycle.id.cycle; processed = cycle.own; confirmed = cycle.confirmed }
+
+-- the messages that carry it, in order
+abbrev pub responses_of : List ℕ → MatchedCycle → List Message
+responses_of point cycle = messages.Delres (response_of point cycle) ∷ []
 
 -- the side's portfolios that stand in rows, each once, by code
 abbrev pub with_code : List ℕ → List (List ℕ) → List (List ℕ)
@@ -75,9 +83,9 @@ told_packets side point cycle = map (λ portfolio. to_user portfolio (messages.N
 
 -- what a role writes to its peer when a cycle is closed, and when it is met, in order
 abbrev pub on_closed : Side → List ℕ → FrozenCycle → List Message
-on_closed I point cycle = messages.Delord (order_of point cycle) ∷ []
+on_closed I point cycle = orders_of point cycle
 on_closed M point cycle = []
 
 abbrev pub on_met : Side → List ℕ → MatchedCycle → List Message
 on_met I point cycle = []
-on_met M point cycle = messages.Delres (response_of point cycle) ∷ []
+on_met M point cycle = responses_of point cycle

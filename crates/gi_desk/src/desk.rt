@@ -10,15 +10,12 @@ mod recording;
 mod replaying;
 mod stepping;
 
+use crate::kept::Kept;
 use crate::role::Role;
-use crate::stage::Stage;
 use gi_day::Calendar;
 use gi_facts::Fact;
-use gi_nominations::{Book, PortfolioDay};
-use gi_pairs::{Code, CycleId};
-use gi_processing::Contracts;
+use gi_pairs::Code;
 use std::alloc::Global;
-use std::collections::BTreeMap;
 use std::marker::{Model, PhantomData};
 
 /// One operator's desk: its facts, and what they come to.
@@ -28,14 +25,8 @@ pub struct Desk<R: Role> {
     calendar: Calendar,
     point: Code,
     facts: Vec<Fact>,
-    /// The nominations in force by the facts.
-    book: Book,
-    /// The contracts that stand by them, and what the notices leave.
-    contracts: Contracts,
-    /// The number of the fact that took each nomination in force.
-    takings: BTreeMap<PortfolioDay, u32>,
-    /// How far each closed cycle is.
-    stages: BTreeMap<CycleId, Stage>,
+    /// What they come to.
+    kept: Kept,
     /// How many facts stand on the store.
     saved: u32,
     halted: bool,
@@ -50,7 +41,7 @@ impl<R: Role> Model for Desk<R> {
 
     ghost view = { λ d. record { point = d.point; facts = d.facts.items; saved = d.saved; halted = d.halted } };
 
-    ghost invariant = { λ d. DeskInvariant R.SIDE d.point d.facts.items d.stages.entries d.book d.contracts d.takings.entries d.saved };
+    ghost invariant = { λ d. DeskInvariant R.SIDE d.point d.facts.items d.kept d.saved };
 }
 
 impl<R: Role> Desk<R> {

@@ -1,13 +1,13 @@
 //! What calls come to, as far as that does not take the whole desk.
 
-ghost use Rattle.std.specs.Prelude.{◌≡◌, ◌≤◌, ◌&&◌, ◌↔◌, IfSome, IsTrue, List, Some, length, nat_le};
+ghost use Rattle.std.specs.Prelude.{◌≡◌, ◌≤◌, ◌&&◌, ◌↔◌, IsTrue, List, Some, length, nat_le};
 ghost use Rattle.std.specs.List.{list_all};
 ghost use Rattle.gi_desk.specs.History.{capacity_of};
 ghost use Rattle.gi_desk.specs.Judging.{by_decision, contracted as contracted_of, if_same as if_same_fact, marked as marked_of, noticed as noticed_of};
 ghost use Rattle.gi_processing.specs.Readings.{ReadsAs};
 ghost use Rattle.gi_pairs.specs.Limits.{most_processed_rows};
 ghost use Rattle.gi_pairs.specs.declared.cycle_id.CycleId.{CycleId};
-ghost use Rattle.gi_desk.specs.Deciding.{IsForRole, address_of, by_order};
+ghost use Rattle.gi_desk.specs.Deciding.{by_order};
 ghost use Rattle.gi_facts.specs.declared.fact.Fact.{Fact};
 ghost use Rattle.gi_desk.specs.declared.decision.Decision.TheVariants.{Refused};
 ghost use Rattle.gi_desk.specs.declared.refusal.Refusal.TheVariants.{OutOfMemory};
@@ -19,8 +19,8 @@ use crate::refusal::Refusal;
 use gi_cycles::CycleState;
 use gi_day::Calendar;
 use gi_facts::Fact;
-use gi_messages::{LAST_PRIORITY, Message, NominationLine};
-use gi_pairs::{Code, CycleId, MOST_PROCESSED_ROWS, Side, Table};
+use gi_messages::{LAST_PRIORITY, NominationLine};
+use gi_pairs::{MOST_PROCESSED_ROWS, Table};
 use gi_processing::{Contract, Contracts, Notice, NoticeFault};
 
 /// How many facts a desk has at most.
@@ -44,29 +44,6 @@ pub(crate) fn noticed(calendar: &Calendar, notice: &Notice) -> Outcome
         Some(NoticeFault::NoticeRange) => Outcome::Refuses(Refusal::NoticeRange),
         Some(NoticeFault::PermilleRange) => Outcome::Refuses(Refusal::PermilleRange),
         Some(NoticeFault::OutOfMemory) => Outcome::Refuses(Refusal::OutOfMemory),
-    }
-}
-
-pub(crate) fn addressed(side: Side, message: &Message) -> Option<(Code, CycleId)>
-    ensures value { result ≡ address_of side message.now }
-    ensures kind { IfSome result (λ _. IsForRole side message.now) }
-{
-    match (side, message) {
-        (Side::M, Message::Delord(order)) => Some((
-            order.point,
-            CycleId {
-                day: order.day,
-                cycle: order.cycle,
-            },
-        )),
-        (Side::I, Message::Delres(response)) => Some((
-            response.point,
-            CycleId {
-                day: response.day,
-                cycle: response.cycle,
-            },
-        )),
-        _ => None,
     }
 }
 

@@ -55,6 +55,7 @@ mod decision;
 mod desk;
 mod fact_packets;
 mod judging;
+mod kept;
 mod laws;
 mod outcome;
 mod packet;

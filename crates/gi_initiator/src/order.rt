@@ -1,13 +1,12 @@
 ghost use Rattle.std.specs.Prelude.{◌≡◌, IfOk};
-ghost use Rattle.gi_desk.specs.Messages.{order_of};
+ghost use Rattle.gi_desk.specs.Messages.{order_of, orders_of};
 
 use gi_cycles::Frozen;
-use gi_messages::Delord;
+use gi_messages::{Delord, Message};
 use gi_pairs::Code;
-use std::alloc::AllocError;
+use std::alloc::{AllocError, Global};
 
-/// The order of a closed cycle at the interconnection point: its frozen table.
-pub fn order_for(point: Code, cycle: &Frozen) -> Result<Delord, AllocError>
+fn order(point: Code, cycle: &Frozen) -> Result<Delord, AllocError>
     ensures { IfOk result (λ order. order ≡ order_of point cycle.now) }
 {
     let id = cycle.id();
@@ -17,4 +16,12 @@ pub fn order_for(point: Code, cycle: &Frozen) -> Result<Delord, AllocError>
         cycle: id.cycle,
         processed: cycle.own().copy()?,
     })
+}
+
+/// The order of a closed cycle at the interconnection point, its frozen table: the messages that
+/// carry it, in order.
+pub fn order_for(alloc: Global, point: Code, cycle: &Frozen) -> Result<Vec<Message>, AllocError>
+    ensures { IfOk result (λ messages. messages.items ≡ orders_of point cycle.now) }
+{
+    Ok(vec![in alloc; Message::Delord(order(point, cycle)?)]?)
 }

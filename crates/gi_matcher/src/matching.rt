@@ -1,30 +1,47 @@
 use crate::order::take_order;
 use crate::response::response_for;
 use gi_cycles::{CycleState, Frozen, Matched};
-use gi_desk::{Decision, Refusal, Role};
-use gi_messages::Message;
-use gi_pairs::{Code, Side};
+use gi_desk::{Decision, Role};
+use gi_messages::{Delord, Message};
+use gi_pairs::{Code, CycleId, Side};
 use std::alloc::{AllocError, Global};
 
 /// The matching operator: it takes the order, and sends the response.
 pub struct Matching;
 
 impl Role for Matching {
+    ghost use Rattle.gi_messages.specs.declared.message.Message.TheVariants as messages;
     ghost use Rattle.gi_pairs.specs.declared.side.Side.TheVariants.{M};
 
     ghost SIDE = { M };
 
+    type Received = Delord;
+
+    ghost as_message = { λ order. messages.Delord order };
+
     const SIDE: Side = Side::M;
 
-    fn decide(_alloc: Global, state: &CycleState, message: Message) -> Decision {
+    fn received(message: Message) -> Option<Delord> {
         match message {
-            Message::Delord(order) => take_order(state, order),
+            Message::Delord(order) => Some(order),
             other => {
                 // (handed to drop, by one call: going out of scope here would be checked field by field on each way out)
                 drop(other);
-                Decision::Refused(Refusal::WrongKind)
+                None
             }
         }
+    }
+
+    fn address(order: &Delord) -> (Code, CycleId) {
+        let id = CycleId {
+            day: order.day,
+            cycle: order.cycle,
+        };
+        (order.point, id)
+    }
+
+    fn decide(_alloc: Global, state: &CycleState, order: Delord) -> Decision {
+        take_order(state, order)
     }
 
     fn on_closed(alloc: Global, _point: Code, _cycle: &Frozen) -> Result<Vec<Message>, AllocError> {
@@ -32,6 +49,6 @@ impl Role for Matching {
     }
 
     fn on_met(alloc: Global, point: Code, cycle: &Matched) -> Result<Vec<Message>, AllocError> {
-        Ok(vec![in alloc; Message::Delres(response_for(point, cycle)?)]?)
+        response_for(alloc, point, cycle)
     }
 }

@@ -3,7 +3,7 @@
 ghost use Rattle.std.specs.Prelude.{◌≡◌, IfErr, IfOk, IsTrue, Ok};
 ghost use Rattle.gi_messages.specs.Decoding.{decoded};
 ghost use Rattle.gi_desk.specs.History.{state_of};
-ghost use Rattle.gi_desk.specs.Deciding.{HasFewRows, IsForRole, decision};
+ghost use Rattle.gi_desk.specs.Deciding.{HasFewRows, decision};
 ghost use Rattle.gi_desk.specs.Judging.{by_decision as by_decision_of, closed as closed_of, delivered as delivered_of, nominated as nominated_of, resent as resent_of, submitted as submitted_of, verdict_on};
 ghost use Rattle.gi_desk.specs.Machine.{can_be_read, comes_to as comes_to_of, learns_with_memory, may_want_to_prepare, outcome as outcome_of, would_record as would_record_of};
 ghost use Rattle.gi_facts.specs.declared.fact.Fact.TheVariants.{Met, Nominated};
@@ -12,8 +12,7 @@ use crate::call::Call;
 use crate::decision::Decision;
 use crate::desk::Desk;
 use crate::judging::{
-    addressed, can_meet, contracted, have_priorities, is_short, marked, noticed, records,
-    unless_full,
+    can_meet, contracted, have_priorities, is_short, marked, noticed, records, unless_full,
 };
 use crate::outcome::Outcome;
 use crate::refusal::Refusal;
@@ -96,14 +95,13 @@ impl<R: Role> Desk<R> {
         }
     }
 
-    fn decided(&self, id: &CycleId, message: Message) -> Result<Outcome, AllocError>
-        requires kind { IsForRole R.SIDE message }
-        requires few { HasFewRows message }
-        ensures { IfOk result (λ outcome. outcome ≡ by_decision_of self.now.facts id.now (decision R.SIDE (state_of R.SIDE self.now.facts id.now) message)) }
+    fn decided(&self, id: &CycleId, received: R::Received) -> Result<Outcome, AllocError>
+        requires { HasFewRows (R.as_message received) }
+        ensures { IfOk result (λ outcome. outcome ≡ by_decision_of self.now.facts id.now (decision R.SIDE (state_of R.SIDE self.now.facts id.now) (R.as_message received))) }
     {
         let collecting = CycleState::Collecting(Collecting::new(*id));
         let state = self.find(id).unwrap_or(&collecting);
-        let decision = R::decide(self.alloc, state, message);
+        let decision = R::decide(self.alloc, state, received);
         drop(collecting);
         if is_short(&decision) {
             drop(decision);
@@ -112,21 +110,29 @@ impl<R: Role> Desk<R> {
         Ok(self.by_decision(*id, decision))
     }
 
+    /// What the peer's order or response comes to.
+    fn addressed(&self, received: R::Received) -> Result<Outcome, AllocError>
+        requires { HasFewRows (R.as_message received) }
+        ensures { IfOk result (λ outcome. outcome ≡ delivered_of R.SIDE self.now.point self.now.facts (Ok (R.as_message received))) }
+    {
+        let (point, id) = R::address(&received);
+        if point != self.point {
+            // (handed to drop, by one call: going out of scope here would be checked field by field on each way out)
+            drop(received);
+            return Ok(Outcome::Refuses(Refusal::WrongPoint));
+        }
+        self.decided(&id, received)
+    }
+
     /// What a message that could be read comes to, where the peer sent it.
     fn received(&self, message: Message) -> Result<Outcome, AllocError>
         requires { HasFewRows message }
         ensures { IfOk result (λ outcome. outcome ≡ delivered_of R.SIDE self.now.point self.now.facts (Ok message)) }
     {
-        let Some((point, id)) = addressed(R::SIDE, &message) else {
-            // (handed to drop, by one call: going out of scope here would be checked field by field on each way out)
-            drop(message);
-            return Ok(Outcome::Refuses(Refusal::WrongKind));
-        };
-        if point != self.point {
-            drop(message);
-            return Ok(Outcome::Refuses(Refusal::WrongPoint));
+        match R::received(message) {
+            Some(received) => self.addressed(received),
+            None => Ok(Outcome::Refuses(Refusal::WrongKind)),
         }
-        self.decided(&id, message)
     }
 
     fn delivered(&self, bytes: &[u8]) -> Result<Outcome, AllocError>

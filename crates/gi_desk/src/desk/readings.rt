@@ -21,20 +21,20 @@ impl<R: Role> Desk<R> {
     pub(super) fn contracts(&self) -> &Contracts
         ensures { ReadsAs result.now (capacity_of self.now.facts) }
     {
-        &self.contracts
+        &self.kept.contracts
     }
 
     pub(super) fn book(&self) -> &Book
         ensures at { result.now.point ≡ self.now.point }
         ensures nominations { HasInForce result.now.documents (documents_of self.now.facts) }
     {
-        &self.book
+        &self.kept.book
     }
 
     pub(super) fn find(&self, id: &CycleId) -> Option<&CycleState>
         ensures { option_copied result ≡ closed_state R.SIDE self.now.facts id.now }
     {
-        match self.stages.get(id) {
+        match self.kept.stages.get(id) {
             Some(stage) => Some(&stage.state),
             None => None,
         }
@@ -43,7 +43,7 @@ impl<R: Role> Desk<R> {
     pub(super) fn is_closed(&self, id: &CycleId) -> bool
         ensures { result ≡ is_closed_in id.now self.now.facts }
     {
-        self.stages.contains_key(id)
+        self.kept.stages.contains_key(id)
     }
 
     pub(super) fn last_closed(&self, day: GasDay) -> Option<u8>
@@ -55,7 +55,7 @@ impl<R: Role> Desk<R> {
             cycle: u8::MAX,
         };
         // The closings of a day only rise, so the last one has its greatest number.
-        match self.stages.range(first..=last).next_back() {
+        match self.kept.stages.range(first..=last).next_back() {
             Some((id, _)) => Some(id.cycle),
             None => None,
         }
@@ -73,7 +73,7 @@ impl<R: Role> Desk<R> {
         ensures { result ≡ number_of (is_closing id.now) self.now.facts }
     {
         let beyond = self.next_number();
-        match self.stages.get(id) {
+        match self.kept.stages.get(id) {
             Some(stage) => stage.closing,
             None => beyond,
         }
@@ -83,7 +83,7 @@ impl<R: Role> Desk<R> {
         ensures { result ≡ number_of (is_meeting id.now) self.now.facts }
     {
         let beyond = self.next_number();
-        match self.stages.get(id) {
+        match self.kept.stages.get(id) {
             Some(stage) => stage.meeting.unwrap_or(beyond),
             None => beyond,
         }
@@ -93,7 +93,7 @@ impl<R: Role> Desk<R> {
         requires { verdict_on self.now.point self.now.facts document.now ≡ Repeat }
         ensures { result ≡ number_of (is_taking document.now) self.now.facts }
     {
-        let Some(number) = self.takings.get(&PortfolioDay::of(document)) else {
+        let Some(number) = self.kept.takings.get(&PortfolioDay::of(document)) else {
             unreachable!()
         };
         *number

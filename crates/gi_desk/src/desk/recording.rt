@@ -56,7 +56,7 @@ impl<R: Role> Desk<R> {
             drop(own);
             return Err(AllocError);
         };
-        close(&mut self.stages, id, own, number)?;
+        close(&mut self.kept.stages, id, own, number)?;
         self.facts.push_reserved(Fact::Closed { id: *id, rule });
         Ok(())
     }
@@ -79,7 +79,7 @@ impl<R: Role> Desk<R> {
             drop((peer, copy));
             return Err(AllocError);
         };
-        let Ok(()) = meet(self.alloc, &mut self.stages, id, peer, number) else {
+        let Ok(()) = meet(self.alloc, &mut self.kept.stages, id, peer, number) else {
             drop(copy);
             return Err(AllocError);
         };
@@ -98,7 +98,7 @@ impl<R: Role> Desk<R> {
         ensures unchanged { OnErr result (self.new ≡ self.old) }
     {
         self.facts.reserve(1)?;
-        record_contract(&mut self.contracts, *contract)?;
+        record_contract(&mut self.kept.contracts, *contract)?;
         self.facts.push_reserved(Fact::Contracted(*contract));
         Ok(())
     }
@@ -111,7 +111,7 @@ impl<R: Role> Desk<R> {
         ensures unchanged { OnErr result (self.new ≡ self.old) }
     {
         self.facts.reserve(1)?;
-        record_notice(&mut self.contracts, &self.calendar, *notice)?;
+        record_notice(&mut self.kept.contracts, &self.calendar, *notice)?;
         self.facts.push_reserved(Fact::Noticed(*notice));
         Ok(())
     }
@@ -133,13 +133,13 @@ impl<R: Role> Desk<R> {
             return Err(AllocError);
         };
         let key = PortfolioDay::of(&document);
-        let Ok(_) = self.takings.insert(key, number) else {
+        let Ok(_) = self.kept.takings.insert(key, number) else {
             drop((document, taken));
             return Err(AllocError);
         };
-        let Ok(()) = self.book.take(taken) else {
+        let Ok(()) = self.kept.book.take(taken) else {
             // The book has room in the place of another nomination: so none is in force, and no number stood here.
-            self.takings.remove(&key);
+            self.kept.takings.remove(&key);
             drop(document);
             return Err(AllocError);
         };

@@ -6,6 +6,7 @@ ghost use Rattle.gi_desk.specs.declared.replay_fault.ReplayFault.TheVariants.{Ba
 
 use crate::desk::Desk;
 use crate::judging::MOST_FACTS;
+use crate::kept::Kept;
 use crate::replay_fault::ReplayFault;
 use crate::role::Role;
 use gi_day::Calendar;
@@ -26,11 +27,13 @@ impl<R: Role> Desk<R> {
             alloc,
             calendar,
             point,
-            book: Book::new(alloc, point),
-            contracts: Contracts::new(alloc),
             facts: Vec::new(alloc),
-            takings: BTreeMap::new(alloc),
-            stages: BTreeMap::new(alloc),
+            kept: Kept {
+                book: Book::new(alloc, point),
+                contracts: Contracts::new(alloc),
+                takings: BTreeMap::new(alloc),
+                stages: BTreeMap::new(alloc),
+            },
             saved: 0,
             halted: false,
             role: PhantomData,

@@ -6,8 +6,8 @@ use gi_cycles::CycleState;
 use gi_desk::{Decision, Role};
 use gi_initiator::{Initiating, take_response};
 use gi_matcher::{Matching, take_order};
-use gi_messages::{Delord, Delres, Message};
-use gi_pairs::{Code, CycleId, MOST_PROCESSED_ROWS, Side};
+use gi_messages::{Delord, Delres, MOST_PROCESSED_ELEMENTS};
+use gi_pairs::{Code, CycleId, Side};
 use std::alloc::Global;
 
 /// Adds a decision: the table that is met, or the refusal.
@@ -78,12 +78,12 @@ fn order_taken(
     let Some(order) = order_of(alloc, id_of(state), line)? else {
         return Ok(None);
     };
-    if order.processed.rows().len() > MOST_PROCESSED_ROWS {
+    if order.processed.rows().len() > MOST_PROCESSED_ELEMENTS {
         drop(order);
         return Ok(None);
     }
     if by_role {
-        return Ok(Some(Matching::decide(alloc, state, Message::Delord(order))));
+        return Ok(Some(Matching::decide(alloc, state, order)));
     }
     Ok(Some(take_order(state, order)))
 }
@@ -98,12 +98,12 @@ fn response_taken(
     let Some(response) = response_of(alloc, id_of(state), line)? else {
         return Ok(None);
     };
-    if response.processed.rows().len() > MOST_PROCESSED_ROWS {
+    if response.processed.rows().len() > MOST_PROCESSED_ELEMENTS {
         drop(response);
         return Ok(None);
     }
     if by_role {
-        return Ok(Some(Initiating::decide(alloc, state, Message::Delres(response))));
+        return Ok(Some(Initiating::decide(alloc, state, response)));
     }
     Ok(Some(take_response(alloc, state, response)))
 }

@@ -70,8 +70,7 @@ fn order(
     let (CycleState::Frozen(cycle), Some(point)) = (state, words.code()) else {
         return Ok(None);
     };
-    let order = order_for(point, cycle)?;
-    Ok(Some(vec![in alloc; Message::Delord(order)]?))
+    Ok(Some(order_for(alloc, point, cycle)?))
 }
 
 /// The response of the matched cycle.
@@ -84,8 +83,7 @@ fn response(
     let (CycleState::Matched(cycle), Some(point)) = (state, words.code()) else {
         return Ok(None);
     };
-    let response = response_for(point, cycle)?;
-    Ok(Some(vec![in alloc; Message::Delres(response)]?))
+    Ok(Some(response_for(alloc, point, cycle)?))
 }
 
 /// Adds what the line's call sends in that state.

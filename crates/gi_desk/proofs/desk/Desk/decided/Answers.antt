@@ -14,7 +14,7 @@ returns g c =
     let side = g.R.Role.SIDE in
     let facts = c.args.self.now.facts in
     let id = c.args.id.now in
-    let message = c.args.message in
+    let message = g.R.Role.as_message c.args.received in
     let state : c.unwrap_or-state.result.now ≡ state_of side facts id =
     ap (λ (b : Bor CycleState). b.now) c.unwrap_or-state.ensures ∙ referred-state c.find.result _
     ∙ ap (λ (i : CycleId). unwrap_or (option_copied c.find.result) (Collecting i)) c.new.ensures ∙ found-state side facts id (option_copied c.find.result) c.find.ensures in

@@ -19,12 +19,12 @@ invariant_of-self-2 g c =
     let id = c.args.id.now in
     let view = sym c.self.view_is in
     let facts_is = ap (λ (s : DeskState). s.facts) view in
-    let legal = kept-legal side inside.point inside.facts.items c.args.self.now (Closed id c.args.rule) c.self.invariant.stages.legal
+    let legal = kept-legal side inside.point inside.facts.items c.args.self.now (Closed id c.args.rule) c.self.invariant.keeps.stages.legal
     (ap (λ (s : DeskState). s.point) view) facts_is c.requires.recorded c.requires.room in
     let facts : c.push_reserved.new.self.items ≡ inside.facts.items ++ Closed id c.args.rule ∷ [] =
     c.push_reserved.ensures.items ∙ ap (λ (fs : List Fact). fs ++ Closed id c.args.rule ∷ []) c.in-Ok.ensures.items in
     let own = c.in_ok-own.ensures.value ∙ ap (λ (fs : List Fact). processed_of (capacity_of fs) (documents_of fs) side id.day id.cycle c.args.rule) facts_is in
     let number : c.next_number-number.result ≡ length inside.facts.items + 1 = c.next_number-number.ensures ∙ ap (λ (fs : List Fact). length fs + 1) facts_is in
-    kept-closed side inside.point inside.facts.items inside.stages.entries inside.book inside.contracts inside.takings.entries inside.saved id c.args.rule c.push_reserved.new.self.items c.close.new.stages.entries
+    kept-closed side inside.point inside.facts.items inside.kept inside.saved id c.args.rule c.push_reserved.new.self.items c.close.new.stages
     c.self.invariant c.requires.fits (subst (λ (t : TableContents). FitsProcessed t) own (record { table = c.in_ok-own.ensures.table; few = c.in_ok-own.ensures.few })) facts
-    (c.in_ok-close.ensures.closed side inside.point inside.facts.items c.args.rule c.self.invariant.stages legal own number)
+    (c.in_ok-close.ensures.closed side inside.point inside.facts.items c.args.rule c.self.invariant.keeps.stages legal own number)

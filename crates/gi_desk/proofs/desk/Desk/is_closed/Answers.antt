@@ -9,4 +9,4 @@ returns g c =
     let side = g.R.Role.SIDE in
     let id = c.args.id.now in
     c.contains_key.ensures
-    ∙ closed-read side c.args.self.now.facts id (stage_in c.self.inside.stages.entries id) (c.self.invariant.stages.at id ∙ ap (λ (s : DeskState). closed_stage side s.facts id) c.self.view_is)
+    ∙ closed-read side c.args.self.now.facts id (stage_in c.self.inside.kept.stages.entries id) (c.self.invariant.keeps.stages.at id ∙ ap (λ (s : DeskState). closed_stage side s.facts id) c.self.view_is)

@@ -18,16 +18,16 @@ pub returns-in-Some : goal.returns-in-Some
 returns-in-Some g c =
     let inside = c.self.inside in
     let day = c.args.day in
-    let from = subst (λ (first : CycleId). IsRangeOf answered (Included first) (Included (range_inclusive_end c.new.result)) inside.stages c.range.result) c.new.ensures.start (c.range.ensures.in_range c.new.ensures.exhausted) in
-    let within = subst (λ (last : CycleId). IsRangeOf answered (Included (first_of day)) (Included last) inside.stages c.range.result) c.new.ensures.end from in
-    last-read g.R.Role.SIDE inside.point inside.facts.items day inside.stages c.range.result c.self.invariant.stages within _ _ c.in-Some.ensures.steps
+    let from = subst (λ (first : CycleId). IsRangeOf answered (Included first) (Included (range_inclusive_end c.new.result)) inside.kept.stages c.range.result) c.new.ensures.start (c.range.ensures.in_range c.new.ensures.exhausted) in
+    let within = subst (λ (last : CycleId). IsRangeOf answered (Included (first_of day)) (Included last) inside.kept.stages c.range.result) c.new.ensures.end from in
+    last-read g.R.Role.SIDE inside.point inside.facts.items day inside.kept.stages c.range.result c.self.invariant.keeps.stages within _ _ c.in-Some.ensures.steps
     ∙ ap (λ (s : DeskState). last_closed day s.facts) c.self.view_is
 
 pub returns-in-None : goal.returns-in-None
 returns-in-None g c =
     let inside = c.self.inside in
     let day = c.args.day in
-    let from = subst (λ (first : CycleId). IsRangeOf answered (Included first) (Included (range_inclusive_end c.new.result)) inside.stages c.range.result) c.new.ensures.start (c.range.ensures.in_range c.new.ensures.exhausted) in
-    let within = subst (λ (last : CycleId). IsRangeOf answered (Included (first_of day)) (Included last) inside.stages c.range.result) c.new.ensures.end from in
-    none-read g.R.Role.SIDE inside.point inside.facts.items day inside.stages c.range.result c.self.invariant.stages within c.in-None.ensures.steps.0
+    let from = subst (λ (first : CycleId). IsRangeOf answered (Included first) (Included (range_inclusive_end c.new.result)) inside.kept.stages c.range.result) c.new.ensures.start (c.range.ensures.in_range c.new.ensures.exhausted) in
+    let within = subst (λ (last : CycleId). IsRangeOf answered (Included (first_of day)) (Included last) inside.kept.stages c.range.result) c.new.ensures.end from in
+    none-read g.R.Role.SIDE inside.point inside.facts.items day inside.kept.stages c.range.result c.self.invariant.keeps.stages within c.in-None.ensures.steps.0
     ∙ ap (λ (s : DeskState). last_closed day s.facts) c.self.view_is

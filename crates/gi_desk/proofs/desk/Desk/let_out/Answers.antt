@@ -14,13 +14,13 @@ closed_state-requires g c =
 
 pub matched-requires-clause-closed : goal.matched-requires-clause-closed
 matched-requires-clause-closed g c =
-    let legal = subst (λ (s : DeskState). bad_fact g.R.Role.SIDE s.point s.facts ≡ None) c.self.view_is c.self.invariant.stages.legal in
+    let legal = subst (λ (s : DeskState). bad_fact g.R.Role.SIDE s.point s.facts ≡ None) c.self.view_is c.self.invariant.keeps.stages.legal in
     let is = subst (IsFact c.args.self.now.facts c.args.n) c.in-Met.is c.numbered.ensures in
     (fact_meets g.R.Role.SIDE c.args.self.now.point c.args.self.now.facts c.args.n c.in-Met.id c.in-Met.peer legal is).0
 
 pub matched-requires-clause-met : goal.matched-requires-clause-met
 matched-requires-clause-met g c =
-    let legal = subst (λ (s : DeskState). bad_fact g.R.Role.SIDE s.point s.facts ≡ None) c.self.view_is c.self.invariant.stages.legal in
+    let legal = subst (λ (s : DeskState). bad_fact g.R.Role.SIDE s.point s.facts ≡ None) c.self.view_is c.self.invariant.keeps.stages.legal in
     let is = subst (IsFact c.args.self.now.facts c.args.n) c.in-Met.is c.numbered.ensures in
     ap is_some (fact_meets g.R.Role.SIDE c.args.self.now.point c.args.self.now.facts c.args.n c.in-Met.id c.in-Met.peer legal is).1
 
@@ -52,14 +52,14 @@ returns-in-Closed-clause-short g c =
 
 pub returns-in-Met-clause-value : goal.returns-in-Met-clause-value
 returns-in-Met-clause-value g c =
-    let legal = subst (λ (s : DeskState). bad_fact g.R.Role.SIDE s.point s.facts ≡ None) c.self.view_is c.self.invariant.stages.legal in
+    let legal = subst (λ (s : DeskState). bad_fact g.R.Role.SIDE s.point s.facts ≡ None) c.self.view_is c.self.invariant.keeps.stages.legal in
     let is = subst (IsFact c.args.self.now.facts c.args.n) c.in-Met.is c.numbered.ensures in
     let out = meeting_lets_out g.R.Role.SIDE c.args.self.now.point c.args.self.now.facts c.args.n c.in-Met.id c.in-Met.peer c.matched.result.now legal is c.matched.ensures in
     subst (λ (packets : List Packet). IfOk c.let_out_on_meeting.result (λ list. list.items ≡ packets)) out c.let_out_on_meeting.ensures.value
 
 pub returns-in-Met-clause-short : goal.returns-in-Met-clause-short
 returns-in-Met-clause-short g c =
-    let legal = subst (λ (s : DeskState). bad_fact g.R.Role.SIDE s.point s.facts ≡ None) c.self.view_is c.self.invariant.stages.legal in
+    let legal = subst (λ (s : DeskState). bad_fact g.R.Role.SIDE s.point s.facts ≡ None) c.self.view_is c.self.invariant.keeps.stages.legal in
     let is = subst (IsFact c.args.self.now.facts c.args.n) c.in-Met.is c.numbered.ensures in
     let out = meeting_lets_out g.R.Role.SIDE c.args.self.now.point c.args.self.now.facts c.args.n c.in-Met.id c.in-Met.peer c.matched.result.now legal is c.matched.ensures in
     subst (λ (packets : List Packet). IfErr c.let_out_on_meeting.result (λ x. IsTrue (some_leave packets))) out c.let_out_on_meeting.ensures.short

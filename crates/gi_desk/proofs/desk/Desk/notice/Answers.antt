@@ -17,7 +17,7 @@ invariant_of-self-2 g c =
     let view = sym c.self.view_is in
     let added : c.push_reserved.new.self.items ≡ inside.facts.items ++ fact ∷ [] =
     c.push_reserved.ensures.items ∙ ap (λ (facts : List Fact). facts ++ fact ∷ []) c.in_ok-reserve.ensures.items in
-    kept-other side inside.point inside.facts.items inside.stages.entries inside.book inside.book inside.contracts c.record_notice.new.contracts inside.takings.entries inside.takings.entries inside.saved c.args.self.now fact c.push_reserved.new.self.items
+    kept-other side inside.point inside.facts.items inside.kept inside.kept.book c.record_notice.new.contracts inside.kept.takings inside.saved c.args.self.now fact c.push_reserved.new.self.items
     c.self.invariant refl (ap (λ (s : DeskState). s.point) view) (ap (λ (s : DeskState). s.facts) view) c.requires.recorded c.requires.room c.requires.fits added
-    (running-notice inside.point inside.facts.items inside.book inside.contracts c.record_notice.new.contracts c.args.notice.now c.self.invariant.running c.in_ok-record_notice.ensures.added)
-    (takings-same side inside.point inside.facts.items fact inside.takings.entries (λ document e. absurd cc) c.self.invariant.stages.legal c.self.invariant.numbers)
+    (running-notice inside.point inside.facts.items inside.kept.book inside.kept.contracts c.record_notice.new.contracts c.args.notice.now c.self.invariant.keeps.running c.in_ok-record_notice.ensures.added)
+    (takings-same side inside.point inside.facts.items fact inside.kept.takings.entries (λ document e. absurd cc) c.self.invariant.keeps.stages.legal c.self.invariant.keeps.numbers)

@@ -10,8 +10,8 @@ pub returns-in-Some : goal.returns-in-Some
 returns-in-Some g c =
     let side = g.R.Role.SIDE in
     let id = c.args.id.now in
-    let legal = subst (λ (s : DeskState). bad_fact side s.point s.facts ≡ None) c.self.view_is c.self.invariant.stages.legal in
-    let found = c.get.ensures.value ∙ c.self.invariant.stages.at id ∙ ap (λ (s : DeskState). closed_stage side s.facts id) c.self.view_is in
+    let legal = subst (λ (s : DeskState). bad_fact side s.point s.facts ≡ None) c.self.view_is c.self.invariant.keeps.stages.legal in
+    let found = c.get.ensures.value ∙ c.self.invariant.keeps.stages.at id ∙ ap (λ (s : DeskState). closed_stage side s.facts id) c.self.view_is in
     c.unwrap_or.ensures ∙ (λ t. unwrap_or c.in-Some.stage.now.meeting (c.next_number-beyond.ensures t)) ∙ ap (λ (o : Option (Bor Stage)). meeting_or (length c.args.self.now.facts + 1) (option_copied o)) (sym c.in-Some.is)
     ∙ meeting-read side c.args.self.now.point c.args.self.now.facts id (option_copied c.get.result) legal found
 
@@ -19,7 +19,7 @@ pub returns-in-None : goal.returns-in-None
 returns-in-None g c =
     let side = g.R.Role.SIDE in
     let id = c.args.id.now in
-    let legal = subst (λ (s : DeskState). bad_fact side s.point s.facts ≡ None) c.self.view_is c.self.invariant.stages.legal in
-    let found = c.get.ensures.value ∙ c.self.invariant.stages.at id ∙ ap (λ (s : DeskState). closed_stage side s.facts id) c.self.view_is in
+    let legal = subst (λ (s : DeskState). bad_fact side s.point s.facts ≡ None) c.self.view_is c.self.invariant.keeps.stages.legal in
+    let found = c.get.ensures.value ∙ c.self.invariant.keeps.stages.at id ∙ ap (λ (s : DeskState). closed_stage side s.facts id) c.self.view_is in
     c.next_number-beyond.ensures ∙ ap (λ (o : Option (Bor Stage)). meeting_or (length c.args.self.now.facts + 1) (option_copied o)) (sym c.in-None.is)
     ∙ meeting-read side c.args.self.now.point c.args.self.now.facts id (option_copied c.get.result) legal found

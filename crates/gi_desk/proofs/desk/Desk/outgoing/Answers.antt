@@ -10,7 +10,7 @@ use Rattle.gi_desk.proofs.desk.Desk.outgoing.Goals as goal
 
 pub overflow_add-n-end : goal.overflow_add-n-end
 overflow_add-n-end g c =
-    let few = legal-few g.R.Role.SIDE c.self.inside.point c.self.inside.facts.items c.self.invariant.stages.legal in
+    let few = legal-few g.R.Role.SIDE c.self.inside.point c.self.inside.facts.items c.self.invariant.keeps.stages.legal in
     let within = c.self.invariant.within in
     grind (arith, few, within)
 

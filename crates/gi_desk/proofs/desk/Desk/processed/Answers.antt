@@ -11,7 +11,7 @@ pub processed-requires-clause-sound : goal.processed-requires-clause-sound
 processed-requires-clause-sound g c =
     let inside = c.self.inside in
     kept-sound g.R.Role.SIDE inside.point inside.facts.items c.args.self.now c.contracts.result.now c.book.result.now.documents c.unwrap-frame.result
-    c.self.invariant.stages.legal (ap (λ (s : DeskState). s.facts) (sym c.self.view_is)) c.contracts.ensures c.book.ensures.nominations
+    c.self.invariant.keeps.stages.legal (ap (λ (s : DeskState). s.facts) (sym c.self.view_is)) c.contracts.ensures c.book.ensures.nominations
 
 pub returns-clause-value : goal.returns-clause-value
 returns-clause-value g c =

@@ -39,7 +39,7 @@ returns-in-Err g c =
 
 pub overflow_cast-desk : goal.overflow_cast-desk
 overflow_cast-desk g c =
-    let few = legal-few g.R.Role.SIDE c.desk.inside.point c.desk.inside.facts.items c.desk.invariant.stages.legal in
+    let few = legal-few g.R.Role.SIDE c.desk.inside.point c.desk.inside.facts.items c.desk.invariant.keeps.stages.legal in
     grind (arith, few)
 
 pub returns : goal.returns

@@ -10,7 +10,7 @@ use Rattle.gi_desk.proofs.Legality.{legal-few}
 use Rattle.gi_desk.proofs.desk.Desk.unsaved.Goals as goal
 
 pub overflow_add-result : goal.overflow_add-result
-overflow_add-result g c = omega (arith, legal-few g.R.Role.SIDE c.self.inside.point c.self.inside.facts.items c.self.invariant.stages.legal)
+overflow_add-result g c = omega (arith, legal-few g.R.Role.SIDE c.self.inside.point c.self.inside.facts.items c.self.invariant.keeps.stages.legal)
 
 next_is : (s : DeskState) (items : List Fact) (saved : ℕ) (fact : Fact) → s.facts ≡ items → s.saved ≡ saved → slice_get items saved ≡ Some fact → Some (saved + 1, fact) ≡ unsaved s
 next_is s items saved fact all many found = rw (all, many, found) refl
