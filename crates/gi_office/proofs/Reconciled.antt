@@ -39,21 +39,21 @@ pub record AreKnown (w : WorldState) : Type 0 where
   pub legal : (side : Side) → IsLegalDesk side (station_of side w).desk
   pub fits : FitsWorld w
 
-sent_may : (side : Side) (w : WorldState) (bytes : List ℕ) → AreKnown w → WasSent (other side) (station_of (other side) w).desk bytes → MayMeet side w (meeting_in (decoded bytes))
-sent_may I w bytes known (packet, sent, is) =
-    subst (λ (b : List ℕ). MayMeet I w (meeting_in (decoded b))) is (response_may w packet (sent-response w packet (known.legal M) (known.fits M) sent))
-sent_may M w bytes known (packet, sent, is) =
-    subst (λ (b : List ℕ). MayMeet M w (meeting_in (decoded b))) is (order_may w packet (sent-order w packet (known.legal I) (known.fits I) sent))
+sent_may : (side : Side) (w : WorldState) (facts : List Fact) (bytes : List ℕ) → AreKnown w → WasSent (other side) (station_of (other side) w).desk bytes → MayMeet side w (meeting_in facts (decoded bytes))
+sent_may I w facts bytes known (packet, sent, is) =
+    subst (λ (b : List ℕ). MayMeet I w (meeting_in facts (decoded b))) is (response_may w facts packet (sent-response w packet (known.legal M) (known.fits M) sent))
+sent_may M w facts bytes known (packet, sent, is) =
+    subst (λ (b : List ℕ). MayMeet M w (meeting_in facts (decoded b))) is (order_may w facts packet (sent-order w packet (known.legal I) (known.fits I) sent))
 
-call_may : (side : Side) (w : WorldState) (call : Call) → AreKnown w → IsFrom (other side) (station_of (other side) w).desk call → MayMeet side w (fact_named_by call)
-call_may side w (calls.Contract contract) known from = λ id table is. absurd (meets_none (calls.Contract contract) id table refl is)
-call_may side w (calls.Notice notice) known from = λ id table is. absurd (meets_none (calls.Notice notice) id table refl is)
-call_may side w (calls.Submit body) known from = λ id table is. absurd (meets_none (calls.Submit body) id table refl is)
-call_may side w (calls.Close cycle rule) known from = λ id table is. absurd (meets_none (calls.Close cycle rule) id table refl is)
-call_may side w (calls.Deliver body) known from = sent_may side w body known from
-call_may side w (calls.Resend cycle) known from = λ id table is. absurd (meets_none (calls.Resend cycle) id table refl is)
-call_may side w (calls.MarkSaved n fact) known from = λ id table is. absurd (meets_none (calls.MarkSaved n fact) id table refl is)
-call_may side w calls.Halt known from = λ id table is. absurd (meets_none calls.Halt id table refl is)
+call_may : (side : Side) (w : WorldState) (facts : List Fact) (call : Call) → AreKnown w → IsFrom (other side) (station_of (other side) w).desk call → MayMeet side w (fact_named_by facts call)
+call_may side w facts (calls.Contract contract) known from = λ id table is. absurd (meets_none facts (calls.Contract contract) id table refl is)
+call_may side w facts (calls.Notice notice) known from = λ id table is. absurd (meets_none facts (calls.Notice notice) id table refl is)
+call_may side w facts (calls.Submit body) known from = λ id table is. absurd (meets_none facts (calls.Submit body) id table refl is)
+call_may side w facts (calls.Close cycle rule) known from = λ id table is. absurd (meets_none facts (calls.Close cycle rule) id table refl is)
+call_may side w facts (calls.Deliver body) known from = sent_may side w facts body known from
+call_may side w facts (calls.Resend cycle) known from = λ id table is. absurd (meets_none facts (calls.Resend cycle) id table refl is)
+call_may side w facts (calls.MarkSaved n fact) known from = λ id table is. absurd (meets_none facts (calls.MarkSaved n fact) id table refl is)
+call_may side w facts calls.Halt known from = λ id table is. absurd (meets_none facts calls.Halt id table refl is)
 
 abbrev MeetsPeer : Side → WorldState → DeskState → Type 0
 MeetsPeer side w s = MeetsFrozen side s (station_of (other side) w).desk
@@ -64,8 +64,8 @@ IsEntryFromPeer side w entry = IsFrom (other side) (station_of (other side) w).d
 call_meets : (side : Side) (w : WorldState) (s : DeskState) (call : Call) → AreKnown w → s.saved ≤ length s.facts → IsFrom (other side) (station_of (other side) w).desk call → MeetsPeer side w s
     → MeetsPeer side w (after side s call)
 call_meets side w s call known within from met =
-    moved_met side s (after side s call) (station_of (other side) w).desk (fact_named_by call) met (call_moved side s call within)
-    (λ id table is. (call_may side w call known from id table is).0)
+    moved_met side s (after side s call) (station_of (other side) w).desk (fact_named_by s.facts call) met (call_moved side s call within)
+    (λ id table is. (call_may side w s.facts call known from id table is).0)
 
 -- ---- lists of entries
 

@@ -17,7 +17,7 @@ use Rattle.gi_world.specs.declared.world_fault.WorldFault.TheVariants.{NotLocal,
 use Rattle.gi_world.specs.declared.world_reply.WorldReply.TheVariants.{Restarted}
 use Rattle.gi_world.proofs.Recorded.{Names, records-named}
 
-facts_noted : (s : DeskState) (call : Call) (o : Outcome) → Names (fact_named_by call) s.saved o → facts_with s.facts call (answer_of s o) ≡ (next_of s o).facts
+facts_noted : (s : DeskState) (call : Call) (o : Outcome) → Names (fact_named_by s.facts call) s.saved o → facts_with s.facts call (answer_of s o) ≡ (next_of s o).facts
 facts_noted s call (Records fact) names = ap (with_fact s.facts) (names.0 fact refl)
 facts_noted s call (RepeatsNomination n) names = refl
 facts_noted s call (RepeatsMeeting n) names = refl
@@ -26,7 +26,7 @@ facts_noted s call (Resends id) names = refl
 facts_noted s call Stops names = refl
 facts_noted s call (Refuses refusal) names = refl
 
-saved_noted : (s : DeskState) (call : Call) (o : Outcome) → Names (fact_named_by call) s.saved o → saved_with s.saved (answer_of s o) ≡ (next_of s o).saved
+saved_noted : (s : DeskState) (call : Call) (o : Outcome) → Names (fact_named_by s.facts call) s.saved o → saved_with s.saved (answer_of s o) ≡ (next_of s o).saved
 saved_noted s call (Records fact) names = refl
 saved_noted s call (RepeatsNomination n) names = refl
 saved_noted s call (RepeatsMeeting n) names = refl

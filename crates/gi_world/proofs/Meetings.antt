@@ -75,14 +75,14 @@ meets_by s (Resends id') expected id table names met = inl met
 meets_by s Stops expected id table names met = inl met
 meets_by s (Refuses refusal) expected id table names met = inl met
 
-pub call_moved : (side : Side) (s : DeskState) (call : Call) → s.saved ≤ length s.facts → IsMoved s (desk_after side s call) (fact_named_by call)
+pub call_moved : (side : Side) (s : DeskState) (call : Call) → s.saved ≤ length s.facts → IsMoved s (desk_after side s call) (fact_named_by s.facts call)
 unfolding desk_after
 call_moved side s call within =
     let next = next_of s (desk_outcome side s call) in
     let grown = only-appends side s call in
     record {
       front = front-more s.facts next.facts s.saved next.saved grown.1 within grown.0;
-      meets = λ id table met. meets_by s (desk_outcome side s call) (fact_named_by call) id table (records-named side s call) met;
+      meets = λ id table met. meets_by s (desk_outcome side s call) (fact_named_by s.facts call) id table (records-named side s call) met;
     }
 
 pub restart_moved : (s : DeskState) (keep : ℕ) → s.saved ≤ keep → IsMoved s (started_again s keep) None
@@ -165,11 +165,11 @@ with_moved M w station new are moved may = record {
 
 -- ---- steps
 
-called_met : (side : Side) (w : WorldState) (call : Call) → AreMet w → (station_of side w).desk.saved ≤ length (station_of side w).desk.facts → MayMeet side w (fact_named_by call)
+called_met : (side : Side) (w : WorldState) (call : Call) → AreMet w → (station_of side w).desk.saved ≤ length (station_of side w).desk.facts → MayMeet side w (fact_named_by (station_of side w).desk.facts call)
     → AreMet (with_station side (after_call side (station_of side w) call) w)
 unfolding after_call
 called_met side w call are within may =
-    with_moved side w (after_call side (station_of side w) call) (fact_named_by call) are (call_moved side (station_of side w).desk call within) may
+    with_moved side w (after_call side (station_of side w) call) (fact_named_by (station_of side w).desk.facts call) are (call_moved side (station_of side w).desk call within) may
 
 nominates : (read : Result Message MessageFault) (id : CycleId) (table : TableContents) → nomination_in read ≡ Some (Met id table) → ⊥
 nominates (Err fault) id table e = absurd cc
@@ -180,20 +180,20 @@ nominates (Ok (messages.Delord message)) id table e = absurd cc
 nominates (Ok (messages.Delres message)) id table e = absurd cc
 
 -- a call that is no delivery meets no table
-pub meets_none : (call : Call) (id : CycleId) (table : TableContents) → is_delivery call ≡ false → fact_named_by call ≡ Some (Met id table) → ⊥
-meets_none (calls.Contract contract) id table local e = absurd cc
-meets_none (calls.Notice notice) id table local e = absurd cc
-meets_none (calls.Submit body) id table local e = nominates (decoded body) id table e
-meets_none (calls.Close other rule) id table local e = absurd cc
-meets_none (calls.Deliver body) id table local e = absurd cc
-meets_none (calls.Resend other) id table local e = absurd cc
-meets_none (calls.MarkSaved n fact) id table local e = absurd cc
-meets_none calls.Halt id table local e = absurd cc
+pub meets_none : (facts : List Fact) (call : Call) (id : CycleId) (table : TableContents) → is_delivery call ≡ false → fact_named_by facts call ≡ Some (Met id table) → ⊥
+meets_none facts (calls.Contract contract) id table local e = absurd cc
+meets_none facts (calls.Notice notice) id table local e = absurd cc
+meets_none facts (calls.Submit body) id table local e = nominates (decoded body) id table e
+meets_none facts (calls.Close other rule) id table local e = absurd cc
+meets_none facts (calls.Deliver body) id table local e = absurd cc
+meets_none facts (calls.Resend other) id table local e = absurd cc
+meets_none facts (calls.MarkSaved n fact) id table local e = absurd cc
+meets_none facts calls.Halt id table local e = absurd cc
 
 local_met : (side : Side) (w : WorldState) (call : Call) (b : Bool) → is_delivery call ≡ b → AreMet w → (station_of side w).desk.saved ≤ length (station_of side w).desk.facts
     → AreMet (cond b w (with_station side (after_call side (station_of side w) call) w))
 local_met side w call true e are within = are
-local_met side w call false e are within = called_met side w call are within (λ id table is. absurd (meets_none call id table e is))
+local_met side w call false e are within = called_met side w call are within (λ id table is. absurd (meets_none (station_of side w).desk.facts call id table e is))
 
 same_one : (P : CycleId → TableContents → Type 0) (id other : CycleId) (peer table : TableContents) → Some (Met id peer) ≡ Some (Met other table) → P id peer → P other table
 same_one P id other peer table e holds =
@@ -201,20 +201,20 @@ same_one P id other peer table e holds =
     let met : peer ≡ table = cc in
     subst (P other) met (subst (λ (id : CycleId). P id peer) cycle holds)
 
-pub order_may : (w : WorldState) (packet : Packet) → IsOrdered w packet → MayMeet M w (meeting_in (decoded packet.body))
-order_may w packet ordered =
+pub order_may : (w : WorldState) (facts : List Fact) (packet : Packet) → IsOrdered w packet → MayMeet M w (meeting_in facts (decoded packet.body))
+order_may w facts packet ordered =
     λ id table is.
     same_one (λ id table. IsFrozenAt I w.initiating.desk id table × IsMetAfter M w id) ordered.id id (frozen_table I w.initiating.desk.facts ordered.id) table
-    (sym (ap meeting_in ordered.reads) ∙ is) ((ordered.closed, refl), tt)
+    (sym (ap (meeting_in facts) ordered.reads) ∙ is) ((ordered.closed, refl), tt)
 
-pub response_may : (w : WorldState) (packet : Packet) → IsResponded w packet → MayMeet I w (meeting_in (decoded packet.body))
-response_may w packet responded =
+pub response_may : (w : WorldState) (facts : List Fact) (packet : Packet) → IsResponded w packet → MayMeet I w (meeting_in facts (decoded packet.body))
+response_may w facts packet responded =
     λ id table is.
     same_one (λ id table. IsFrozenAt M w.matching.desk id table × IsMetAfter I w id) responded.id id (frozen_table M w.matching.desk.facts responded.id) table
-    (sym (ap meeting_in responded.reads) ∙ is) ((responded.closed, refl), ap is_some responded.met)
+    (sym (ap (meeting_in facts) responded.reads) ∙ is) ((responded.closed, refl), ap is_some responded.met)
 
 delivery_met : (side : Side) (w : WorldState) (o : Option Packet) → AreMet w → (station_of side w).desk.saved ≤ length (station_of side w).desk.facts
-    → ((packet : Packet) → o ≡ Some packet → MayMeet side w (meeting_in (decoded packet.body))) → AreMet (after_delivery w side o)
+    → ((packet : Packet) → o ≡ Some packet → MayMeet side w (meeting_in (station_of side w).desk.facts (decoded packet.body))) → AreMet (after_delivery w side o)
 delivery_met side w None are within may = are
 delivery_met side w (Some packet) are within may = called_met side w (calls.Deliver packet.body) are within (may packet refl)
 
@@ -234,10 +234,10 @@ step_met orders responses w (Local side call) sound fits =
     local_met side w call (is_delivery call) refl (record { met = sound.met; after = sound.after }) (sound.legal side).within
 step_met orders responses w (Deliver I n) sound fits =
     delivery_met I w (delivery w I n) (record { met = sound.met; after = sound.after }) (sound.legal I).within
-    (λ packet there. response_may w packet (responses w n packet sound fits there))
+    (λ packet there. response_may w w.initiating.desk.facts packet (responses w n packet sound fits there))
 step_met orders responses w (Deliver M n) sound fits =
     delivery_met M w (delivery w M n) (record { met = sound.met; after = sound.after }) (sound.legal M).within
-    (λ packet there. order_may w packet (orders w n packet sound fits there))
+    (λ packet there. order_may w w.matching.desk.facts packet (orders w n packet sound fits there))
 step_met orders responses w (Restart side keep) sound fits =
     let s = (station_of side w).desk in
     restart_met side w keep s.saved (length s.facts) (nat_lt keep s.saved) (nat_lt (length s.facts) keep) refl (record { met = sound.met; after = sound.after })

@@ -128,7 +128,7 @@ submission saved point history (Ok (Delord message)) = refuses None saved refusa
 submission saved point history (Ok (Delres message)) = refuses None saved refusals.WrongKind
 submission saved point history (Ok (Nomint document)) = nomination saved history document (verdict_on point history document)
 
-delivery : (side : Side) (saved : ℕ) (point : List ℕ) (history : List Fact) (read : Result Message MessageFault) → Names (meeting_in read) saved (delivered side point history read)
+delivery : (side : Side) (saved : ℕ) (point : List ℕ) (history : List Fact) (read : Result Message MessageFault) → Names (meeting_in history read) saved (delivered side point history read)
 delivery I saved point history (Err fault) = refuses None saved (refusals.Message fault)
 delivery M saved point history (Err fault) = refuses None saved (refusals.Message fault)
 delivery I saved point history (Ok (Nomint message)) = refuses None saved refusals.WrongKind
@@ -137,8 +137,8 @@ delivery I saved point history (Ok (Acknow message)) = refuses None saved refusa
 delivery M saved point history (Ok (Acknow message)) = refuses None saved refusals.WrongKind
 delivery I saved point history (Ok (Nomres message)) = refuses None saved refusals.WrongKind
 delivery M saved point history (Ok (Nomres message)) = refuses None saved refusals.WrongKind
-delivery I saved point history (Ok (Delord message)) = refuses (meeting_in (Ok (Delord message))) saved refusals.WrongKind
-delivery M saved point history (Ok (Delres message)) = refuses (meeting_in (Ok (Delres message))) saved refusals.WrongKind
+delivery I saved point history (Ok (Delord message)) = refuses (meeting_in history (Ok (Delord message))) saved refusals.WrongKind
+delivery M saved point history (Ok (Delres message)) = refuses (meeting_in history (Ok (Delres message))) saved refusals.WrongKind
 delivery M saved point history (Ok (Delord message)) =
     let id = cycle_of message.day message.cycle in
     let d = by_order message.processed (state_of M history id) in
@@ -169,7 +169,7 @@ closing saved history id rule =
     (either (Some (Closed id rule)) saved (is_closed id history) (Refuses refusals.AlreadyClosed) then (refuses (Some (Closed id rule)) saved refusals.AlreadyClosed)
     (later saved id.cycle last (Closed id rule)))
 
-own_call : (side : Side) (s : DeskState) (call : Call) → Names (fact_named_by call) s.saved (comes_to side s call)
+own_call : (side : Side) (s : DeskState) (call : Call) → Names (fact_named_by s.facts call) s.saved (comes_to side s call)
 own_call side s (calls.Contract contract) =
     either (Some (Contracted contract)) s.saved (is_refused contract (capacity_of s.facts).contracts) (Refuses refusals.TooManyPortfolios) (Records (Contracted contract))
     (refuses (Some (Contracted contract)) s.saved refusals.TooManyPortfolios) (records_it s.saved (Contracted contract))
@@ -184,8 +184,8 @@ own_call side s (calls.MarkSaved n fact) = mark_if s.saved n fact (slice_get s.f
 own_call side s calls.Halt = (λ fact e. absurd cc, λ n e. absurd cc)
 
 -- of every call at a desk
-pub records-named : (side : Side) (s : DeskState) (call : Call) → Names (fact_named_by call) s.saved (outcome side s call)
+pub records-named : (side : Side) (s : DeskState) (call : Call) → Names (fact_named_by s.facts call) s.saved (outcome side s call)
 unfolding outcome
 records-named side s call =
-    either (fact_named_by call) s.saved s.halted (Refuses refusals.Halted) (unless_full s.facts (comes_to side s call)) (refuses (fact_named_by call) s.saved refusals.Halted)
-    (full (fact_named_by call) s.saved s.facts (comes_to side s call) (own_call side s call))
+    either (fact_named_by s.facts call) s.saved s.halted (Refuses refusals.Halted) (unless_full s.facts (comes_to side s call)) (refuses (fact_named_by s.facts call) s.saved refusals.Halted)
+    (full (fact_named_by s.facts call) s.saved s.facts (comes_to side s call) (own_call side s call))

@@ -48,26 +48,26 @@ abbrev pub with_history : Side → History → Histories → Histories
 with_history I history both = record { initiating = history; matching = both.matching }
 with_history M history both = record { initiating = both.initiating; matching = history }
 
--- the fact that a call names: a nomination is that of its bytes, and a meeting is of the message's cycle, with its
--- processed table
+-- the fact that a call names, after these facts: a nomination is that of its bytes, and a meeting is of the message's
+-- cycle, with its processed table
 abbrev pub nomination_in : Result Message MessageFault → Option Fact
 nomination_in (Ok (Nomint document)) = Some (Nominated document)
 nomination_in read = None
 
-abbrev pub meeting_in : Result Message MessageFault → Option Fact
-meeting_in (Ok (Delord message)) = Some (Met (cycle_of message.day message.cycle) message.processed)
-meeting_in (Ok (Delres message)) = Some (Met (cycle_of message.day message.cycle) message.processed)
-meeting_in read = None
+abbrev pub meeting_in : List Fact → Result Message MessageFault → Option Fact
+meeting_in facts (Ok (Delord message)) = Some (Met (cycle_of message.day message.cycle) message.processed)
+meeting_in facts (Ok (Delres message)) = Some (Met (cycle_of message.day message.cycle) message.processed)
+meeting_in facts read = None
 
-abbrev pub fact_named_by : Call → Option Fact
-fact_named_by (calls.Contract contract) = Some (Contracted contract)
-fact_named_by (calls.Notice notice) = Some (Noticed notice)
-fact_named_by (calls.Submit body) = nomination_in (decoded body)
-fact_named_by (calls.Close id rule) = Some (Closed id rule)
-fact_named_by (calls.Deliver body) = meeting_in (decoded body)
-fact_named_by (calls.Resend id) = None
-fact_named_by (calls.MarkSaved n fact) = None
-fact_named_by calls.Halt = None
+abbrev pub fact_named_by : List Fact → Call → Option Fact
+fact_named_by facts (calls.Contract contract) = Some (Contracted contract)
+fact_named_by facts (calls.Notice notice) = Some (Noticed notice)
+fact_named_by facts (calls.Submit body) = nomination_in (decoded body)
+fact_named_by facts (calls.Close id rule) = Some (Closed id rule)
+fact_named_by facts (calls.Deliver body) = meeting_in facts (decoded body)
+fact_named_by facts (calls.Resend id) = None
+fact_named_by facts (calls.MarkSaved n fact) = None
+fact_named_by facts calls.Halt = None
 
 -- `Recorded` appends the fact that the call names, and `Saved` saves one more
 abbrev pub with_fact : List Fact → Option Fact → List Fact
@@ -75,7 +75,7 @@ with_fact facts None = facts
 with_fact facts (Some fact) = facts ++ fact ∷ []
 
 abbrev pub facts_with : List Fact → Call → Answer → List Fact
-facts_with facts call (Recorded n) = with_fact facts (fact_named_by call)
+facts_with facts call (Recorded n) = with_fact facts (fact_named_by facts call)
 facts_with facts call answer = facts
 
 abbrev pub saved_with : ℕ → Answer → ℕ
