@@ -21,11 +21,7 @@ fn response(point: Code, cycle: &Matched) -> Result<Delres, AllocError>
 
 /// The response of a matched cycle at the interconnection point, its frozen table and the confirmed
 /// one: the messages that carry it, in order.
-pub fn response_for(
-    alloc: Global,
-    point: Code,
-    cycle: &Matched,
-) -> Result<Vec<Message>, AllocError>
+pub fn response_for(alloc: Global, point: Code, cycle: &Matched) -> Result<Vec<Message>, AllocError>
     ensures { IfOk result (λ messages. messages.items ≡ responses_of point cycle.now) }
 {
     Ok(vec![in alloc; Message::Delres(response(point, cycle)?)]?)

@@ -129,7 +129,14 @@ fn delres(alloc: Global, object: &JsonValue<'_, '_>) -> Result<Delres, FieldFaul
     let head = head_of(object)?;
     let Span { first, last } = head.span;
     let processed = processed(alloc, object, head.span)?;
-    let confirmed = table(alloc, object, Key::Confirmed, MOST_CONFIRMED_ELEMENTS, first, last)?;
+    let confirmed = table(
+        alloc,
+        object,
+        Key::Confirmed,
+        MOST_CONFIRMED_ELEMENTS,
+        first,
+        last,
+    )?;
     Ok(Delres {
         point: head.point,
         day: head.day,
