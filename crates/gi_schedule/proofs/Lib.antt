@@ -1,5 +1,7 @@
 pub mod InForceLemmas
 pub mod KeyLemmas
+pub mod KeyOrderLemmas
+pub mod HourLemmas
 pub mod LineLemmas
 pub mod ColumnLemmas
 pub mod SharedLemmas

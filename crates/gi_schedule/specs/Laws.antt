@@ -1,6 +1,8 @@
 -- What holds of all schedules.
-use Rattle.std.specs.Prelude.{◌≡◌, ◌≤◌, ◌+◌, ◌-◌, ℕ, List, true, Option, All, Contains, Some, None}
+use Rattle.std.specs.Prelude.{◌≡◌, ◌≤◌, ◌+◌, ◌-◌, ℕ, List, map, true, Option, All, Contains, Some, None}
+use Rattle.std.specs.List.Sorted.{IsStrictlyIncreasing, IsStrictlySortedBy}
 use Rattle.jiff_core.specs.declared.civil.date.Date.{Date}
+use Rattle.gi_pairs.specs.Key.{key_cmp}
 use Rattle.gi_pairs.specs.Limits.{last_hour}
 use Rattle.gi_pairs.specs.Row.{key_of}
 use Rattle.gi_pairs.specs.Table.{TableContents}
@@ -34,6 +36,13 @@ abbrev pub ListsEachPair : Type 0
 ListsEachPair =
     (c : Confirmed) (portfolio : Option (List ℕ)) (day : Date) (cycle : ℕ) (table : TableContents) (row : Row) → cycle ≤ last_cycle → c (cycle_of day cycle) ≡ Some table
     → Contains table.rows row → wants_pair portfolio row.pair ≡ true → Contains (day_keys c portfolio day) (key_of row)
+
+-- The pairs and directions stand in table order, each once, and the hours in order, each once.
+abbrev pub ListsEachPairOnce : Type 0
+ListsEachPairOnce = (c : Confirmed) (portfolio : Option (List ℕ)) (day : Date) → IsStrictlySortedBy key_cmp (day_keys c portfolio day)
+
+abbrev pub ListsEachHourOnce : Type 0
+ListsEachHourOnce = (c : Confirmed) (day : Date) → IsStrictlyIncreasing (map (λ at. at.hour) (hours_in_force c day))
 
 -- Two sides that have confirmed the same have the same schedule.
 abbrev pub SharesSchedules : Type 0
