@@ -1,3 +1,2 @@
 pub mod ChangeLemmas
-pub mod KeyOrderLemmas
 pub mod SumLemmas

@@ -27,11 +27,11 @@ use Rattle.gi_schedule.specs.Keys.{keys_before}
 use Rattle.gi_schedule.specs.Wanted.{wants_pair}
 use Rattle.gi_schedule.specs.declared.hour_in_force.HourInForce.{HourInForce}
 use Rattle.gi_schedule.proofs.InForceLemmas.{hours_are_in_force, last_apart, last_passes, last_stays, none_below}
+use Rattle.gi_schedule.proofs.KeyOrderLemmas.{sorted_before}
 use Rattle.gi_schedule.proofs.ListedLemmas.{pair_before}
 use Rattle.gi_changes.specs.Changes.{changes, changes_if, cycle_changes, if_changed, key_changes, keys_changes, line_of, quantity_before, quantity_if}
 use Rattle.gi_changes.specs.Laws.{AddUp, AddUpToSchedule, BeginAfter, BeginFromNothing, ShareChanges, change_at, sum_at}
 use Rattle.gi_changes.specs.declared.change_line.ChangeLine.{ChangeLine}
-use Rattle.gi_changes.proofs.KeyOrderLemmas.{sorted_before}
 
 -- ---- sums
 

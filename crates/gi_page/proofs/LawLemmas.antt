@@ -17,6 +17,7 @@ use Rattle.gi_desk.specs.Queries.{confirmed, frozen}
 use Rattle.gi_schedule.specs.InForce.{Confirmed, cycle_of, is_covered, quantity_of}
 use Rattle.gi_schedule.specs.Keys.{day_keys, keys_if}
 use Rattle.gi_schedule.specs.Lines.{counted}
+use Rattle.gi_schedule.proofs.KeyOrderLemmas.{sorted_day, sorted_each}
 use Rattle.gi_schedule.proofs.ListedLemmas.{in_added, in_first, in_last, in_numbered, in_rows}
 use Rattle.gi_picture.specs.declared.hour.Hour.{Hour}
 use Rattle.gi_page.specs.Flows.{hour_of, sum_of}
@@ -24,7 +25,6 @@ use Rattle.gi_page.specs.Keys.{cycle_keys, page_keys}
 use Rattle.gi_page.specs.Laws.{IsShown, ListsEachConfirmed, ListsEachFrozen, ListsEachOnce, ShowsWhatIsInForce, SumsTheDay, SumsTheRows, SumsTheSchedule, TellsTheSchedule}
 use Rattle.gi_page.specs.Shown.{cycles_at, hour_cycles}
 use Rattle.gi_page.specs.declared.hour_cycles.HourCycles.{HourCycles}
-use Rattle.gi_page.proofs.KeyOrderLemmas.{sorted_day, sorted_each}
 use Rattle.gi_page.proofs.SumLemmas.{counted_none, in_page, last_low, same_sum, unlisted}
 
 pub each_once : ListsEachOnce

@@ -1,5 +1,4 @@
 pub mod KeyLemmas
-pub mod KeyOrderLemmas
 pub mod SumLemmas
 pub mod LawLemmas
 pub mod PageLemmas
