@@ -102,8 +102,8 @@ pub record AddsFirst (sessions : ℕ) (lines : List Line) (count : ℕ) (old : O
 
 -- ---- the offices as they are kept
 
-abbrev pub state_of : {R L S : Type 0} → Running R L S → SideState
+abbrev pub state_of : {R P L S : Type 0} → Running R P L S → SideState
 state_of running = record { seats = running.seats.items; sent = running.sent; way = running.way }
 
-abbrev pub offices_of : {R L S P K T : Type 0} → Running R L S → Running P K T → OfficesState
+abbrev pub offices_of : {R P L S Q O K T : Type 0} → Running R P L S → Running Q O K T → OfficesState
 offices_of initiating matching = record { initiating = state_of initiating; matching = state_of matching }

@@ -234,7 +234,7 @@ fn words_of(
     Ok(words)
 }
 
-fn serve_all<R: Role + Send, L: Ledger + Send, T: Threads + Wait + Sync>(
+fn serve_all<R: Role<Received: Send> + Send, L: Ledger + Send, T: Threads + Wait + Sync>(
     rt: &T,
     office: &Office<R, L>,
     waker: &Waker,
@@ -259,7 +259,7 @@ fn serve_all<R: Role + Send, L: Ledger + Send, T: Threads + Wait + Sync>(
 }
 
 /// Each session submits what it is dealt.
-fn dealt_and_served<R: Role + Send, L: Ledger + Send, T: Threads + Wait + Sync>(
+fn dealt_and_served<R: Role<Received: Send> + Send, L: Ledger + Send, T: Threads + Wait + Sync>(
     rt: &T,
     alloc: Global,
     office: &Office<R, L>,
@@ -297,7 +297,7 @@ fn told<L: Ledger>(
 }
 
 /// Each session submits the bodies beside its number.
-fn numbered<R: Role + Send, L: Ledger + Send, T: Threads + Wait + Sync>(
+fn numbered<R: Role<Received: Send> + Send, L: Ledger + Send, T: Threads + Wait + Sync>(
     rt: &T,
     alloc: Global,
     office: &Office<R, L>,
@@ -319,7 +319,7 @@ fn numbered<R: Role + Send, L: Ledger + Send, T: Threads + Wait + Sync>(
 }
 
 /// The waker is dropped when the sessions are done, which ends the loop that waits for notices.
-pub(crate) fn submitted<R: Role + Send, L: Ledger + Send, T: Threads + Wait + Sync>(
+pub(crate) fn submitted<R: Role<Received: Send> + Send, L: Ledger + Send, T: Threads + Wait + Sync>(
     rt: &T,
     alloc: Global,
     office: &Office<R, L>,

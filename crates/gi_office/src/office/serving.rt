@@ -92,7 +92,7 @@ impl<R: Role, L: Ledger> Office<R, L> {
     }
 }
 
-impl<R: Role + Send, L: Ledger + Send> Office<R, L> {
+impl<R: Role<Received: Send> + Send, L: Ledger + Send> Office<R, L> {
     fn run_all<T: Threads + Wait + Sync, G: Gate + Sync>(
         &self,
         rt: &T,
