@@ -1,6 +1,7 @@
 pub mod PlaceLemmas
 pub mod Places
 pub mod Searching
+pub mod Closings
 pub mod SentLemmas
 pub mod FindingLemmas
 pub mod CycleLemmas

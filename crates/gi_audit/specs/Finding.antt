@@ -1,5 +1,5 @@
 -- What is found of a cycle at two desks.
-use Rattle.std.specs.Prelude.{ℕ, List, Bool, true, false, nat_eq, if◌then◌else◌, Option, Some, None}
+use Rattle.std.specs.Prelude.{ℕ, Bool, true, false, nat_eq, if◌then◌else◌, Option, Some, None}
 use Rattle.std.specs.List.{sum, sum_by}
 use Rattle.gi_pairs.specs.Direction.{place_of}
 use Rattle.gi_pairs.specs.Table.{TableContents, table_eq}
@@ -11,8 +11,7 @@ use Rattle.gi_pairs.specs.declared.side.Side.{Side}
 use Rattle.gi_pairs.specs.declared.side.Side.TheVariants.{I, M}
 use Rattle.gi_desk.specs.History.{is_closed, is_closing, is_meeting, number_of, peer_of}
 use Rattle.gi_desk.specs.Machine.{DeskState}
-use Rattle.gi_desk.specs.Queries.{confirmed, fact_at}
-use Rattle.gi_facts.specs.declared.fact.Fact.{Fact}
+use Rattle.gi_desk.specs.Queries.{confirmed}
 use Rattle.gi_world.specs.Agreement.{saved_facts}
 use Rattle.gi_audit.specs.Sent.{sent_table}
 use Rattle.gi_audit.specs.declared.difference.Difference.{Difference}
@@ -20,14 +19,6 @@ use Rattle.gi_audit.specs.declared.difference.Against.{Against}
 use Rattle.gi_audit.specs.declared.difference.Against.TheVariants.{NotClosed, NotMet, Closed}
 use Rattle.gi_audit.specs.declared.finding.Finding.{Finding}
 use Rattle.gi_audit.specs.declared.finding.Finding.TheVariants.{Agreed, OpenAtInitiating, OpenAtBoth, Differs}
-
--- fact number n closes the cycle
-abbrev pub closes : CycleId → Option Fact → Bool
-closes id None = false
-closes id (Some fact) = is_closing id fact
-
-abbrev pub is_closing_at : CycleId → List Fact → ℕ → Bool
-is_closing_at id facts n = closes id (fact_at facts n)
 
 -- the number of the saved fact that closed the cycle
 abbrev pub closing_within : DeskState → CycleId → Option ℕ

@@ -5,9 +5,9 @@ ghost use Rattle.std.specs.Option.{option_copied};
 ghost use Rattle.gi_audit.specs.Finding.{against as against_of, difference as difference_of, finding as finding_of, undisputed as undisputed_of};
 ghost use Rattle.gi_audit.specs.Place.{place_between as place_between_of, place_found as place_found_of};
 
+use crate::closing::saved_closing;
 use crate::difference::{Against, Difference};
 use crate::finding::Finding;
-use crate::meeting::{met_table, saved_closing};
 use crate::place::{Place, first_place};
 use crate::sending::sent_table;
 use crate::total::total;
@@ -36,7 +36,7 @@ fn against<R: Role>(
     }
 }
 
-#[tactic(auto, unfolding(crate::specs::Finding::difference))]
+#[tactic(auto, unfolding(crate::specs::Finding::difference, gi_desk::specs::Queries::meeting))]
 fn difference<R: Role, S: Role>(
     alloc: Global,
     desk: &Desk<R>,
@@ -46,7 +46,7 @@ fn difference<R: Role, S: Role>(
     requires { peer.now.halted ≡ false }
     ensures { IfOk result (λ difference. difference ≡ difference_of R.SIDE S.SIDE desk.now peer.now id.now) }
 {
-    let Some((met, table)) = met_table(desk, id) else {
+    let Some((met, table)) = desk.meeting(*id) else {
         return Ok(None);
     };
     match against(alloc, peer, id, table)? {
@@ -94,7 +94,7 @@ pub(crate) fn found_at(
     Ok(undisputed(initiating.confirmed(*id), matching.confirmed(*id)))
 }
 
-#[tactic(auto, unfolding(crate::specs::Place::place_between))]
+#[tactic(auto, unfolding(crate::specs::Place::place_between, gi_desk::specs::Queries::meeting))]
 fn place_between<R: Role, S: Role>(
     alloc: Global,
     desk: &Desk<R>,
@@ -104,7 +104,7 @@ fn place_between<R: Role, S: Role>(
     requires { peer.now.halted ≡ false }
     ensures { IfOk result (λ place. place ≡ place_between_of S.SIDE desk.now peer.now id.now) }
 {
-    let Some((_, met)) = met_table(desk, id) else {
+    let Some((_, met)) = desk.meeting(*id) else {
         return Ok(None);
     };
     match sent_table(alloc, peer, id)? {

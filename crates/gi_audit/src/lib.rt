@@ -16,6 +16,7 @@
 #![tactic(auto)]
 
 mod auditing;
+mod closing;
 mod comparing;
 mod cycles;
 mod difference;
@@ -23,7 +24,6 @@ mod finding;
 mod json_audit;
 mod json_lines;
 mod laws;
-mod meeting;
 mod place;
 mod revealing;
 mod running;

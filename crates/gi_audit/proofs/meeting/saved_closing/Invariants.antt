@@ -1,7 +1,0 @@
-use Rattle.std.proofs.Common.{◌≡◌, take, false}
-use Rattle.std.specs.List.{list_any}
-use Rattle.gi_desk.specs.History.{is_closing}
-use Rattle.gi_audit.proofs.meeting.saved_closing.Given as goal
-
-abbrev pub invariant-loop-before : goal.invariant-loop-before
-invariant-loop-before g l = list_any (is_closing l.id) (take l.before l.desk.facts) ≡ false
