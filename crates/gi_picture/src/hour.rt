@@ -1,7 +1,7 @@
 //! What is shown of an hour.
 
 ghost use Rattle.std.specs.Prelude.{◌≡◌};
-ghost use Rattle.gi_picture.specs.Quantities.{amounts_in, cut_of, in_force_of, nominated_of, own_cut, own_cut_of, peer_cut, peer_cut_of, peers_of, processed_of, value_if, whole_cut};
+ghost use Rattle.gi_picture.specs.Quantities.{amounts_in, in_force_of, nominated_of, own_cut, peer_cut, peers_of, processed_of, value_if, whole_cut};
 
 use gi_pairs::Direction;
 
@@ -97,27 +97,6 @@ impl Hour {
         ensures { result ≡ in_force_of direction self }
     {
         amount_if(self.cycle, self.in_direction(direction).in_force)
-    }
-
-    /// What this side's own capacity cuts, where a cycle is in force, in kWh/h.
-    pub fn own_cut(self, direction: Direction) -> Option<u64>
-        ensures { result ≡ own_cut_of direction self }
-    {
-        amount_if(self.cycle, self.in_direction(direction).own_cut())
-    }
-
-    /// What the peer leaves out of what is processed, where a cycle is in force, in kWh/h.
-    pub fn peer_cut(self, direction: Direction) -> Option<u64>
-        ensures { result ≡ peer_cut_of direction self }
-    {
-        amount_if(self.cycle, self.in_direction(direction).peer_cut())
-    }
-
-    /// What is nominated and not in force, where a cycle is in force, in kWh/h.
-    pub fn cut(self, direction: Direction) -> Option<u64>
-        ensures { result ≡ cut_of direction self }
-    {
-        amount_if(self.cycle, self.in_direction(direction).cut())
     }
 
     /// The number of the cycle in force.
