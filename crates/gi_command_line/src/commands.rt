@@ -10,7 +10,7 @@ const PROGRAM_HELP: &str = "\
 With no command `match` is meant. A fault is one line on standard error,
 `gi_dispatch: ` and its name (a wrong command line is told in more words), and
 nothing on standard output, unless memory or a writer fails, an office that
-runs gives up, books differ, or a book is not as expected.
+runs gives up, books differ or close no cycle, or a book is not as expected.
 
 Exit status: 0 done, 1 refused input, a reader or writer that failed, offices
 or books that do not agree, books that close no cycle, or a book that is not as
@@ -139,8 +139,9 @@ cycles are confirmed.
 Faults, the first of: CodeText (CODE is no code); Head, Store, Version, Gap N,
 Damaged N, Lost N, OtherBook SIDE POINT, BadFact N or Busy, as `serve` tells
 them of one book; then, behind the lines of what was done, Read, Write, Store
-(a save failed; what was saved before is written), SeatFull, Unsaved or
-Unsettled (an office gave up, which no run should meet) or OutOfMemory.
+X, Office X or Marked X (a save failed by fault X; what was saved before is
+written), SeatFull, Unsaved or Unsettled (an office gave up, which no run
+should meet), OutOfMemory, or Store (the book could not be closed).
 
 Exit status: 0 done, 1 CodeText, Read, Write or an office that gave up, 2 wrong
 command line, 3 any other fault of the book, 4 want of memory.
