@@ -6,7 +6,8 @@ import re
 
 FUNCTION = re.compile(r"^( *)(?:pub(?:\(\w+\))? )?(?:const )?fn (\w+)")
 CLAUSE = r"(requires|ensures|ghost|invariant|decreases)\b"
-OWNER = re.compile(r"^(?:impl(?:<[^>]*>)?|(?:pub(?:\(\w+\))? )?trait) (.*?) *\{?$")
+# (a bound may name an associated type, as `impl<R: Role<Received: Send>>`)
+OWNER = re.compile(r"^(?:impl(?:<(?:[^<>]|<[^<>]*>)*>)?|(?:pub(?:\(\w+\))? )?trait) (.*?) *\{?$")
 
 
 CLOSURE = re.compile(r"^ *(?:\S.*[ (&])?(?:move )?&?(?:move )?\|[^|]*\|(?: -> .*)?$")
