@@ -4,15 +4,15 @@ _dispatch() {
   local cur=${COMP_WORDS[COMP_CWORD]} line=() options=--help formats='' values=() option='' at=0 word
   # (bash parts `--format=csv` into three words)
   for word in "${COMP_WORDS[@]:1:COMP_CWORD-1}"; do
-    [ "$word" = = ] || line+=("$word")
+    [ "$word" = = ] || [ "${#line[@]}$word" = 0--verbose ] || line+=("$word")
   done
   [ "$cur" != = ] || cur=''
   case ${line[0]-} in
-    '') options='--help --version' values=("$commands") ;;
+    '') options='--help --version --verbose' values=("$commands") ;;
     match) ;;
     hours) ;;
-    simulate) options+=' --trace' ;;
-    office) options+=' --book --point --clock --wait' values=('I M') ;;
+    simulate) options+=' --trace --strict' ;;
+    office) options+=' --book --point --clock --wait --strict' values=('I M') ;;
     report)
       options+=' --format --day --portfolio --book --point' formats='text csv json'
       values=('open confirmed refused schedule cut changes' 'I M')
@@ -21,7 +21,7 @@ _dispatch() {
     page) options+=' --book --point' values=('I M') ;;
     audit) options+=' --format --initiating --matching --point' formats='text json' ;;
     book) options+=' --expect' values=(FILE) ;;
-    serve) options+=' --sessions --books --wait --old' ;;
+    serve) options+=' --sessions --books --wait --old --dry-run --strict' ;;
     help) values=("$commands") ;;
     *) options='' ;;
   esac
@@ -31,7 +31,7 @@ _dispatch() {
       option=''
     else
       case $word in
-        -h | --help | --trace | --clock | --old) ;;
+        -h | --help | --trace | --clock | --old | --dry-run | --strict) ;;
         --*) option=$word ;;
         *) at=$((at + 1)) ;;
       esac

@@ -3,6 +3,9 @@
 # Whether this command is named, or with a number, whether its word of this number is the one that is written.
 function __dispatch_in -a command number
     set -l words (commandline -opc)
+    if test "$words[2]" = --verbose
+        set -e words[2]
+    end
     test "$words[2]" = $command; or return 1
     test -n "$number"; or return 0
     set -l at 1
@@ -13,7 +16,7 @@ function __dispatch_in -a command number
             continue
         end
         switch $word
-            case -h --help --trace --clock --old '--*=*'
+            case -h --help --trace --clock --old --dry-run --strict '--*=*'
             case '--*'
                 set option $word
             case '*'
@@ -26,6 +29,7 @@ end
 complete -c dispatch -f
 complete -c dispatch -s h -l help -d 'Print help'
 complete -c dispatch -n __fish_use_subcommand -s V -l version -d 'Print version'
+complete -c dispatch -n __fish_use_subcommand -l verbose -d 'Tells also where a fault is'
 complete -c dispatch -n __fish_use_subcommand -a match -d 'Answers an order with the lesser of two tables'
 complete -c dispatch -n __fish_use_subcommand -a hours -d 'Tells the hours and cycles of a gas day'
 complete -c dispatch -n __fish_use_subcommand -a simulate -d "Makes the steps of a script at both operators' desks"
@@ -39,12 +43,14 @@ complete -c dispatch -n __fish_use_subcommand -a serve -d 'Runs both offices by 
 complete -c dispatch -n __fish_use_subcommand -a help -d 'Print this message or the help of the given subcommand(s)'
 
 complete -c dispatch -n '__dispatch_in simulate' -l trace -d 'Tells also what moved in each step'
+complete -c dispatch -n '__dispatch_in simulate' -l strict -d 'Exit status 1 where anything is refused'
 
 complete -c dispatch -n '__dispatch_in office 1' -a 'I M'
 complete -c dispatch -n '__dispatch_in office' -l book -r -F -d "The side's book, which is made where it is not there"
 complete -c dispatch -n '__dispatch_in office' -l point -x -d 'The point that the office is of'
 complete -c dispatch -n '__dispatch_in office' -l clock -d "Closes what is due by the machine's clock"
 complete -c dispatch -n '__dispatch_in office' -l wait -x -d 'How long a book in use is tried again, 0 to 3600'
+complete -c dispatch -n '__dispatch_in office' -l strict -d 'Exit status 1 where anything is refused'
 
 complete -c dispatch -n '__dispatch_in report 1' -a 'open confirmed refused schedule cut changes'
 complete -c dispatch -n '__dispatch_in report 2' -a 'I M'
@@ -76,5 +82,7 @@ complete -c dispatch -n '__dispatch_in serve' -l sessions -x -d 'The sessions of
 complete -c dispatch -n '__dispatch_in serve' -l books -x -a '(__fish_complete_directories)' -d "The sides' books, PREFIX-I.db and PREFIX-M.db"
 complete -c dispatch -n '__dispatch_in serve' -l wait -x -d 'How long a book in use is tried again, 0 to 3600'
 complete -c dispatch -n '__dispatch_in serve' -l old -d 'Takes books that are there, and makes none'
+complete -c dispatch -n '__dispatch_in serve' -l dry-run -d 'Leaves the books as they are, and runs over copies'
+complete -c dispatch -n '__dispatch_in serve' -l strict -d 'Exit status 1 where anything is refused'
 
 complete -c dispatch -n '__dispatch_in help 1' -a 'match hours simulate office report explain page audit book serve help'

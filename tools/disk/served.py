@@ -163,9 +163,8 @@ class Served:
         if not is_front(done.output, self.whole.output):
             raise Wrong(f"{done.output[-80:]!r} was written")
         if way in KILLS:
-            # (it writes all that it tells once its books are closed)
-            if done.status != -9 or done.errors or done.output:
-                raise Wrong("it was not killed, or had told something")
+            if done.status != -9 or done.errors:
+                raise Wrong("it was not killed, or had told a fault")
             return "killed"
         if is_whole:
             return "whole" if way in HARMLESS else without_effect(done.hit)
@@ -198,10 +197,10 @@ class Served:
         return fit
 
     def steps(self, done):
-        """The lines of the script behind which the run may have ended: each, or, where it told its steps, the one told last."""
+        """The lines of the script behind which the run may have ended: each, or, of a run that was cut off, the one told last."""
         told = [int(it.split()[0]) for it in done.output.decode().splitlines() if it[:1].isdigit()]
         last = len(self.after) - 1
-        if done.status == 3:
+        if done.status in (3, -9):
             return [min(told[-1] if told else 1, last)]
         return range(last + 1)
 

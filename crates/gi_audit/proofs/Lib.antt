@@ -1,6 +1,5 @@
 pub mod PlaceLemmas
 pub mod Places
-pub mod Searching
 pub mod Closings
 pub mod SentLemmas
 pub mod FindingLemmas

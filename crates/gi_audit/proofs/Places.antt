@@ -9,23 +9,22 @@ use Rattle.gi_facts.specs.Same.{same_cycle}
 use Rattle.gi_facts.specs.declared.fact.Fact.{Fact}
 use Rattle.gi_facts.specs.declared.fact.Fact.TheVariants.{Contracted, Noticed, Nominated, Closed, Met}
 use Rattle.gi_facts.proofs.SameLemmas.{same_cycle-is}
-use Rattle.gi_desk.specs.History.{facts_before, is_closing, is_meeting, number_of, peer_in, peer_of}
+use Rattle.gi_desk.specs.History.{facts_before, is_meeting, number_of, peer_in, peer_of}
 use Rattle.gi_desk.specs.LetOut.{IsFact}
-use Rattle.gi_processing.specs.declared.rule.Rule.{Rule}
 
-pub number_here : (is : Fact → Bool) (fact : Fact) (facts : List Fact) → is fact ≡ true → number_of is (fact ∷ facts) ≡ 1
+number_here : (is : Fact → Bool) (fact : Fact) (facts : List Fact) → is fact ≡ true → number_of is (fact ∷ facts) ≡ 1
 unfolding number_of facts_before
 number_here is fact facts e = rw (take_while-cons (λ f. not (is f)) fact facts, e) refl
 
-pub number_later : (is : Fact → Bool) (fact : Fact) (facts : List Fact) → is fact ≡ false → number_of is (fact ∷ facts) ≡ number_of is facts + 1
+number_later : (is : Fact → Bool) (fact : Fact) (facts : List Fact) → is fact ≡ false → number_of is (fact ∷ facts) ≡ number_of is facts + 1
 unfolding number_of facts_before
 number_later is fact facts e = rw (take_while-cons (λ f. not (is f)) fact facts, e) (omega arith)
 
-pub number_from : (is : Fact → Bool) (facts : List Fact) → 1 ≤ number_of is facts
+number_from : (is : Fact → Bool) (facts : List Fact) → 1 ≤ number_of is facts
 unfolding number_of
 number_from is facts = omega arith
 
-pub later_any : (is : Fact → Bool) (fact : Fact) (facts : List Fact) → is fact ≡ false → list_any is (fact ∷ facts) ≡ true → list_any is facts ≡ true
+later_any : (is : Fact → Bool) (fact : Fact) (facts : List Fact) → is fact ≡ false → list_any is (fact ∷ facts) ≡ true → list_any is facts ≡ true
 later_any is fact facts e any = subst (λ (b : Bool). (b || list_any is facts) ≡ true) e any
 
 -- ---- among the first facts
@@ -96,14 +95,7 @@ pub first_fact : (is : Fact → Bool) (facts : List Fact) → list_any is facts 
 first_fact is [] any = absurd cc
 first_fact is (fact ∷ facts) any = first_by is (is fact) fact facts refl (first_fact is facts) any
 
--- ---- closings and meetings
-
-pub closing_is : (id : CycleId) (fact : Fact) → is_closing id fact ≡ true → (rule : Rule) × (fact ≡ Closed id rule)
-closing_is id (Contracted contract) e = absurd cc
-closing_is id (Noticed notice) e = absurd cc
-closing_is id (Nominated document) e = absurd cc
-closing_is id (Closed other rule) e = (rule, ap (λ (c : CycleId). Closed c rule) (same_cycle-is other id e))
-closing_is id (Met other peer) e = absurd cc
+-- ---- meetings
 
 pub meeting_is : (id : CycleId) (fact : Fact) → is_meeting id fact ≡ true → (peer : TableContents) × (fact ≡ Met id peer)
 meeting_is id (Contracted contract) e = absurd cc

@@ -16,7 +16,6 @@ use Rattle.gi_world.specs.declared.world_reply.WorldReply.TheVariants.{Restarted
 use Rattle.gi_desk.specs.Machine.{started_again}
 use Rattle.gi_desk.proofs.HistoryLaws.{one_more}
 use Rattle.std.specs.Prelude.{IsTrue}
-use Rattle.std.specs.Result.{OnOk}
 use Rattle.gi_world.proofs.DeliveredPackets.{delivered-order, delivered-response}
 use Rattle.gi_world.proofs.Meetings.{after-sound, met-sound}
 use Rattle.gi_audit.specs.LetOut.{HaveLetOut}
@@ -118,8 +117,3 @@ both_again old between new first second =
           ap (λ (w : WorldState). w.matching.desk) second ∙ restarted_M between between.matching.desk.saved
           ∙ ap (λ (s : DeskState). started_again s s.saved) theirs;
     }
-
--- what is so is so where a call is done
-pub done_too : {T E : Type 0} (r : Result T E) (P : Type 0) → P → OnOk r P
-done_too (Ok x) P is = is
-done_too (Err e) P is = tt

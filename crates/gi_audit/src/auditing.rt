@@ -96,8 +96,6 @@ fn lines(
     matching: &Desk<Matching>,
     ids: &[CycleId],
 ) -> Result<Found, AllocError>
-    requires initiating { initiating.now.halted ≡ false }
-    requires matching { matching.now.halted ≡ false }
     ensures text { IfOk result (λ them. string_bytes them.text ≡ cycle_lines initiating.now matching.now ids.now) }
     ensures first { IfOk result (λ them. them.first ≡ first_difference initiating.now matching.now ids.now) }
     ensures agreed { IfOk result (λ them. them.agreed ≡ any_agrees initiating.now matching.now ids.now) }
@@ -106,8 +104,8 @@ fn lines(
     let mut first = None;
     let mut agreed = false;
     for id in ids {
-        let found = found_at(alloc, initiating, matching, id)?;
-        let place = place_found(alloc, initiating, matching, id, found)?;
+        let found = found_at(initiating, matching, id);
+        let place = place_found(initiating, matching, id, found);
         let line = line(alloc, id, found, place)?;
         text.push_str(line.as_str())?;
         first = first.or(differing(id, found));
@@ -120,7 +118,7 @@ fn lines(
     })
 }
 
-/// Sets two desks that are not halted against each other, as those are that a book was replayed to:
+/// Sets two desks against each other:
 /// a line for each cycle that either has closed, by gas day and number, with what is found of it,
 /// and a last one: `agreed`, `open`, `empty`, or the first cycle of which a table differs.
 ///
@@ -134,8 +132,6 @@ pub fn audit(
     initiating: &Desk<Initiating>,
     matching: &Desk<Matching>,
 ) -> Result<Audited, AllocError>
-    requires initiating { initiating.now.halted ≡ false }
-    requires matching { matching.now.halted ≡ false }
     ensures written { IfOk result (λ audit. IsAudit initiating.now matching.now (string_bytes audit.text) audit.verdict) }
     ensures verdict { IfOk result (λ audit. (names_difference audit.verdict ≡ false) ↔ Agree initiating.now matching.now) }
     ensures told { IfOk result (λ audit. IsToldExactly initiating.now matching.now audit.verdict) }

@@ -44,8 +44,6 @@ fn objects(
     matching: &Desk<Matching>,
     ids: &[CycleId],
 ) -> Result<FoundObjects, AllocError>
-    requires initiating { initiating.now.halted ≡ false }
-    requires matching { matching.now.halted ≡ false }
     ensures text { IfOk result (λ them. them.text.items ≡ cycle_objects initiating.now matching.now ids.now) }
     ensures first { IfOk result (λ them. them.first ≡ first_difference initiating.now matching.now ids.now) }
     ensures agreed { IfOk result (λ them. them.agreed ≡ any_agrees initiating.now matching.now ids.now) }
@@ -54,8 +52,8 @@ fn objects(
     let mut first = None;
     let mut agreed = false;
     for id in ids {
-        let found = found_at(alloc, initiating, matching, id)?;
-        let place = place_found(alloc, initiating, matching, id, found)?;
+        let found = found_at(initiating, matching, id);
+        let place = place_found(initiating, matching, id, found);
         text = with_cycle(alloc, text, id, found, place)?;
         first = first.or(differing(id, found));
         agreed = or_agreed(agreed, found);
@@ -75,8 +73,6 @@ pub fn audit_json(
     initiating: &Desk<Initiating>,
     matching: &Desk<Matching>,
 ) -> Result<AuditedJson, AllocError>
-    requires initiating { initiating.now.halted ≡ false }
-    requires matching { matching.now.halted ≡ false }
     ensures written { IfOk result (λ audit. IsJsonAudit initiating.now matching.now audit.text.items audit.verdict) }
     ensures verdict { IfOk result (λ audit. (names_difference audit.verdict ≡ false) ↔ Agree initiating.now matching.now) }
     ensures told { IfOk result (λ audit. IsToldExactly initiating.now matching.now audit.verdict) }

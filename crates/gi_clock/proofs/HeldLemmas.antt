@@ -67,9 +67,3 @@ pub at_end : (held : Held) (old new : Option (List Came)) → held.rest ≡ [] �
 at_end held None None none nothing begun known over = (tt, tt)
 at_end held None (Some events) none nothing begun known over = (tt, rw over (given_end held none nothing ∙ begun))
 at_end held (Some events) new none nothing begun known over = rw (known.0, known.1) (refl, given_end held none nothing ∙ begun)
-
--- the same is left where what is begun is to be given
-pub kept_at_end : (held after : Held) (old new : Option (List Came)) → given_of after [] ≡ given_of held []
-    → IfSome old (λ events. (events ≡ []) × (new ≡ Some [])) → Keeps (left_of held old) (left_of after new)
-kept_at_end held after None new same known = tt
-kept_at_end held after (Some events) new same known = rw (known.0, known.1) same

@@ -1,5 +1,5 @@
 -- What can be asked of the program.
-use Rattle.std.specs.Prelude.{ℕ, Bool, List, Option, None, Some, option_map}
+use Rattle.std.specs.Prelude.{ℕ, Bool, false, List, Option, None, Some, option_map}
 use Rattle.gi_pairs.specs.declared.direction.Direction.{Direction}
 use Rattle.gi_pairs.specs.declared.side.Side.{Side}
 use Rattle.gi_command_line.specs.declared.expected.ExpectedFacts.{ExpectedFacts}
@@ -30,14 +30,14 @@ pub record NarrowingWords : Type 0 where
   pub day : Option (List ℕ)
   pub portfolio : Option (List ℕ)
 
--- one of the commands but `office` and `serve`: a script's steps, with a trace or without; a report of this kind, in this format
+-- one of the commands but `office` and `serve`: a script's steps, with a trace or without, and strictly or not; a report of this kind, in this format
 -- and of this side, narrowed so, in this format what a quantity comes from at a side, or the page of a side's gas day, over a script or over
 -- the book in a file, for this point; in this format the audit of the initiating and the matching operator's books in files, for this point; what a book in a
 -- file is, with the number of its first facts that are expected to have a digest, and the digest; or a command in wrong words
 pub data Asked : Type 0 where
   match_tables : Asked
   hours : List ℕ → Asked
-  simulate : Bool → Asked
+  simulate : Bool → Bool → Asked
   report : ReportKind → Format → Side → NarrowingWords → Option (List ℕ × List ℕ) → Asked
   explain : LineFormat → Side → QuantityWords → Option (List ℕ × List ℕ) → Asked
   page : Side → List ℕ → Option (List ℕ × List ℕ) → Asked
@@ -69,7 +69,7 @@ expected_words expected = (expected.facts, expected.digest.now)
 abbrev pub meaning : Request → Asked
 meaning request.Match = match_tables
 meaning (request.Hours day) = hours day.now
-meaning (request.Simulate trace) = simulate trace
+meaning (request.Simulate trace strict) = simulate trace strict
 meaning (request.Report wanted) = report wanted.kind wanted.format wanted.side (narrowing_words wanted.narrowing) (book_of wanted.book)
 meaning (request.Explain wanted) = explain wanted.format wanted.side (quantity_words wanted.quantity) (book_of wanted.book)
 meaning (request.Page wanted) = page wanted.side wanted.day.now (book_of wanted.book)
@@ -78,12 +78,15 @@ meaning (request.Book question) = about_book question.file.now (option_map expec
 meaning (request.Mistaken why) = mistaken
 
 -- how both offices run: each with so many sessions, and their books in the files whose names begin so, else in memory; for so
--- many seconds a book that is in use is tried again, and books are made or only old ones are taken
+-- many seconds a book that is in use is tried again, and books are made or only old ones are taken; over the files or over copies
+-- of them in memory; and strictly or not
 pub record ServiceWords : Type 0 where
   pub sessions : ℕ
   pub books : Option (List ℕ)
   pub wait : ℕ
   pub only_old : Bool
+  pub dry_run : Bool
+  pub strict : Bool
 
 abbrev pub service_words : Service → ServiceWords
 service_words service = record {
@@ -91,16 +94,19 @@ service_words service = record {
   books = option_map (λ s. s.now) service.books;
   wait = service.wait;
   only_old = service.only_old;
+  dry_run = service.dry_run;
+  strict = service.strict;
 }
 
 -- how one operator's office runs: of this side, with its book in this file, for this point; for so many seconds a book that is in
--- use is tried again; and whether it is told the time by the machine's clock
+-- use is tried again; whether it is told the time by the machine's clock; and strictly or not
 pub record OfficeWords : Type 0 where
   pub side : Side
   pub file : List ℕ
   pub point : List ℕ
   pub wait : ℕ
   pub by_clock : Bool
+  pub strict : Bool
 
 abbrev pub office_words : OfficeRun → OfficeWords
 office_words run = record {
@@ -109,6 +115,7 @@ office_words run = record {
   point = run.book.point.now;
   wait = run.wait;
   by_clock = run.by_clock;
+  strict = run.strict;
 }
 
 -- any of the commands: one of these, one operator's office, or both offices run by a script
@@ -121,3 +128,13 @@ abbrev pub task_meaning : Task → Wanted
 task_meaning (task.AtOnce request) = at_once (meaning request)
 task_meaning (task.Office run) = office (office_words run)
 task_meaning (task.Serve service) = serve (service_words service)
+
+-- what is asked strictly fails where a step is refused
+abbrev pub is_strict_at_once : Asked → Bool
+is_strict_at_once (simulate trace strict) = strict
+is_strict_at_once _ = false
+
+abbrev pub is_strict : Wanted → Bool
+is_strict (at_once asked) = is_strict_at_once asked
+is_strict (office run) = run.strict
+is_strict (serve service) = service.strict

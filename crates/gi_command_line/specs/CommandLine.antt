@@ -43,7 +43,7 @@ abbrev pub the_hours : App
 the_hours = with_rule (new_app (codes "hours")) (word (codes "DAY"))
 
 abbrev pub the_simulate : App
-the_simulate = with_rule (new_app (codes "simulate")) (flag (codes "trace"))
+the_simulate = with_rule (with_rule (new_app (codes "simulate")) (flag (codes "trace"))) (flag (codes "strict"))
 
 -- the pair's portfolios and the direction; the gas day, the cycle and the hour
 abbrev pub with_pair : App → App
@@ -77,18 +77,19 @@ the_audit =
 abbrev pub the_book : App
 the_book = with_rule (with_rule (new_app (codes "book")) (word (codes "FILE"))) (option (codes "expect"))
 
--- the side; its book and the point, which are both needed, whether it goes by the clock, and how long is waited for the book
+-- the side; its book and the point, which are both needed, whether it goes by the clock, how long is waited for the book, and whether it is strict
 abbrev pub the_office : App
 the_office =
     let of_side = with_rule (new_app (codes "office")) (word (codes "SIDE")) in
     let in_book = with_rule (with_rule of_side (needed (codes "book"))) (needed (codes "point")) in
-    with_rule (with_rule in_book (flag (codes "clock"))) (option (codes "wait"))
+    with_rule (with_rule (with_rule in_book (flag (codes "clock"))) (option (codes "wait"))) (flag (codes "strict"))
 
--- the sessions and the books; how long is waited for these, and whether only old ones are taken
+-- the sessions and the books; how long is waited for these, whether only old ones are taken, whether copies of them are, and whether it is strict
 abbrev pub the_serve : App
 the_serve =
     let in_books = with_rule (with_rule (new_app (codes "serve")) (option (codes "sessions"))) (option (codes "books")) in
-    with_rule (with_rule in_books (option (codes "wait"))) (flag (codes "old"))
+    let in_old_books = with_rule (with_rule in_books (option (codes "wait"))) (flag (codes "old")) in
+    with_rule (with_rule in_old_books (flag (codes "dry-run"))) (flag (codes "strict"))
 
 -- the program's own name and version, and its commands
 abbrev pub named : App
@@ -230,14 +231,21 @@ abbrev pub wait_asked : Option (List ℕ) → Option ℕ
 wait_asked None = Some no_wait
 wait_asked (Some word) = wait_named word
 
-abbrev pub service_of : Option ℕ → Option ℕ → Option (List ℕ) → Bool → Wanted
-service_of None wait books only_old = at_once mistaken
-service_of (Some sessions) None books only_old = at_once mistaken
-service_of (Some sessions) (Some wait) books only_old = serve (record { sessions = sessions; books = books; wait = wait; only_old = only_old })
+-- a dry run is made over books
+abbrev pub has_books : Bool → Option (List ℕ) → Bool
+has_books dry_run books = not dry_run || is_some books
+
+abbrev pub service_of : Option ℕ → Option ℕ → Option (List ℕ) → (only_old dry_run strict : Bool) → Wanted
+service_of None wait books only_old dry_run strict = at_once mistaken
+service_of (Some sessions) None books only_old dry_run strict = at_once mistaken
+service_of (Some sessions) (Some wait) books only_old dry_run strict =
+    if has_books dry_run books then serve (record { sessions = sessions; books = books; wait = wait; only_old = only_old; dry_run = dry_run; strict = strict })
+    else at_once mistaken
 
 abbrev pub serve_asked : List Row → Wanted
 serve_asked rows =
     service_of (sessions_asked (first_of (codes "sessions") rows)) (wait_asked (first_of (codes "wait") rows)) (first_of (codes "books") rows) (is_set (first_of (codes "old") rows))
+    (is_set (first_of (codes "dry-run") rows)) (is_set (first_of (codes "strict") rows))
 
 -- an office is of a side, with the book in the file and for the point that are named
 abbrev pub office_of : List Row → Option Side → Option ℕ → Wanted
@@ -250,6 +258,7 @@ office_of rows (Some side) (Some wait) =
       point = value_of (codes "point") rows;
       wait = wait;
       by_clock = is_set (first_of (codes "clock") rows);
+      strict = is_set (first_of (codes "strict") rows);
     })
 
 abbrev pub office_asked : List Row → Wanted
@@ -259,7 +268,7 @@ office_asked rows = office_of rows (side_named (value_of (codes "SIDE") rows)) (
 abbrev pub asked_at_once : List ℕ → List Row → Asked
 asked_at_once name rows =
     if bytes_eq name (codes "hours") then hours_asked (first_of (codes "DAY") rows)
-    else (if bytes_eq name (codes "simulate") then simulate (is_set (first_of (codes "trace") rows))
+    else (if bytes_eq name (codes "simulate") then simulate (is_set (first_of (codes "trace") rows)) (is_set (first_of (codes "strict") rows))
     else (if bytes_eq name (codes "report") then report_asked rows
     else (if bytes_eq name (codes "explain") then explain_asked rows
     else (if bytes_eq name (codes "page") then page_asked rows

@@ -30,16 +30,23 @@ HoursIsTaken = (words : List (List ℕ)) (day : List ℕ) → MeansHours words d
 abbrev pub HoursNeedADay : Type 0
 HoursNeedADay = (program : List ℕ) → objections (program ∷ codes "hours" ∷ []) ≡ MissingRequiredArgument ∷ []
 
--- to the program's name with the word `simulate` nothing is objected, and it asks for no trace; with `--trace` behind it, for one
+-- to the program's name with the word `simulate` nothing is objected, and it asks for no trace, and not strictly; with `--trace` behind it,
+-- for one; with `--strict` behind it, strictly
 abbrev pub SimulateIsTaken : Type 0
 SimulateIsTaken =
-    (program : List ℕ) → (objections (program ∷ codes "simulate" ∷ []) ≡ []) × (asked (program ∷ codes "simulate" ∷ []) ≡ at_once (simulate false))
+    (program : List ℕ) → (objections (program ∷ codes "simulate" ∷ []) ≡ []) × (asked (program ∷ codes "simulate" ∷ []) ≡ at_once (simulate false false))
 
 abbrev pub TraceIsTaken : Type 0
 TraceIsTaken =
     (program : List ℕ)
     → (objections (program ∷ codes "simulate" ∷ codes "--trace" ∷ []) ≡ [])
-    × (asked (program ∷ codes "simulate" ∷ codes "--trace" ∷ []) ≡ at_once (simulate true))
+    × (asked (program ∷ codes "simulate" ∷ codes "--trace" ∷ []) ≡ at_once (simulate true false))
+
+abbrev pub StrictIsTaken : Type 0
+StrictIsTaken =
+    (program : List ℕ)
+    → (objections (program ∷ codes "simulate" ∷ codes "--strict" ∷ []) ≡ [])
+    × (asked (program ∷ codes "simulate" ∷ codes "--strict" ∷ []) ≡ at_once (simulate false true))
 
 -- ---- words with values of any text
 
@@ -290,11 +297,12 @@ ExpectedIsItsText =
 abbrev pub words_of_office : List ℕ → Side → List (List ℕ) → List (List ℕ)
 words_of_office program side more = program ∷ codes "office" ∷ side_text side ∷ more
 
-abbrev pub runs_so : Bool → (side : Side) (file point : List ℕ) → ℕ → Wanted
-runs_so by_clock side file point wait = office (record { side = side; file = file; point = point; wait = wait; by_clock = by_clock })
+abbrev pub runs_so : (by_clock strict : Bool) → (side : Side) (file point : List ℕ) → ℕ → Wanted
+runs_so by_clock strict side file point wait =
+    office (record { side = side; file = file; point = point; wait = wait; by_clock = by_clock; strict = strict })
 
 abbrev pub runs : (side : Side) (file point : List ℕ) → ℕ → Wanted
-runs side file point wait = runs_so false side file point wait
+runs side file point wait = runs_so false false side file point wait
 
 -- a side with its book and its point asks for its office, for no wait; with `--wait`, for these seconds
 abbrev pub OfficeIsTaken : Type 0
@@ -309,7 +317,13 @@ OfficeWaitIsTaken =
 abbrev pub OfficeClockIsTaken : Type 0
 OfficeClockIsTaken =
     (program file point : List ℕ) (side : Side)
-    → AreTaken (words_of_office program side (codes "--clock" ∷ book_words file point)) (runs_so true side file point no_wait)
+    → AreTaken (words_of_office program side (codes "--clock" ∷ book_words file point)) (runs_so true false side file point no_wait)
+
+-- with `--strict`, strictly
+abbrev pub OfficeStrictIsTaken : Type 0
+OfficeStrictIsTaken =
+    (program file point : List ℕ) (side : Side)
+    → AreTaken (words_of_office program side (codes "--strict" ∷ book_words file point)) (runs_so false true side file point no_wait)
 
 -- each in two words too, as `office I --book day-I.db --point BORDER-1`, where the file's name begins with `day`, and the point
 -- with `BORDER`
@@ -347,10 +361,14 @@ abbrev pub serve_words : List ℕ → List (List ℕ) → List (List ℕ)
 serve_words program options = program ∷ codes "serve" ∷ options
 
 -- how both offices run where no sessions are named
-abbrev pub serves : Option (List ℕ) → ℕ → Bool → Wanted
-serves books wait only_old = serve (record { sessions = default_sessions; books = books; wait = wait; only_old = only_old })
+abbrev pub serves_so : Option (List ℕ) → ℕ → (only_old dry_run strict : Bool) → Wanted
+serves_so books wait only_old dry_run strict =
+    serve (record { sessions = default_sessions; books = books; wait = wait; only_old = only_old; dry_run = dry_run; strict = strict })
 
--- `serve` alone asks for two sessions, for books in memory, for no wait, and for no old books
+abbrev pub serves : Option (List ℕ) → ℕ → Bool → Wanted
+serves books wait only_old = serves_so books wait only_old false false
+
+-- `serve` alone asks for two sessions, for books in memory, for no wait, and for no old books, for no dry run, and not strictly
 abbrev pub ServeIsTaken : Type 0
 ServeIsTaken = (program : List ℕ) → AreTaken (serve_words program []) (serves None no_wait false)
 
@@ -379,3 +397,21 @@ OldIsTaken =
 
 abbrev pub OldInMemoryIsTaken : Type 0
 OldInMemoryIsTaken = (program : List ℕ) → AreTaken (serve_words program (codes "--old" ∷ [])) (serves None no_wait true)
+
+-- with `--dry-run`, over copies in memory of the books that are named, of old ones alone too; where none are, these are wrong words
+abbrev pub DryRunIsTaken : Type 0
+DryRunIsTaken =
+    (program prefix : List ℕ)
+    → AreTaken (serve_words program (with_value (codes "books") prefix ∷ codes "--dry-run" ∷ [])) (serves_so (Some prefix) no_wait false true false)
+
+abbrev pub OldDryRunIsTaken : Type 0
+OldDryRunIsTaken =
+    (program prefix : List ℕ)
+    → AreTaken (serve_words program (codes "--old" ∷ codes "--dry-run" ∷ with_value (codes "books") prefix ∷ [])) (serves_so (Some prefix) no_wait true true false)
+
+abbrev pub DryRunNeedsBooks : Type 0
+DryRunNeedsBooks = (program : List ℕ) → AreTaken (serve_words program (codes "--dry-run" ∷ [])) (at_once mistaken)
+
+-- with `--strict`, strictly
+abbrev pub ServeStrictIsTaken : Type 0
+ServeStrictIsTaken = (program : List ℕ) → AreTaken (serve_words program (codes "--strict" ∷ [])) (serves_so None no_wait false false true)

@@ -80,3 +80,4 @@ mistake_text (mistake.Expected word) =
     codes "error: invalid value '" ++ (word.now ++ codes "' for '--expect <N:DIGEST>'\n  [possible values: 0 to 1000000, a colon and 64 digits of 0-9 and a-f]\n")
 mistake_text (mistake.Wait word) =
     codes "error: invalid value '" ++ (word.now ++ codes "' for '--wait <SECONDS>'\n  [possible values: 0 to 3600]\n")
+mistake_text mistake.NoBooks = codes "error: '--dry-run' needs '--books <PREFIX>'\n"

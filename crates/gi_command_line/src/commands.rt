@@ -6,6 +6,8 @@ ghost use Rattle.gi_command_line.specs.CommandLine.{flag as flag_rule, named, ne
 use clap::{Arg, ArgAction, Command};
 use std::alloc::{AllocError, Global};
 
+const STRICT: &str = "Exit status 1 where anything is refused";
+
 const PROGRAM_HELP: &str = "\
 With no command `match` is meant. A fault is one line on standard error,
 `gi_dispatch: ` and its name (a wrong command line is told in more words), and
@@ -13,9 +15,10 @@ nothing on standard output, unless memory or a writer fails, an office that
 runs gives up, books differ or close no cycle, or a book is not as expected.
 
 Exit status: 0 done, 1 refused input, a reader or writer that failed, offices
-or books that do not agree, books that close no cycle, or a book that is not as
-expected, 2 wrong command line, 3 a book that is none, is another's, is
-missing, is in use, lost facts or failed, 4 want of memory.
+or books that do not agree, books that close no cycle, a book that is not as
+expected, or with --strict a step that was refused, 2 wrong command line, 3 a
+book that is none, is another's, is missing, is in use, lost facts or failed, 4
+want of memory.
 
 Examples: dispatch match < examples/match.txt
           dispatch hours 2026-01-15
@@ -32,7 +35,8 @@ Examples: dispatch match < examples/match.txt
 
 `dispatch help NAME` tells what a fault, a refusal or an abbreviation asks of
 its reader, and `dispatch help COMMAND` is `dispatch COMMAND --help`. Where
-standard error is a terminal, a fault tells the same behind its line.";
+standard error is a terminal, a fault tells the same behind its line, and where
+it is; `dispatch --verbose COMMAND` tells where it is in any case.";
 
 const HOURS_HELP: &str = "\
 DAY is a gas day from 2000-01-01 to 2199-12-31, written YYYY-MM-DD. It starts
@@ -52,8 +56,9 @@ output gets one line, the DELRES: for each portfolio pair, direction and hour
 the lower of the two quantities, in kWh/h.
 
 Faults, the first of: Read, TooLarge (over 67,108,864 bytes), Lines (not two
-lines), `order: ` or `own: ` with what is wrong with that line, ShapeDiffers
-(another point, day, cycle or hours), Write.";
+lines), `order: ` or `own: ` with what is wrong with that line (Parts where it
+is one part of several), ShapeDiffers (another point, day, cycle or hours),
+Write.";
 
 const SIMULATE_HELP: &str = "\
 Standard input is a script: both operators' desks and the carriers between
@@ -81,7 +86,9 @@ side, and what came of it. Two lines with what each side holds come last. With
 with a message, as `  pass DELORD 2026-01-15 35`, and one for each packet that
 the step let out, as `  -> M DELORD 2026-01-15 35` to the other side or `  -> B
 NOMRES 2026-01-15 35 A IM 24: 7` to a portfolio, with its counterparty,
-direction, first hour and quantities in kWh/h.
+direction, first hour and quantities in kWh/h. With --strict, where no fault
+comes and a step was refused, the exit status is 1, and the last line on
+standard error tells how many were, as `3 refused`.
 
 Faults, the first of: Read, TooLarge (over 67,108,864 bytes), Point (no first
 line `point CODE`), `line N: Unreadable`, before any step; then Write. Where
@@ -134,17 +141,21 @@ before MOMENT's to two after it; how many these are is told, and then what each
 came to. A reader that died goes on by `outgoing`, from the last fact of which
 it saw a packet. At the end of standard input all is saved, the book is closed,
 and a last line tells how many facts it has, how many are saved, and how many
-cycles are confirmed.
+cycles are confirmed. With --strict, where no fault comes and an answer was
+`refused`, the exit status is 1, and the last line on standard error tells how
+many were, as `3 refused`.
 
 Faults, the first of: CodeText (CODE is no code); Head, Store, Version, Gap N,
 Damaged N, Lost N, OtherBook SIDE POINT, BadFact N or Busy, as `serve` tells
 them of one book; then, behind the lines of what was done, Read, Write, Store
-X, Office X or Marked X (a save failed by fault X; what was saved before is
-written), SeatFull, Unsaved or Unsettled (an office gave up, which no run
-should meet), OutOfMemory, or Store (the book could not be closed).
+X (a save failed by fault X; what was saved before is written), Office X or
+Marked X (a turn was not made, or its mark was refused), SeatFull (a halted
+office has noted 4,000,000 calls), Unsaved or Unsettled (which no run should
+meet), OutOfMemory, or Store (the book could not be closed).
 
-Exit status: 0 done, 1 CodeText, Read, Write or an office that gave up, 2 wrong
-command line, 3 any other fault of the book, 4 want of memory.
+Exit status: 0 done, 1 CodeText, Read, Write, Office X, Marked X, an office
+that gave up, or with --strict an answer `refused`, 2 wrong command line, 3 any
+other fault of the book, 4 want of memory.
 
 Example: dispatch office I --book day-I.db --point BORDER-1 < requests";
 
@@ -258,12 +269,17 @@ neither; with no PREFIX, the books are in memory. With --old none is made, and
 both have to be there. With --wait a book that another process has open is
 tried again for SECONDS (0 to 3600; 0 where no number is given) before it is
 Busy. Without --books both have no effect. A book of version 1 becomes one of
-version 2, which older programs refuse.
+version 2, which older programs refuse. With --dry-run, which needs --books,
+the offices go on with copies of the books in memory: no file is made or
+changed, and what is told is what would be without it. A book that is in use
+is then read as it stands, and --wait has no effect.
 
 Standard output gets a line for each step, with no numbers of facts: the number
 of the script's line, the side, and what came of it. Then come two lines with
 what each side holds, and three that tell whether each office's records agree
-with its desk, and the two offices with each other.
+with its desk, and the two offices with each other. With --strict, where no
+fault comes and a step was refused, the exit status is 1, and the last line on
+standard error tells how many were, as `3 refused`.
 
 Faults, the first of: Read, TooLarge, Point, `line N: Unreadable`, as for
 `simulate`; MissingBook I or M (it is not there, and the other side's has facts
@@ -444,10 +460,9 @@ fn simulate_command<'a>(alloc: Global) -> Result<Command<'a>, AllocError>
         "Makes the steps of a script at both operators' desks",
         SIMULATE_HELP,
     );
-    with_arg(
-        command,
-        flag(alloc, "trace", "Tells also what moved in each step"),
-    )
+    let trace = "Tells also what moved in each step";
+    let command = with_arg(command, flag(alloc, "trace", trace));
+    with_arg(command, flag(alloc, "strict", STRICT))
 }
 
 fn office_command<'a>(alloc: Global) -> Result<Command<'a>, AllocError>
@@ -466,8 +481,9 @@ fn office_command<'a>(alloc: Global) -> Result<Command<'a>, AllocError>
     let command = with_arg(command, needed(alloc, "point", "CODE", point));
     let clock = "Closes what is due by the machine's clock";
     let command = with_arg(command, flag(alloc, "clock", clock));
-    let wait = "How long a book in use is tried again, 0 to 3600";
-    with_arg(command, option(alloc, "wait", "SECONDS", wait))
+    let seconds = "How long a book in use is tried again, 0 to 3600";
+    let command = with_arg(command, option(alloc, "wait", "SECONDS", seconds));
+    with_arg(command, flag(alloc, "strict", STRICT))
 }
 
 fn report_command<'a>(alloc: Global) -> Result<Command<'a>, AllocError>
@@ -577,7 +593,10 @@ fn serve_command<'a>(alloc: Global) -> Result<Command<'a>, AllocError>
     let wait = "How long a book in use is tried again, 0 to 3600";
     let command = with_arg(command, option(alloc, "wait", "SECONDS", wait));
     let old = "Takes books that are there, and makes none";
-    with_arg(command, flag(alloc, "old", old))
+    let command = with_arg(command, flag(alloc, "old", old));
+    let dry_run = "Leaves the books as they are, and runs over copies";
+    let command = with_arg(command, flag(alloc, "dry-run", dry_run));
+    with_arg(command, flag(alloc, "strict", STRICT))
 }
 
 /// The program with this command too.

@@ -1,5 +1,5 @@
 //! What holds of all words. These functions do nothing; their clauses are the laws.
-ghost use Rattle.gi_command_line.specs.Laws.{AboutBookIsTaken, AboutBookNeedsAFile, AuditFormatIsTaken, AuditFormatIsWrong, AuditInWordsIsTaken, AuditIsTaken, AuditNeedsBothBooks, BookInWordsIsTaken, BookIsTaken, BookNeedsItsPoint, ExpectedIsItsText, ExpectedIsNamed, ExpectedIsTaken, ExpectedIsWrong, ExplainFormatIsTaken, ExplainFormatIsWrong, ExplainIsTaken, ExplainNeedsACycle, ExplainNeedsAnHour, ExplainedBookIsTaken, FormatIsTaken, HourIsMissing, HoursIsTaken, HoursNeedADay, MatchIsTaken, NarrowingIsTaken, NarrowingIsWrong, OfficeClockIsTaken, OfficeInWordsIsTaken, OfficeIsOfNoSide, OfficeIsTaken, OfficeNeedsASide, OfficeNeedsItsBook, OfficeNeedsItsPoint, OfficeWaitIsTaken, OfficeWaitIsWrong, OldInMemoryIsTaken, OldIsTaken, PageIsTaken, PageNeedsADay, PageNeedsItsPoint, PageOfABookIsTaken, PlainAboutBookIsTaken, PlainExplainIsTaken, ReportIsTaken, ReportNeedsASide, ServeIsTaken, SimulateIsTaken, TraceIsTaken, WaitIsItsText, WaitIsNamed, WaitIsTaken, WaitIsWrong};
+ghost use Rattle.gi_command_line.specs.Laws.{AboutBookIsTaken, AboutBookNeedsAFile, AuditFormatIsTaken, AuditFormatIsWrong, AuditInWordsIsTaken, AuditIsTaken, AuditNeedsBothBooks, BookInWordsIsTaken, BookIsTaken, BookNeedsItsPoint, DryRunIsTaken, DryRunNeedsBooks, ExpectedIsItsText, ExpectedIsNamed, ExpectedIsTaken, ExpectedIsWrong, ExplainFormatIsTaken, ExplainFormatIsWrong, ExplainIsTaken, ExplainNeedsACycle, ExplainNeedsAnHour, ExplainedBookIsTaken, FormatIsTaken, HourIsMissing, HoursIsTaken, HoursNeedADay, MatchIsTaken, NarrowingIsTaken, NarrowingIsWrong, OfficeClockIsTaken, OfficeInWordsIsTaken, OfficeIsOfNoSide, OfficeIsTaken, OfficeNeedsASide, OfficeNeedsItsBook, OfficeNeedsItsPoint, OfficeStrictIsTaken, OfficeWaitIsTaken, OfficeWaitIsWrong, OldDryRunIsTaken, OldInMemoryIsTaken, OldIsTaken, PageIsTaken, PageNeedsADay, PageNeedsItsPoint, PageOfABookIsTaken, PlainAboutBookIsTaken, PlainExplainIsTaken, ReportIsTaken, ReportNeedsASide, ServeIsTaken, ServeStrictIsTaken, SimulateIsTaken, StrictIsTaken, TraceIsTaken, WaitIsItsText, WaitIsNamed, WaitIsTaken, WaitIsWrong};
 
 /// The program's name, alone or with the word `match`, is a right command line, and asks for `match`.
 pub fn match_is_taken()
@@ -14,9 +14,9 @@ pub fn hours_is_taken()
 {}
 
 /// So is the program's name with the word `serve`, and it asks for two sessions, for books in memory,
-/// which no one waits for, and for no old ones; with `--wait`, for a wait of these seconds, and with
-/// `--old`, for old books alone. Each number of seconds has one text, and what is none is a wrong command
-/// line.
+/// which no one waits for, for no old ones, for no dry run, and not strictly; with `--wait`, for a wait of these seconds, with
+/// `--old`, for old books alone, with `--dry-run`, for a dry run, which without books is a wrong command line, and with `--strict`,
+/// strictly. Each number of seconds has one text, and what is none is a wrong command line.
 pub fn serve_is_taken()
     ensures plain { ServeIsTaken }
     ensures waits { WaitIsTaken }
@@ -25,23 +25,29 @@ pub fn serve_is_taken()
     ensures text { WaitIsItsText }
     ensures old { OldIsTaken }
     ensures old_in_memory { OldInMemoryIsTaken }
+    ensures dry { DryRunIsTaken }
+    ensures dry_of_old { OldDryRunIsTaken }
+    ensures dry_needs_books { DryRunNeedsBooks }
+    ensures strict { ServeStrictIsTaken }
 {}
 
-/// So is the program's name with the word `simulate`, which asks for no trace, and with `--trace`
-/// behind it, which asks for one.
+/// So is the program's name with the word `simulate`, which asks for no trace, and not strictly; with `--trace`
+/// behind it, which asks for one; and with `--strict`, which asks strictly.
 pub fn simulate_is_taken()
     ensures plain { SimulateIsTaken }
     ensures traced { TraceIsTaken }
+    ensures strict { StrictIsTaken }
 {}
 
 /// So is the program's name with the word `office`, a side, its book's file and its point, which asks for
-/// just that office, for no wait, and by no clock; with `--wait`, for a wait of these seconds, and with
-/// `--clock`, by the machine's clock. A side or seconds that are
+/// just that office, for no wait, by no clock, and not strictly; with `--wait`, for a wait of these seconds, with
+/// `--clock`, by the machine's clock, and with `--strict`, strictly. A side or seconds that are
 /// none are a wrong command line; without the side, the book or the point, that is missing.
 pub fn office_is_taken()
     ensures taken { OfficeIsTaken }
     ensures waits { OfficeWaitIsTaken }
     ensures by_clock { OfficeClockIsTaken }
+    ensures strict { OfficeStrictIsTaken }
     ensures in_words { OfficeInWordsIsTaken }
     ensures of_no_side { OfficeIsOfNoSide }
     ensures needs_seconds { OfficeWaitIsWrong }

@@ -146,6 +146,10 @@ pub struct Service<'a> {
     pub wait: WaitSeconds,
     /// Whether both books have to be there already: neither file is made.
     pub only_old: bool,
+    /// Whether it is run over copies in memory of the books, so that neither file is made or changed.
+    pub dry_run: bool,
+    /// Whether it fails where a step is refused.
+    pub strict: bool,
 }
 
 /// One operator's office, which runs as long as lines come.
@@ -157,6 +161,8 @@ pub struct OfficeRun<'a> {
     pub wait: WaitSeconds,
     /// Whether it is told the time by the machine's clock.
     pub by_clock: bool,
+    /// Whether it fails where a line is refused.
+    pub strict: bool,
 }
 
 /// What is wrong with the words of a command, where `clap` objects to nothing.
@@ -186,6 +192,8 @@ pub enum Mistake<'a> {
     Expected(&'a str),
     /// The word is no number of seconds to wait.
     Wait(&'a str),
+    /// `--dry-run` without `--books`.
+    NoBooks,
 }
 
 /// What a command line asks for, but `office` and `serve`.
@@ -195,8 +203,8 @@ pub enum Request<'a> {
     Match,
     /// The hours and cycles of the day that the word names.
     Hours(&'a str),
-    /// What comes of a script's steps; with a trace, also what moved in each.
-    Simulate { trace: bool },
+    /// What comes of a script's steps; with a trace, also what moved in each. A strict one fails where a step is refused.
+    Simulate { trace: bool, strict: bool },
     /// A report.
     Report(Report<'a>),
     /// What a quantity comes from.
@@ -220,6 +228,23 @@ pub enum Task<'a> {
     Office(OfficeRun<'a>),
     /// Both running offices.
     Serve(Service<'a>),
+}
+
+impl Task<'_> {
+    ghost use Rattle.std.specs.Prelude.{◌≡◌};
+    ghost use Rattle.gi_command_line.specs.Asked.{is_strict, task_meaning};
+
+    /// Whether it fails where a step is refused.
+    pub fn is_strict(&self) -> bool
+        ensures { result ≡ is_strict (task_meaning self.now) }
+    {
+        match self {
+            Task::AtOnce(Request::Simulate { strict, .. }) => *strict,
+            Task::AtOnce(_) => false,
+            Task::Office(run) => run.strict,
+            Task::Serve(service) => service.strict,
+        }
+    }
 }
 
 impl fmt::Display for Mistake<'_> {
@@ -273,6 +298,7 @@ impl fmt::Display for Mistake<'_> {
                 f,
                 "error: invalid value '{word}' for '--wait <SECONDS>'\n  [possible values: 0 to 3600]\n"
             ),
+            Mistake::NoBooks => f.write_str("error: '--dry-run' needs '--books <PREFIX>'\n"),
         }
     }
 }

@@ -3,7 +3,7 @@ ghost use Rattle.std.specs.Prelude.{◌≡◌, IfOk, codes, false, map, option_m
 ghost use Rattle.std.specs.Result.{result_ok};
 ghost use Rattle.clap.specs.Words.{FailsBy, first_of, found_of, rows_of, subcommand_rows_of};
 ghost use Rattle.gi_command_line.specs.Asked.{book_of as book_words, expected_words, meaning, narrowing_words, quantity_words, task_meaning};
-ghost use Rattle.gi_command_line.specs.CommandLine.{about_book_asked, asked, asked_at_once, asked_of, audit_asked, book_asked, expected_asked, explain_asked, fits as fits_kind, format_asked, hours_asked, is_set as is_set_by, line_format_asked, narrowing_asked, objections, office_asked, page_asked, quantity_asked, report_asked, serve_asked, sessions_asked, value_of as value_at, wait_asked};
+ghost use Rattle.gi_command_line.specs.CommandLine.{about_book_asked, asked, asked_at_once, asked_of, audit_asked, book_asked, expected_asked, explain_asked, fits as fits_kind, format_asked, has_books as has_books_named, hours_asked, is_set as is_set_by, line_format_asked, narrowing_asked, objections, office_asked, page_asked, quantity_asked, report_asked, serve_asked, sessions_asked, value_of as value_at, wait_asked};
 
 use crate::commands::commands;
 use crate::expected::ExpectedFacts;
@@ -255,6 +255,13 @@ fn wait_of(word: Option<&str>) -> Option<WaitSeconds>
     }
 }
 
+/// Whether there are books where a dry run is to be made over them.
+fn has_books(dry_run: bool, books: Option<&str>) -> bool
+    ensures { result ≡ has_books_named dry_run (option_map (λ s. s.now) books.entry) }
+{
+    !dry_run || books.is_some()
+}
+
 fn service_of<'a>(matches: &ArgMatches<'a>) -> Task<'a>
     ensures { task_meaning result ≡ serve_asked (rows_of (found_of matches.now)) }
 {
@@ -266,11 +273,18 @@ fn service_of<'a>(matches: &ArgMatches<'a>) -> Task<'a>
     let Some(wait) = wait_of(wait_word) else {
         return Task::AtOnce(Request::Mistaken(Mistake::Wait(wait_word.unwrap_or(""))));
     };
+    let books = value_of(matches, "books");
+    let dry_run = is_set(matches, "dry-run");
+    if !has_books(dry_run, books) {
+        return Task::AtOnce(Request::Mistaken(Mistake::NoBooks));
+    }
     Task::Serve(Service {
         sessions,
-        books: value_of(matches, "books"),
+        books,
         wait,
         only_old: is_set(matches, "old"),
+        dry_run,
+        strict: is_set(matches, "strict"),
     })
 }
 
@@ -293,6 +307,7 @@ fn office_of<'a>(matches: &ArgMatches<'a>) -> Task<'a>
         },
         wait,
         by_clock: is_set(matches, "clock"),
+        strict: is_set(matches, "strict"),
     })
 }
 
@@ -303,6 +318,7 @@ fn request_of<'a>(name: &str, entered: &ArgMatches<'a>) -> Request<'a>
         "hours" => hours_of(entered),
         "simulate" => Request::Simulate {
             trace: is_set(entered, "trace"),
+            strict: is_set(entered, "strict"),
         },
         "report" => report_of(entered),
         "explain" => explanation_of(entered),

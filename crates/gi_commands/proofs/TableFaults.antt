@@ -12,6 +12,7 @@ same_status table.TooLarge = refl
 same_status table.Lines = refl
 same_status (table.Message line why) = refl
 same_status (table.WrongKind line) = refl
+same_status (table.Parts line) = refl
 same_status table.ShapeDiffers = refl
 same_status (table.Day why) = refl
 same_status (table.Calendar why) = refl

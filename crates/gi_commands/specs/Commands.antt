@@ -55,7 +55,7 @@ HasNoPoint (Some book) = ¬ (IsCode book.1)
 abbrev pub Does : Source → Asked → Option (List ℕ) → Option (List ℕ) → Option (List ℕ) → Type 0
 Does books match_tables remaining old new = IfSome remaining (λ input. Answers input old new)
 Does books (hours day) remaining old new = TellsHours day old new
-Does books (simulate trace) remaining old new = IfSome remaining (λ input. Simulates trace input old new)
+Does books (simulate trace strict) remaining old new = IfSome remaining (λ input. Simulates trace input old new)
 Does books (report kind format side words book) remaining old new =
     (wanted : Wanted) × Narrows words wanted × TellsDesk books (Listed kind format wanted) side book remaining old new
 Does books (explain format side words book) remaining old new =
@@ -69,7 +69,7 @@ Does books mistaken remaining old new = ⊥
 abbrev pub IsFaultOf : Source → Asked → Option (List ℕ) → Fault → Type 0
 IsFaultOf books match_tables remaining why = IfSome remaining (λ input. OfTables (IsFirstFault input) why)
 IsFaultOf books (hours day) remaining why = OfTables (IsFirstHoursFault day) why
-IsFaultOf books (simulate trace) remaining why = IfSome remaining (λ input. IsFirstScriptFault HasScript input why)
+IsFaultOf books (simulate trace strict) remaining why = IfSome remaining (λ input. IsFirstScriptFault HasScript input why)
 IsFaultOf books (report kind format side words book) remaining why =
     (why ≡ fault.OutOfMemory) ⊎ IsNarrowingFault words why ⊎ ((wanted : Wanted) × Narrows words wanted × IsDeskFault books (Listed kind format wanted) side book remaining why)
 IsFaultOf books (explain format side words book) remaining why =
@@ -91,7 +91,7 @@ LeavesFront trace remaining old new _ = Keeps old new
 abbrev pub Leaves : Source → Asked → Option (List ℕ) → Option (List ℕ) → Option (List ℕ) → Fault → Type 0
 Leaves books match_tables remaining old new why = LeavesNothing old new why
 Leaves books (hours day) remaining old new why = LeavesNothing old new why
-Leaves books (simulate trace) remaining old new why = LeavesFront trace remaining old new why
+Leaves books (simulate trace strict) remaining old new why = LeavesFront trace remaining old new why
 Leaves books (report kind format side words book) remaining old new why = LeavesNothing old new why
 Leaves books (explain format side words book) remaining old new why = LeavesNothing old new why
 Leaves books (page side word book) remaining old new why = LeavesNothing old new why
@@ -103,7 +103,7 @@ Leaves books mistaken remaining old new why = LeavesNothing old new why
 abbrev pub MayRead : Asked → Option (List ℕ) → Option (List ℕ) → Type 0
 MayRead match_tables old new = Unit {0}
 MayRead (hours day) old new = Keeps old new
-MayRead (simulate trace) old new = Unit {0}
+MayRead (simulate trace strict) old new = Unit {0}
 MayRead (report kind format side words book) old new = ReadsUnlessBook book old new
 MayRead (explain format side words book) old new = ReadsUnlessBook book old new
 MayRead (page side word book) old new = ReadsUnlessBook book old new
@@ -115,7 +115,7 @@ MayRead mistaken old new = Keeps old new
 abbrev pub HasNoCode : Asked → Type 0
 HasNoCode match_tables = ⊥
 HasNoCode (hours day) = ⊥
-HasNoCode (simulate trace) = ⊥
+HasNoCode (simulate trace strict) = ⊥
 HasNoCode (report kind format side words book) = HasNoPortfolio words.portfolio ⊎ ((wanted : Wanted) × Narrows words wanted × HasNoPoint book)
 HasNoCode (explain format side words book) = NamesNoCodes words ⊎ ((question : Question) × Asks words question × HasNoPoint book)
 HasNoCode (page side word book) = (day : Date) × NamesPage word day × HasNoPoint book

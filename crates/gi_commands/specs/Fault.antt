@@ -13,7 +13,7 @@ use Rattle.gi_world.specs.declared.start_fault.StartFault.TheVariants as start
 use Rattle.gi_table_commands.specs.declared.fault.Fault.{Fault as TableFault}
 use Rattle.gi_table_commands.specs.declared.fault.Fault.TheVariants as table
 use Rattle.gi_commands.specs.declared.fault.Fault.{Fault}
-use Rattle.gi_commands.specs.declared.fault.Fault.TheVariants.{BadFact, Calendar, Code, CommandLine, Day, Lines, Message, MissingBook, OutOfMemory, Read, Script, ShapeDiffers, Store, TooLarge, Write, WrongKind}
+use Rattle.gi_commands.specs.declared.fault.Fault.TheVariants.{BadFact, Calendar, Code, CommandLine, Day, Lines, Message, MissingBook, OutOfMemory, Parts, Read, Script, ShapeDiffers, Store, TooLarge, Write, WrongKind}
 
 -- 2 is a wrong command line, 3 a book that failed, is none or is missing, 4 want of memory, and 1 refused input, a reader or a writer that
 -- failed, or books that differ or close no cycle
@@ -33,6 +33,7 @@ table_fault table.TooLarge = TooLarge
 table_fault table.Lines = Lines
 table_fault (table.Message line why) = Message line why
 table_fault (table.WrongKind line) = WrongKind line
+table_fault (table.Parts line) = Parts line
 table_fault table.ShapeDiffers = ShapeDiffers
 table_fault (table.Day why) = Day why
 table_fault (table.Calendar why) = Calendar why

@@ -36,8 +36,6 @@ fn desks_audit(
     initiating: &Desk<Initiating>,
     matching: &Desk<Matching>,
 ) -> Result<AuditText, AllocError>
-    requires initiating { initiating.now.halted ≡ false }
-    requires matching { matching.now.halted ≡ false }
     ensures written { IfOk result (λ it. IsAuditIn format initiating.now matching.now it.text.items it.verdict) }
     ensures told { IfOk result (λ it. IsToldExactly initiating.now matching.now it.verdict) }
     ensures one_quantity { IfOk result (λ it. names_difference it.verdict ≡ false → ConfirmOneQuantity initiating.now matching.now) }

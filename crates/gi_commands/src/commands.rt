@@ -253,7 +253,7 @@ pub fn perform<B: BookSource, R: Read, W: Write>(
     match request {
         Request::Match => match_tables(threads, alloc, input, output),
         Request::Hours(day) => tell_hours(alloc, day, output),
-        Request::Simulate { trace } => simulate_script(alloc, trace, input, output),
+        Request::Simulate { trace, .. } => simulate_script(alloc, trace, input, output),
         Request::Report(asked) => report(alloc, books, asked, input, output),
         Request::Audit(wanted) => audit_books(alloc, books, wanted, output),
         Request::Book(question) => tell_book(alloc, books, question, output),

@@ -33,6 +33,9 @@ pub enum Fault {
     /// The line is a message of another kind than DELORD.
     #[error("{0}: WrongKind")]
     WrongKind(Line),
+    /// The line is a DELORD that is one part of several, and only whole ones are taken.
+    #[error("{0}: Parts")]
+    Parts(Line),
     /// The tables are for another point, day or cycle, or for other hours.
     #[error("ShapeDiffers")]
     ShapeDiffers,
@@ -90,6 +93,7 @@ impl From<TableFault> for Fault {
             TableFault::Lines => Fault::Lines,
             TableFault::Message(line, fault) => Fault::Message(line, fault),
             TableFault::WrongKind(line) => Fault::WrongKind(line),
+            TableFault::Parts(line) => Fault::Parts(line),
             TableFault::ShapeDiffers => Fault::ShapeDiffers,
             TableFault::Day(fault) => Fault::Day(fault),
             TableFault::Calendar(fault) => Fault::Calendar(fault),

@@ -72,7 +72,7 @@ names_cutters amounts cut =
 -- ---- tables and charts
 
 pub shows_all_as_drawn : ShowsAllAsDrawn
-shows_all_as_drawn direction hour = record { nominated = refl; processed = refl; peers = refl; in_force = refl; cut = refl; own_cut = refl; peer_cut = refl }
+shows_all_as_drawn direction hour = record { nominated = refl; processed = refl; peers = refl; in_force = refl }
 
 -- ---- runs
 

@@ -2,7 +2,7 @@
 use Rattle.std.specs.Prelude.{◌≡◌, ◌<◌, ◌≤◌, ℕ, suc, ◌+◌, ◌*◌, ◌-◌, List, ◌∷◌, codes, drop, length, take}
 use Rattle.std.specs.List.{sum_by}
 use Rattle.gi_pairs.specs.declared.direction.Direction.{Direction}
-use Rattle.gi_picture.specs.Quantities.{cut_of, in_force_of, nominated_of, own_cut, own_cut_of, peer_cut, peer_cut_of, peers_of, processed_of, value_if}
+use Rattle.gi_picture.specs.Quantities.{in_force_of, nominated_of, own_cut, peer_cut, peers_of, processed_of, value_if}
 use Rattle.gi_picture.specs.Values.{total, value_or_none}
 use Rattle.gi_picture.specs.declared.hour.Amounts.{Amounts}
 use Rattle.gi_picture.specs.declared.hour.Hour.{Hour}
@@ -49,9 +49,6 @@ pub record ShowsWhatIsDrawn (direction : Direction) (hour : Hour) : Type 0 where
   pub processed : column_of Processed (flow_of direction hour) ≡ processed_of direction hour
   pub peers : column_of Peers (flow_of direction hour) ≡ peers_of direction hour
   pub in_force : column_of InForce (flow_of direction hour) ≡ in_force_of direction hour
-  pub cut : column_of Cut (flow_of direction hour) ≡ cut_of direction hour
-  pub own_cut : column_of OwnCut (flow_of direction hour) ≡ own_cut_of direction hour
-  pub peer_cut : column_of PeerCut (flow_of direction hour) ≡ peer_cut_of direction hour
 
 abbrev pub ShowsAllAsDrawn : Type 0
 ShowsAllAsDrawn = (direction : Direction) (hour : Hour) → ShowsWhatIsDrawn direction hour

@@ -19,7 +19,7 @@ use Rattle.gi_processing.proofs.ProcessingReadings.{reads-sound}
 use Rattle.gi_processing.proofs.ReadingLaws.{reads-self}
 use Rattle.gi_processing.specs.declared.contract.Contract.{Contract}
 use Rattle.gi_processing.specs.declared.notice.Notice.{Notice}
-use Rattle.gi_processing.specs.Processing.{AreSound, processed}
+use Rattle.gi_processing.specs.Processing.{AreSound, HasFewOfEach, processed}
 use Rattle.gi_processing.specs.declared.rule.Rule.{Rule}
 use Rattle.gi_desk.specs.History.{capacity_of, documents_of, is_closed}
 use Rattle.gi_desk.specs.DeskRepr.{DeskInvariant, IsKept, IsRunning}
@@ -151,7 +151,7 @@ kept-legal side point old s fact legal point_is facts_is recorded room =
 
 -- and with what belongs to it, where all states can be written, what is kept stays so
 kept-more : (side : Side) (point : List ℕ) (old : List Fact) (kept later : Kept) (saved : ℕ) (fact : Fact) (new : List Fact)
-    → DeskInvariant side point old kept saved → FitsFact fact → All FitsState (states_of side (old ++ fact ∷ []))
+    → DeskInvariant side point old kept saved → FitsFact fact → All (FitsState side) (states_of side (old ++ fact ∷ []))
     → new ≡ old ++ fact ∷ [] → IsKept side point (old ++ fact ∷ []) later → DeskInvariant side point new later saved
 kept-more side point old kept later saved fact new is fits all_fit new_is keeps =
     let longer : length (old ++ fact ∷ []) ≡ length old + 1 = length-append old (fact ∷ []) in
@@ -188,9 +188,10 @@ kept-other side point old kept book contracts takings saved s fact new is other 
 -- one more closing
 pub kept-closed : (side : Side) (point : List ℕ) (old : List Fact) (kept : Kept) (saved : ℕ) (id : CycleId) (rule : Rule) (new : List Fact) (stages : BTreeMap CycleId Stage)
     → DeskInvariant side point old kept saved → FitsCycle id → FitsProcessed (processed (capacity_of old) (documents_of old) side id.day id.cycle rule)
+    → HasFewOfEach side (processed (capacity_of old) (documents_of old) side id.day id.cycle rule)
     → new ≡ old ++ Closed id rule ∷ [] → AreStages side point (old ++ Closed id rule ∷ []) stages.entries → DeskInvariant side point new (record kept { stages = stages }) saved
-kept-closed side point old kept saved id rule new stages is fits own_fits new_is are =
-    kept-more side point old kept (record kept { stages = stages }) saved (Closed id rule) new is fits (states_fit-closed side point old id rule are.legal is.fits.states fits own_fits) new_is
+kept-closed side point old kept saved id rule new stages is fits own_fits few new_is are =
+    kept-more side point old kept (record kept { stages = stages }) saved (Closed id rule) new is fits (states_fit-closed side point old id rule are.legal is.fits.states fits own_fits few) new_is
     (record {
       stages = are;
       running = running-closed point old kept.book kept.contracts id rule is.keeps.running;

@@ -69,18 +69,7 @@ delivered-addressed side point kept own history id message addressed same is_own
     let same_here : false ≡ not (bytes_eq point own) = same ∙ ap (λ (p : List ℕ). not (bytes_eq point p)) is_own in
     sym (taken (bytes_eq point own) _ same_here) ∙ ap (if_addressed side own history message) addressed
 
--- one of another point
-elsewhere : (b : Bool) (o : Outcome) → true ≡ not b → cond b o (Refuses WrongPoint) ≡ Refuses WrongPoint
-elsewhere true o e = absurd cc
-elsewhere false o e = refl
-
-pub delivered-elsewhere : (side : Side) (point kept own : List ℕ) (history : List Fact) (id : CycleId) (message : Message) → Some (point, id) ≡ address_of side message → true ≡ not (bytes_eq point kept) → kept ≡ own
-    → Refuses WrongPoint ≡ delivered side own history (Ok message)
-delivered-elsewhere side point kept own history id message addressed other is_own =
-    let other_here : true ≡ not (bytes_eq point own) = other ∙ ap (λ (p : List ℕ). not (bytes_eq point p)) is_own in
-    sym (elsewhere (bytes_eq point own) _ other_here) ∙ ap (if_addressed side own history message) addressed
-
--- and one of another kind
+-- one of another kind
 unaddressed : (side : Side) (message : Message) → None ≡ for_role side message → None ≡ address_of side message
 unaddressed I (Nomint message) e = refl
 unaddressed I (Acknow message) e = refl

@@ -1,26 +1,32 @@
 -- Which facts and states can be written.
-use Rattle.std.proofs.Common.{◌≡◌, ℕ, zero, suc, List, [], ◌∷◌, ◌++◌, Bool, true, false, cond, not, leb-true, nat_le, All, Some, None, refl, sym, ap, ◌∙◌, subst, arith}
+use Rattle.std.proofs.Common.{◌≡◌, ℕ, zero, suc, ◌+◌, ◌≤◌, List, [], ◌∷◌, ◌++◌, length, count_by, Bool, true, false, cond, not, leb-true, nat_le, All, Some, None, refl, sym, ap, ◌∙◌, subst, arith}
 use Rattle.std.specs.Int.{IsInRange}
 use Rattle.std.specs.List.{list_all}
 use Rattle.std.specs.Prelude.{slice_get}
+use Rattle.std.specs.Str.{bytes_eq}
 use Rattle.std.proofs.lemmas.Bool.{and_parts}
 use Rattle.std.proofs.lemmas.Bool.Decides.{nat_tests}
 use Rattle.std.proofs.lemmas.List.Elements.{All-cons, All-head, All-nil, All-push, All-set, All-tail}
+use Rattle.std.proofs.lemmas.List.Sums.{count_by-le-length}
 use Rattle.gi_day.specs.Cycles.{cycle_count, hour_count}
 use Rattle.gi_day.specs.Day.{IsGasYear}
 use Rattle.gi_day.proofs.DayFacts.{day_facts}
 use Rattle.gi_pairs.specs.Code.{IsCode}
+use Rattle.gi_pairs.specs.Limits.{most_processed_rows}
+use Rattle.gi_pairs.specs.Pair.{code_at}
 use Rattle.gi_pairs.specs.Table.{IsTable, TableContents}
 use Rattle.gi_pairs.specs.declared.cycle_id.CycleId.{CycleId}
 use Rattle.gi_pairs.specs.declared.side.Side.{Side}
 use Rattle.gi_pairs.proofs.Reading.{find_all}
 use Rattle.gi_lesser.specs.Lesser.{HasShapeOf, lesser_of}
 use Rattle.gi_lesser.proofs.LesserLaws.{AreMatched, lesser_of-is_table}
+use Rattle.gi_lesser.proofs.RowCounts.{adds-no_rows}
 use Rattle.gi_messages.specs.Grammar.{FitsNominationLine, FitsNomint}
 use Rattle.gi_messages.specs.Limits.{last_priority, last_version}
 use Rattle.gi_messages.specs.declared.message.Nomint.{Nomint}
 use Rattle.gi_messages.specs.declared.nomination_line.NominationLine.{NominationLine}
-use Rattle.gi_processing.specs.Processing.{processed}
+use Rattle.gi_nominations.specs.Lines.{most_lines}
+use Rattle.gi_processing.specs.Processing.{HasFewOfEach, is_row_of, processed}
 use Rattle.gi_processing.specs.Recording.{has_hours, is_over, notice_refusal}
 use Rattle.gi_processing.specs.declared.notice.Notice.{Notice}
 use Rattle.gi_processing.specs.declared.notice_fault.NoticeFault.TheVariants.{NoticeRange, PermilleRange}
@@ -43,15 +49,15 @@ use Rattle.gi_desk.proofs.StageLaws.{found, place_of, state-meeting, states-clos
 
 -- ---- the state of a closed cycle
 
-pub state-fits : (side : Side) (facts : List Fact) (id : CycleId) → All FitsState (states_of side facts) → is_closed id facts ≡ true → FitsState (state_of side facts id)
+pub state-fits : (side : Side) (facts : List Fact) (id : CycleId) → All (FitsState side) (states_of side facts) → is_closed id facts ≡ true → FitsState side (state_of side facts id)
 state-fits side facts id all closed =
-    find_all FitsState (is_state_of id) (states_of side facts) (state_of side facts id) all
+    find_all (FitsState side) (is_state_of id) (states_of side facts) (state_of side facts id) all
     (found side facts id ∙ ap (λ (b : Bool). cond b (Some (state_of side facts id)) None) closed)
 
 -- a cycle that would meet the peer's table is frozen
-meeting-fits : (side : Side) (facts : List Fact) (id : CycleId) (peer : TableContents) → All FitsState (states_of side facts) → IsMeeting side facts id peer
-    → FitsFrozen (frozen_cycle side facts id)
-meeting-fits side facts id peer all meeting = subst FitsState (state-meeting side facts id peer meeting) (state-fits side facts id all meeting.closed)
+meeting-fits : (side : Side) (facts : List Fact) (id : CycleId) (peer : TableContents) → All (FitsState side) (states_of side facts) → IsMeeting side facts id peer
+    → FitsFrozen side (frozen_cycle side facts id)
+meeting-fits side facts id peer all meeting = subst (FitsState side) (state-meeting side facts id peer meeting) (state-fits side facts id all meeting.closed)
 
 -- ---- a fact that would be recorded
 
@@ -120,48 +126,58 @@ meeting_fact-fits side point before id peer desk e table =
 
 -- ---- the states after one more fact
 
-pub states_fit-other : (side : Side) (facts : List Fact) (fact : Fact) → changes_cycle fact ≡ false → All FitsState (states_of side facts) → All FitsState (states_of side (facts ++ fact ∷ []))
-states_fit-other side facts fact other all = subst (λ (states : List CycleState). All FitsState states) (sym (states-other side facts fact other)) all
+pub states_fit-other : (side : Side) (facts : List Fact) (fact : Fact) → changes_cycle fact ≡ false → All (FitsState side) (states_of side facts) → All (FitsState side) (states_of side (facts ++ fact ∷ []))
+states_fit-other side facts fact other all = subst (λ (states : List CycleState). All (FitsState side) states) (sym (states-other side facts fact other)) all
 
-pub states_fit-closed : (side : Side) (point : List ℕ) (facts : List Fact) (id : CycleId) (rule : Rule) → bad_fact side point (facts ++ Closed id rule ∷ []) ≡ None → All FitsState (states_of side facts)
-    → FitsCycle id → FitsProcessed (processed (capacity_of facts) (documents_of facts) side id.day id.cycle rule) → All FitsState (states_of side (facts ++ Closed id rule ∷ []))
-states_fit-closed side point facts id rule legal all cycle own =
+pub states_fit-closed : (side : Side) (point : List ℕ) (facts : List Fact) (id : CycleId) (rule : Rule) → bad_fact side point (facts ++ Closed id rule ∷ []) ≡ None → All (FitsState side) (states_of side facts)
+    → FitsCycle id → FitsProcessed (processed (capacity_of facts) (documents_of facts) side id.day id.cycle rule)
+    → HasFewOfEach side (processed (capacity_of facts) (documents_of facts) side id.day id.cycle rule) → All (FitsState side) (states_of side (facts ++ Closed id rule ∷ []))
+states_fit-closed side point facts id rule legal all cycle own few =
     let frozen : FrozenCycle = record { id = id; own = processed (capacity_of facts) (documents_of facts) side id.day id.cycle rule } in
-    let fits : FitsFrozen frozen = record { id = cycle; own = own } in
-    subst (λ (states : List CycleState). All FitsState states) (sym (states-closed side point facts id rule legal))
-    (All-push FitsState (states_of side facts) (Frozen frozen) all fits)
+    let fits : FitsFrozen side frozen = record { id = cycle; own = own; few_of_each = few } in
+    subst (λ (states : List CycleState). All (FitsState side) states) (sym (states-closed side point facts id rule legal))
+    (All-push (FitsState side) (states_of side facts) (Frozen frozen) all fits)
 
-matched-fits : (cycle : FrozenCycle) (peer : TableContents) → FitsFrozen cycle → FitsProcessed peer → HasShapeOf cycle.own peer → FitsMatched (matched_of cycle peer)
+-- of each portfolio the lesser has at most all rows of the peer's table beside the own rows
+told-few_rows : (side : Side) (own peer : TableContents) (portfolio : List ℕ) → HasFewOfEach side own → length peer.rows ≤ most_processed_rows
+    → count_by (is_row_of side portfolio) (lesser_of own peer).rows ≤ most_lines + most_processed_rows
+told-few_rows side own peer portfolio few of_peer =
+    let both = adds-no_rows (λ key. bytes_eq (code_at side key.pair) portfolio) own peer in
+    omega (arith, both, few portfolio, count_by-le-length (is_row_of side portfolio) peer.rows, of_peer)
+
+matched-fits : (side : Side) (cycle : FrozenCycle) (peer : TableContents) → FitsFrozen side cycle → FitsProcessed peer → HasShapeOf cycle.own peer → FitsMatched side (matched_of cycle peer)
 unfolding lesser_of
-matched-fits cycle peer frozen met shape =
+matched-fits side cycle peer frozen met shape =
     let both : AreMatched cycle.own peer =
     record { own_table = frozen.own.table; peer_table = met.table; shape = shape; own_few = frozen.own.few; peer_few = met.few } in
     record {
       id = frozen.id;
       own = frozen.own;
+      few_of_each = frozen.few_of_each;
       peer = met;
       confirmed = lesser_of-is_table cycle.own peer both;
+      few_told = λ portfolio. told-few_rows side cycle.own peer portfolio frozen.few_of_each met.few;
       begins = refl;
       ends = refl;
     }
 
 pub states_fit-met : (side : Side) (point : List ℕ) (facts : List Fact) (id : CycleId) (peer : TableContents) → bad_fact side point (facts ++ Met id peer ∷ []) ≡ None
-    → All FitsState (states_of side facts) → FitsFact (Met id peer) → All FitsState (states_of side (facts ++ Met id peer ∷ []))
+    → All (FitsState side) (states_of side facts) → FitsFact (Met id peer) → All (FitsState side) (states_of side (facts ++ Met id peer ∷ []))
 states_fit-met side point facts id peer legal all fact =
     let meeting = recorded-meeting side point facts id peer (legal-recorded side point facts (Met id peer) [] legal) in
     let frozen = meeting-fits side facts id peer all meeting in
     let cycle = frozen_cycle side facts id in
-    let fits : FitsMatched (matched_of cycle peer) = matched-fits cycle peer frozen fact.1 meeting.same_hours in
-    subst (λ (states : List CycleState). All FitsState states) (sym (states-met side point facts id peer legal))
-    (All-set FitsState (states_of side facts) (place_of side facts id) (Matched (matched_of cycle peer)) fits all)
+    let fits : FitsMatched side (matched_of cycle peer) = matched-fits side cycle peer frozen fact.1 meeting.same_hours in
+    subst (λ (states : List CycleState). All (FitsState side) states) (sym (states-met side point facts id peer legal))
+    (All-set (FitsState side) (states_of side facts) (place_of side facts id) (Matched (matched_of cycle peer)) fits all)
 
 -- ---- a desk
 
 pub fits-none : (side : Side) (point : List ℕ) → IsCode point → FitsDesk side point []
 unfolding states_of closings
-fits-none side point code = record { point = code; facts = All-nil FitsFact; states = All-nil FitsState }
+fits-none side point code = record { point = code; facts = All-nil FitsFact; states = All-nil (FitsState side) }
 
-pub fits-more : (side : Side) (point : List ℕ) (facts : List Fact) (fact : Fact) → FitsDesk side point facts → FitsFact fact → All FitsState (states_of side (facts ++ fact ∷ []))
+pub fits-more : (side : Side) (point : List ℕ) (facts : List Fact) (fact : Fact) → FitsDesk side point facts → FitsFact fact → All (FitsState side) (states_of side (facts ++ fact ∷ []))
     → FitsDesk side point (facts ++ fact ∷ [])
 fits-more side point facts fact desk fits states = record { point = desk.point; facts = All-push FitsFact facts fact desk.facts fits; states = states }
 

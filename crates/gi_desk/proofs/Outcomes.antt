@@ -1,5 +1,5 @@
 -- What a call comes to can follow the facts of a desk.
-use Rattle.std.proofs.Common.{arith, ◌≡◌, ◌<◌, ◌≤◌, ◌+◌, ℕ, List, [], ◌∷◌, All, length, Bool, true, false, cond, not, nat_eq, nat_le, nat_lt, Option, Some, None, Result, Ok, Err, refl, ap, subst}
+use Rattle.std.proofs.Common.{arith, ◌≡◌, ◌<◌, ◌≤◌, ◌==◌, ◌+◌, ℕ, List, [], ◌∷◌, All, length, Bool, true, false, cond, not, nat_eq, nat_le, nat_lt, Option, Some, None, Result, Ok, Err, refl, ap, subst}
 use Rattle.std.specs.Prelude.{slice_get}
 use Rattle.std.specs.List.{list_all}
 use Rattle.std.specs.Str.{bytes_eq}
@@ -31,7 +31,7 @@ use Rattle.gi_processing.specs.declared.notice_fault.NoticeFault.TheVariants as 
 use Rattle.gi_processing.specs.declared.rule.Rule.{Rule}
 use Rattle.gi_cycles.specs.declared.cycle_state.CycleState.{CycleState}
 use Rattle.gi_cycles.specs.declared.cycle_state.CycleState.TheVariants.{Collecting, Frozen, Matched}
-use Rattle.gi_desk.specs.Deciding.{by_order, by_response, cycle_of, difference, met_again, unless_differs}
+use Rattle.gi_desk.specs.Deciding.{by_order, by_response, cycle_of, difference, if_whole, met_again, unless_differs}
 use Rattle.gi_desk.specs.History.{capacity_of, is_closed, last_closed, number_of, state_of}
 use Rattle.gi_desk.specs.Judging.{by_decision, by_verdict, closed, contracted, delivered, if_same, noticed, of_point, submitted, unless_fault, unless_later, verdict_on}
 use Rattle.gi_desk.specs.Caches.{CanFollow}
@@ -46,6 +46,7 @@ use Rattle.gi_facts.specs.declared.fact.Fact.TheVariants as facts
 use Rattle.gi_desk.specs.declared.outcome.Outcome.{Outcome}
 use Rattle.gi_desk.specs.declared.outcome.Outcome.TheVariants.{Records, RepeatsNomination, RepeatsMeeting, Saves, Resends, Stops, Refuses}
 use Rattle.gi_desk.specs.declared.refusal.Refusal.TheVariants as refusals
+use Rattle.gi_desk.proofs.Decoded.{fits_few}
 use Rattle.gi_desk.proofs.StateLaws.{number_of-from}
 
 -- what a call that comes to an outcome by itself can be sure of
@@ -169,6 +170,9 @@ meets_response peer confirmed (Matched cycle) =
     meets_test peer (same_hours cycle.own peer) (unless_differs differs again) (decisions.Refused refusals.ShapeDiffers)
     (meets_unless peer differs again (meets_again cycle.peer peer)) tt
 
+meets_whole : (peer : TableContents) (parts : ℕ) (d : Decision) → OnlyMeets peer d → OnlyMeets peer (if_whole parts d)
+meets_whole peer parts d is = meets_test peer (parts == 1) d (decisions.Refused refusals.Parts) is tt
+
 pub of_decision : (history : List Fact) (id : CycleId) (peer : TableContents) (d : Decision) → OnlyMeets peer d → IsOf (facts.Met id peer) (by_decision history id d)
 of_decision history id peer (decisions.Meet table) is = ap (facts.Met id) is
 of_decision history id peer decisions.Again is = number_of-from _ history
@@ -206,6 +210,12 @@ as_order history id peer confirmed (Matched cycle) e =
     (never_test history id (same_hours cycle.own peer) (unless_differs differs again)
     (never_unless history id differs again (again_never history id (table_eq cycle.peer peer))) e)
 
+-- what records is whole
+recorded_whole : (history : List Fact) (id : CycleId) (b : Bool) (d : Decision) → is_record (by_decision history id (cond b d (decisions.Refused refusals.Parts))) ≡ true
+    → is_record (by_decision history id d) ≡ true
+recorded_whole history id true d e = e
+recorded_whole history id false d e = absurd cc
+
 recorded_here : (b : Bool) (o : Outcome) → is_record (cond b o (Refuses refusals.WrongPoint)) ≡ true → is_record o ≡ true
 recorded_here true o e = e
 recorded_here false o e = absurd cc
@@ -227,13 +237,17 @@ sure_delivered M s body (Ok (messages.Delord message)) e =
     let fits = fits_decoded body (messages.Delord message) e in
     let id = cycle_of message.day message.cycle in
     let state = state_of M s.facts id in
-    sure_decision M s message.point id message.processed (by_order message.processed state) (meets_order message.processed state) (λ is. is) fits.few
+    let decided = by_order message.processed state in
+    sure_decision M s message.point id message.processed (if_whole message.parts decided) (meets_whole message.processed message.parts decided (meets_order message.processed state))
+    (λ is. recorded_whole s.facts id (message.parts == 1) decided is) (fits_few (messages.Delord message) fits)
 sure_delivered I s body (Ok (messages.Delres message)) e =
     let fits = fits_decoded body (messages.Delres message) e in
     let id = cycle_of message.day message.cycle in
     let state = state_of I s.facts id in
-    sure_decision I s message.point id message.processed (by_response message.processed message.confirmed state) (meets_response message.processed message.confirmed state)
-    (as_order s.facts id message.processed message.confirmed state) fits.few
+    let decided = by_response message.processed message.confirmed state in
+    sure_decision I s message.point id message.processed (if_whole message.parts decided)
+    (meets_whole message.processed message.parts decided (meets_response message.processed message.confirmed state))
+    (λ is. as_order s.facts id message.processed message.confirmed state (recorded_whole s.facts id (message.parts == 1) decided is)) (fits_few (messages.Delres message) fits)
 sure_delivered I s body (Ok (messages.Delord message)) e = tt
 sure_delivered M s body (Ok (messages.Delres message)) e = tt
 sure_delivered I s body (Ok (messages.Nomint message)) e = tt

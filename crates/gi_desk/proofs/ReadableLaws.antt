@@ -4,6 +4,7 @@ use Rattle.std.specs.Prelude.{is_some, slice_get}
 use Rattle.std.specs.Ordering.{is_lt}
 use Rattle.std.specs.Str.{bytes_eq}
 use Rattle.std.proofs.lemmas.List.{get_or-take, length-map, length-take}
+use Rattle.std.proofs.lemmas.List.Sums.{length-filter}
 use Rattle.std.proofs.lemmas.List.Elements.{All-append, All-cons, All-filter, All-get_or, All-head, All-map, All-nil, All-tail, All-weaker}
 use Rattle.std.proofs.lemmas.Option.{get_or_from_slice_get, slice_get_within}
 use Rattle.gi_pairs.specs.Code.{IsCode}
@@ -56,14 +57,17 @@ readable m fits few to = let writable = writable_from_fits m fits in (m, writabl
 pub acknow-fits : (document : NomintOf) → FitsNomint document → FitsAcknow (acknow_of document)
 acknow-fits document fits = record { point = fits.point; portfolio = fits.portfolio; day = fits.day; from = fits.from; to = fits.to }
 
-pub order-fits : (point : List ℕ) (cycle : FrozenCycle) → IsCode point → FitsFrozen cycle → FitsDelord (order_of point cycle)
-order-fits point cycle code fits = record { point = code; day = fits.id.day; cycle = fits.id.cycle; processed = fits.own.table; few = fits.own.few }
+pub order-fits : {side : Side} (point : List ℕ) (cycle : FrozenCycle) → IsCode point → FitsFrozen side cycle → FitsDelord (order_of point cycle)
+order-fits point cycle code fits = record { point = code; day = fits.id.day; cycle = fits.id.cycle; few_parts = omega arith; part_from = omega arith; part_to = omega arith; processed = fits.own.table; few = fits.own.few }
 
-pub response-fits : (point : List ℕ) (cycle : MatchedCycle) → IsCode point → FitsMatched cycle → FitsDelres (response_of point cycle)
+pub response-fits : {side : Side} (point : List ℕ) (cycle : MatchedCycle) → IsCode point → FitsMatched side cycle → FitsDelres (response_of point cycle)
 response-fits point cycle code fits = record {
   point = code;
   day = fits.id.day;
   cycle = fits.id.cycle;
+  few_parts = omega arith;
+  part_from = omega arith;
+  part_to = omega arith;
   processed = fits.own.table;
   few = fits.own.few;
   confirmed = fits.confirmed;
@@ -80,7 +84,7 @@ own_code : (side : Side) (row : Row) → IsRow row → IsCode (code_at side row.
 own_code I row is = is.key.initiating
 own_code M row is = is.key.matching
 
-pub told-fits : (side : Side) (point : List ℕ) (cycle : MatchedCycle) (portfolio : List ℕ) → IsCode point → FitsMatched cycle → IsCode portfolio → FitsNomres (told_of side point cycle portfolio)
+pub told-fits : (side : Side) (point : List ℕ) (cycle : MatchedCycle) (portfolio : List ℕ) → IsCode point → FitsMatched side cycle → IsCode portfolio → FitsNomres (told_of side point cycle portfolio)
 told-fits side point cycle portfolio code fits own =
     let table = cycle.confirmed in
     let is = fits.confirmed in
@@ -99,32 +103,22 @@ told-fits side point cycle portfolio code fits own =
       whole = All-map (λ (line : Line). length line.hours ≡ covered table.first table.last) (line_of side) rows whole;
     }
 
-kept_by : {X : Type 0} (b : Bool) (x : X) (some all : List X) → length some ≤ length all → length (cond b (x ∷ some) some) ≤ length (x ∷ all)
-kept_by true x some all within = omega (arith, within)
-kept_by false x some all within = omega (arith, within)
-
-some_of : {X : Type 0} (p : X → Bool) (xs : List X) → length (filter p xs) ≤ length xs
-some_of p [] = omega arith
-some_of p (x ∷ xs) = kept_by (p x) x (filter p xs) xs (some_of p xs)
-
-pub told-few : (side : Side) (point : List ℕ) (cycle : MatchedCycle) (portfolio : List ℕ) → FitsMatched cycle → HasFewLines (Nomres (told_of side point cycle portfolio))
+-- its lines are as many as the rows of the portfolio in the frozen table and all rows of the peer's, at most
+pub told-few : (side : Side) (point : List ℕ) (cycle : MatchedCycle) (portfolio : List ℕ) → FitsMatched side cycle → HasFewLines (Nomres (told_of side point cycle portfolio))
 told-few side point cycle portfolio fits =
-    let table = cycle.confirmed in
-    let rows = filter (is_row_of side portfolio) table.rows in
+    let rows = filter (is_row_of side portfolio) cycle.confirmed.rows in
     let many : length (map (line_of side) rows) ≡ length rows = length-map rows (line_of side) in
-    let within : length rows ≤ length table.rows = some_of (is_row_of side portfolio) table.rows in
-    let few = fits.confirmed.few in
-    omega (arith, many, within, few)
+    omega (arith, many, length-filter (is_row_of side portfolio) cycle.confirmed.rows, fits.few_told portfolio)
 
 -- ---- packets
 
-closed-readable : (side : Side) (point : List ℕ) (cycle : FrozenCycle) → IsCode point → FitsFrozen cycle → All IsReadable (sent (on_closed side point cycle))
+closed-readable : (side : Side) (point : List ℕ) (cycle : FrozenCycle) → IsCode point → FitsFrozen side cycle → All IsReadable (sent (on_closed side point cycle))
 closed-readable I point cycle code fits =
     let message = Delord (order_of point cycle) in
     All-cons IsReadable (to_peer message) [] (readable message (order-fits point cycle code fits) tt Peer) (All-nil IsReadable)
 closed-readable M point cycle code fits = All-nil IsReadable
 
-met-readable : (side : Side) (point : List ℕ) (cycle : MatchedCycle) → IsCode point → FitsMatched cycle → All IsReadable (sent (on_met side point cycle))
+met-readable : (side : Side) (point : List ℕ) (cycle : MatchedCycle) → IsCode point → FitsMatched side cycle → All IsReadable (sent (on_met side point cycle))
 met-readable I point cycle code fits = All-nil IsReadable
 met-readable M point cycle code fits =
     let message = Delres (response_of point cycle) in
@@ -149,7 +143,7 @@ portfolios-coded side [] all = All-nil IsCode
 portfolios-coded side (row ∷ rows) all =
     coded (code_at side row.pair) (portfolios_in side rows) (own_code side row (All-head IsRow row rows all)) (portfolios-coded side rows (All-tail IsRow row rows all))
 
-told-readable : (side : Side) (point : List ℕ) (cycle : MatchedCycle) → IsCode point → FitsMatched cycle → All IsReadable (told_packets side point cycle)
+told-readable : (side : Side) (point : List ℕ) (cycle : MatchedCycle) → IsCode point → FitsMatched side cycle → All IsReadable (told_packets side point cycle)
 unfolding told_packets
 told-readable side point cycle code fits =
     let portfolios = portfolios_in side cycle.confirmed.rows in
@@ -162,10 +156,10 @@ told-readable side point cycle code fits =
 
 -- ---- what each kind of fact lets out
 
-frozen_again : (cycle : MatchedCycle) → FitsMatched cycle → FitsFrozen (frozen_of cycle)
-frozen_again cycle fits = record { id = fits.id; own = fits.own }
+frozen_again : {side : Side} (cycle : MatchedCycle) → FitsMatched side cycle → FitsFrozen side (frozen_of cycle)
+frozen_again cycle fits = record { id = fits.id; own = fits.own; few_of_each = fits.few_of_each }
 
-on_closing-readable : (side : Side) (point : List ℕ) (state : CycleState) → IsCode point → FitsState state → All IsReadable (let_out_on_closing side point state)
+on_closing-readable : (side : Side) (point : List ℕ) (state : CycleState) → IsCode point → FitsState side state → All IsReadable (let_out_on_closing side point state)
 on_closing-readable side point (Collecting id) code fits = All-nil IsReadable
 on_closing-readable side point (Frozen cycle) code fits = closed-readable side point cycle code fits
 on_closing-readable side point (Matched cycle) code fits = closed-readable side point (frozen_of cycle) code (frozen_again cycle fits)
@@ -181,7 +175,7 @@ meeting-readable : (side : Side) (point : List ℕ) (facts : List Fact) (n : ℕ
 meeting-readable side point facts n id peer legal desk is =
     let met = fact_meets side point facts n id peer legal is in
     let matched = is_matched side facts id met.0 (ap is_some met.1) in
-    let fits : FitsMatched matched.0 = subst FitsState matched.1 (state-fits side facts id desk.states met.0) in
+    let fits : FitsMatched side matched.0 = subst (FitsState side) matched.1 (state-fits side facts id desk.states met.0) in
     subst (λ (packets : List Packet). All IsReadable packets) (meeting_lets_out side point facts n id peer matched.0 legal is (sym matched.1))
     (All-append IsReadable (sent (on_met side point matched.0)) (told_packets side point matched.0)
     (met-readable side point matched.0 desk.point fits) (told-readable side point matched.0 desk.point fits))

@@ -131,13 +131,13 @@ meeting_records side s id peer e =
 
 -- the order of the peer's table
 abbrev order : List ℕ → CycleId → TableContents → Delord
-order point id peer = record { point = point; day = id.day; cycle = id.cycle; processed = peer }
+order point id peer = record { point = point; day = id.day; cycle = id.cycle; parts = 1; part = 1; processed = peer }
 
 order_called : (s : DeskState) (id : CycleId) (peer : TableContents) → FitsDesk M s.point s.facts → FitsCycle id → FitsProcessed peer
     → would_record M s.point s.facts (Met id peer) ≡ true → IsRecorded M s (Met id peer)
 order_called s id peer desk cycle fits e =
     let message = messages.Delord (order s.point id peer) in
-    let back = read_back message (record { point = desk.point; day = cycle.day; cycle = cycle.cycle; processed = fits.table; few = fits.few }) tt in (
+    let back = read_back message (record { point = desk.point; day = cycle.day; cycle = cycle.cycle; few_parts = omega arith; part_from = omega arith; part_to = omega arith; processed = fits.table; few = fits.few }) tt in (
       calls.Deliver (text_of message),
       ap (delivered M s.point s.facts) back ∙ at_point s.point (by_decision s.facts id (by_order peer (state_of M s.facts id))) ∙ meeting_records M s id peer e,
     )
@@ -148,12 +148,12 @@ frozen_fits : (side : Side) (point : List ℕ) (history : List Fact) (id : Cycle
 frozen_fits side point history id peer desk is =
     let frozen = Frozen (frozen_cycle side history id) in
     let closed = ap (λ (b : Bool). cond b (Some (state_of side history id)) None) is.closed ∙ ap Some (state-meeting side history id peer is) in
-    let fits : FitsFrozen (frozen_cycle side history id) = find_all FitsState (is_state_of id) (states_of side history) frozen desk.states (found side history id ∙ closed) in
+    let fits : FitsFrozen side (frozen_cycle side history id) = find_all (FitsState side) (is_state_of id) (states_of side history) frozen desk.states (found side history id ∙ closed) in
     fits.own
 
 -- the response that confirms the lesser
 abbrev response : List ℕ → CycleId → TableContents → TableContents → Delres
-response point id own peer = record { point = point; day = id.day; cycle = id.cycle; processed = peer; confirmed = lesser_of own peer }
+response point id own peer = record { point = point; day = id.day; cycle = id.cycle; parts = 1; part = 1; processed = peer; confirmed = lesser_of own peer }
 
 response_fits : (point : List ℕ) (id : CycleId) (own peer : TableContents) → IsCode point → FitsCycle id → FitsProcessed own → FitsProcessed peer → HasShapeOf own peer
     → Fits (messages.Delres (response point id own peer))
@@ -163,6 +163,9 @@ response_fits point id own peer code cycle own_fits fits shape =
       point = code;
       day = cycle.day;
       cycle = cycle.cycle;
+      few_parts = omega arith;
+      part_from = omega arith;
+      part_to = omega arith;
       processed = fits.table;
       few = fits.few;
       confirmed = lesser.table;

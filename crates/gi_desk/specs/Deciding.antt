@@ -1,5 +1,5 @@
 -- What a desk makes of its peer's message, by the state of the cycle.
-use Rattle.std.specs.Prelude.{◌≡◌, ◌≤◌, ◌⊎◌, ℕ, ◌+◌, List, [], ◌∷◌, length, Bool, false, if◌then◌else◌, Option, Some, None, IsTrue}
+use Rattle.std.specs.Prelude.{◌≡◌, ◌≤◌, ◌⊎◌, ℕ, ◌+◌, ◌==◌, ◌&&◌, List, [], ◌∷◌, length, Bool, false, if◌then◌else◌, Option, Some, None, IsTrue}
 use Rattle.jiff_core.specs.declared.civil.date.Date.{Date}
 use Rattle.gi_pairs.specs.Row.{row_eq}
 use Rattle.gi_pairs.specs.Table.{TableContents, same_hours, table_eq}
@@ -15,7 +15,7 @@ use Rattle.gi_cycles.specs.declared.cycle_state.CycleState.{CycleState}
 use Rattle.gi_cycles.specs.declared.cycle_state.CycleState.TheVariants.{Collecting, Frozen, Matched}
 use Rattle.gi_desk.specs.declared.decision.Decision.{Decision}
 use Rattle.gi_desk.specs.declared.decision.Decision.TheVariants.{Meet, Again, Refused}
-use Rattle.gi_desk.specs.declared.refusal.Refusal.TheVariants.{OutOfMemory, WrongKind, NotClosed, ShapeDiffers, NotTheLesser, Conflict}
+use Rattle.gi_desk.specs.declared.refusal.Refusal.TheVariants.{OutOfMemory, WrongKind, Parts, NotClosed, ShapeDiffers, NotTheLesser, Conflict}
 
 -- the least place, from 1, at which rows differ; a row that one list lacks differs
 abbrev pub one_later : Option ℕ → Option ℕ
@@ -52,10 +52,14 @@ by_response peer confirmed (Collecting id) = Refused NotClosed
 by_response peer confirmed (Frozen cycle) = compared cycle.own peer confirmed (Meet peer)
 by_response peer confirmed (Matched cycle) = compared cycle.own peer confirmed (met_again cycle.peer peer)
 
+-- only what comes whole is decided on: one part of several is refused
+abbrev pub if_whole : ℕ → Decision → Decision
+if_whole parts decision = if parts == 1 then decision else Refused Parts
+
 -- the matching side decides by orders, and the initiating side by responses
 abbrev pub decision : Side → CycleState → Message → Decision
-decision M state (Delord message) = by_order message.processed state
-decision I state (Delres message) = by_response message.processed message.confirmed state
+decision M state (Delord message) = if_whole message.parts (by_order message.processed state)
+decision I state (Delres message) = if_whole message.parts (by_response message.processed message.confirmed state)
 decision side state message = Refused WrongKind
 
 -- a message, where it is of the kind that is for the side
@@ -81,14 +85,14 @@ HasFewRows (Nomint message) = Unit {0}
 HasFewRows (Acknow message) = Unit {0}
 HasFewRows (Nomres message) = Unit {0}
 
--- To decide on a response may want memory only once the cycle is closed, and for a table of its hours, whose lesser is taken.
+-- To decide on a response may want memory only where it is whole, once the cycle is closed, and for a table of its hours, whose lesser is taken.
 abbrev pub response_may_want : TableContents → CycleState → Bool
 response_may_want peer (Collecting id) = false
 response_may_want peer (Frozen cycle) = same_hours cycle.own peer
 response_may_want peer (Matched cycle) = same_hours cycle.own peer
 
 abbrev pub may_want_at : CycleState → Message → Bool
-may_want_at state (Delres message) = response_may_want message.processed state
+may_want_at state (Delres message) = (message.parts == 1) && response_may_want message.processed state
 may_want_at state (Delord message) = false
 may_want_at state (Nomint message) = false
 may_want_at state (Acknow message) = false

@@ -1,5 +1,5 @@
 -- The messages that a desk writes, and the packets that carry them.
-use Rattle.std.specs.Prelude.{ℕ, List, [], ◌∷◌, map, filter, Bool, if◌then◌else◌}
+use Rattle.std.specs.Prelude.{ℕ, List, [], ◌∷◌, map, filter, if◌then◌else◌}
 use Rattle.std.specs.Ordering.{is_lt}
 use Rattle.std.specs.Str.{bytes_eq}
 use Rattle.gi_pairs.specs.Key.{code_cmp}
@@ -17,6 +17,7 @@ use Rattle.gi_messages.specs.declared.message.Message.{Message}
 use Rattle.gi_messages.specs.declared.message.Message.TheVariants as messages
 use Rattle.gi_messages.specs.declared.message.Nomint.{Nomint}
 use Rattle.gi_messages.specs.declared.message.Nomres.{Nomres}
+pub use Rattle.gi_processing.specs.Processing.{is_row_of}
 use Rattle.gi_cycles.specs.States.{FrozenCycle, MatchedCycle}
 use Rattle.gi_desk.specs.declared.packet.Packet.{Packet}
 use Rattle.gi_desk.specs.declared.packet.Recipient.TheVariants.{Peer, User}
@@ -31,17 +32,17 @@ to_user portfolio message = record { to = User portfolio; body = text_of message
 abbrev pub acknow_of : Nomint → Acknow
 acknow_of document = record { point = document.point; portfolio = document.portfolio; day = document.day; version = document.version }
 
--- the initiating operator's order: its frozen table
+-- the initiating operator's order: its frozen table, whole
 abbrev pub order_of : List ℕ → FrozenCycle → Delord
-order_of point cycle = record { point = point; day = cycle.id.day; cycle = cycle.id.cycle; processed = cycle.own }
+order_of point cycle = record { point = point; day = cycle.id.day; cycle = cycle.id.cycle; parts = 1; part = 1; processed = cycle.own }
 
 -- the messages that carry it, in order
 abbrev pub orders_of : List ℕ → FrozenCycle → List Message
 orders_of point cycle = messages.Delord (order_of point cycle) ∷ []
 
--- the matching operator's response: its frozen table, and the confirmed one
+-- the matching operator's response: its frozen table, and the confirmed one, whole
 abbrev pub response_of : List ℕ → MatchedCycle → Delres
-response_of point cycle = record { point = point; day = cycle.id.day; cycle = cycle.id.cycle; processed = cycle.own; confirmed = cycle.confirmed }
+response_of point cycle = record { point = point; day = cycle.id.day; cycle = cycle.id.cycle; parts = 1; part = 1; processed = cycle.own; confirmed = cycle.confirmed }
 
 -- the messages that carry it, in order
 abbrev pub responses_of : List ℕ → MatchedCycle → List Message
@@ -57,9 +58,6 @@ portfolios_in side [] = []
 portfolios_in side (row ∷ rows) = with_code (code_at side row.pair) (portfolios_in side rows)
 
 -- the rows of a portfolio as lines, in table order: by counterparty, then `IM` before `MI`
-abbrev pub is_row_of : Side → List ℕ → Row → Bool
-is_row_of side portfolio row = bytes_eq (code_at side row.pair) portfolio
-
 abbrev pub line_of : Side → Row → Line
 line_of side row = record { counterparty = code_at (other side) row.pair; direction = row.direction; hours = row.hours }
 

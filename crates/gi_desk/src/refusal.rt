@@ -31,6 +31,8 @@ pub enum Refusal {
     OutOfOrder { last: u8 },
     /// The message is for another interconnection point.
     WrongPoint,
+    /// The order or the response is one part of several, and only whole ones are taken.
+    Parts,
     /// The cycle is not closed here; for a resending, its closing is not saved.
     NotClosed,
     /// The table is for other hours than the frozen one.
@@ -69,6 +71,7 @@ impl fmt::Display for Refusal {
             Refusal::AlreadyClosed => "AlreadyClosed",
             Refusal::OutOfOrder { last } => return write!(f, "OutOfOrder {last}"),
             Refusal::WrongPoint => "WrongPoint",
+            Refusal::Parts => "Parts",
             Refusal::NotClosed => "NotClosed",
             Refusal::ShapeDiffers => "ShapeDiffers",
             Refusal::NotTheLesser { row } => return write!(f, "NotTheLesser {row}"),

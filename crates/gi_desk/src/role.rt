@@ -19,6 +19,7 @@ pub trait Role {
     /// What the peer sends: the order to the matching side, the response to the initiating one.
     type Received: Drop;
 
+    /// It as the message that carries it.
     ghost as_message: { Self.Received → Message };
 
     /// Which operator it is.
@@ -33,10 +34,11 @@ pub trait Role {
         ensures { Some result ≡ address_of SIDE (as_message received.now) };
 
     /// What comes of the peer's order or response, with at most 4,096 processed rows, in a state of
-    /// its cycle: `NotClosed` while nominations are collected, then `ShapeDiffers`, then at the
-    /// initiating side `NotTheLesser`. A frozen cycle meets the table, which is moved out of it; a
-    /// matched one has met it already or answers `Conflict`. `OutOfMemory` comes only at the
-    /// initiating side, and only where the cycle is closed and the hours are the same.
+    /// its cycle: `Parts` where it is one part of several, `NotClosed` while nominations are
+    /// collected, then `ShapeDiffers`, then at the initiating side `NotTheLesser`. A frozen cycle meets the table, which is moved out of
+    /// the order or the response; a matched one has met it already or answers `Conflict`. `OutOfMemory` comes only at the
+    /// initiating side, and only where the response is whole, the cycle is closed and the hours are
+    /// the same.
     fn decide(alloc: Global, state: &CycleState, received: Self::Received) -> Decision
         requires few { HasFewRows (as_message received) }
         ensures { IsDecided SIDE state.now (as_message received) result };

@@ -159,6 +159,11 @@ fn confirmed(plain: &Plain, random: &mut Random, id: &CycleId, processed: &Table
     processed.copy().ok()
 }
 
+/// In how many parts a message of the peer comes: at times it is the first of two.
+fn drawn_parts(random: &mut Random) -> u8 {
+    if random.below(16) == 0 { 2 } else { 1 }
+}
+
 /// The peer's response with its table.
 fn response(
     plain: &Plain,
@@ -172,6 +177,8 @@ fn response(
         point: names.drawn_point(random),
         day: id.day,
         cycle: id.cycle,
+        parts: drawn_parts(random),
+        part: 1,
         processed,
         confirmed,
     }))
@@ -183,6 +190,8 @@ fn order(names: &Names, random: &mut Random, id: &CycleId, processed: Table) -> 
         point: names.drawn_point(random),
         day: id.day,
         cycle: id.cycle,
+        parts: drawn_parts(random),
+        part: 1,
         processed,
     })
 }

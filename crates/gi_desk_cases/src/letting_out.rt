@@ -99,6 +99,8 @@ impl Plain {
                 point: self.point,
                 day: id.day,
                 cycle: id.cycle,
+                parts: 1,
+                part: 1,
                 processed,
             });
             add_packet(packets, Recipient::Peer, message);
@@ -112,6 +114,8 @@ impl Plain {
             point: self.point,
             day: id.day,
             cycle: id.cycle,
+            parts: 1,
+            part: 1,
             processed,
             confirmed,
         }))

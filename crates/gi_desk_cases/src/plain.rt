@@ -228,6 +228,7 @@ impl Plain {
         side: Side,
         point: Code,
         id: &CycleId,
+        parts: u8,
         peer: &Table,
         confirmed: Option<&Table>,
     ) -> Option<Refusal> {
@@ -236,6 +237,9 @@ impl Plain {
         }
         if point != self.point {
             return Some(Refusal::WrongPoint);
+        }
+        if parts != 1 {
+            return Some(Refusal::Parts);
         }
         if number_of_closing(&self.facts, id).is_none() {
             return Some(Refusal::NotClosed);
@@ -261,10 +265,11 @@ impl Plain {
         side: Side,
         point: Code,
         id: CycleId,
+        parts: u8,
         peer: Table,
         confirmed: Option<&Table>,
     ) -> Outcome {
-        match self.meeting_fault(side, point, &id, &peer, confirmed) {
+        match self.meeting_fault(side, point, &id, parts, &peer, confirmed) {
             Some(refusal) => {
                 drop(peer);
                 Outcome::Refuses(refusal)
@@ -278,9 +283,18 @@ impl Plain {
             point,
             day,
             cycle,
+            parts,
             processed,
+            ..
         } = order;
-        self.met_by(Side::M, point, CycleId { day, cycle }, processed, None)
+        self.met_by(
+            Side::M,
+            point,
+            CycleId { day, cycle },
+            parts,
+            processed,
+            None,
+        )
     }
 
     fn response_met(&self, response: Delres) -> Outcome {
@@ -288,11 +302,13 @@ impl Plain {
             point,
             day,
             cycle,
+            parts,
             processed,
             confirmed,
+            ..
         } = response;
         let id = CycleId { day, cycle };
-        let outcome = self.met_by(Side::I, point, id, processed, Some(&confirmed));
+        let outcome = self.met_by(Side::I, point, id, parts, processed, Some(&confirmed));
         drop(confirmed);
         outcome
     }

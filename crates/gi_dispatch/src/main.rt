@@ -2,19 +2,25 @@
 //! `gi_service::dispatch` does of the words, and its exit status.
 #![tactic(auto)]
 
+use gi_places::{Remembered, take_verbose};
+use gi_refusals::Counted;
 use gi_service::{ProgramFault, Progress, dispatch};
 use gi_store::FileSource;
 use gi_table_commands::{given_words, reported};
 use std::process::ExitCode;
 
 fn main(rt: HostRuntime) -> ExitCode {
-    let (mut input, mut output, mut errors) = (rt.stdin(), rt.stdout(), rt.stderr());
+    let (mut input, mut errors) = (Remembered::over(rt.stdin()), rt.stderr());
+    let output = rt.stdout();
+    let mut progress = Progress::new(rt.stderr(), &output);
+    let mut output = Counted::over(output);
     let done = match given_words(&rt) {
-        Ok(words) => dispatch(
+        Ok(mut words) => dispatch(
             &rt,
             &rt,
-            &mut Progress::new(rt.stderr()),
+            &mut progress,
             &FileSource::new(&rt),
+            take_verbose(&mut words),
             words.as_slice(),
             &mut input,
             &mut output,

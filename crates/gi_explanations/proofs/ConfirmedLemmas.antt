@@ -72,11 +72,11 @@ met-shape side point facts id peer legal met = shape-from side point [] facts id
 -- ---- both tables are as the lesser asks
 
 met-fits : (side : Side) (point : List ℕ) (facts : List Fact) (id : CycleId) (peer : TableContents) → bad_fact side point facts ≡ None → FitsDesk side point facts
-    → peer_of id facts ≡ Some peer → FitsMatched (matched_of (frozen_cycle side facts id) peer)
+    → peer_of id facts ≡ Some peer → FitsMatched side (matched_of (frozen_cycle side facts id) peer)
 met-fits side point facts id peer legal fits met =
     let closed = met_closed side point facts id peer legal met in
     let is : state_of side facts id ≡ Matched (matched_of (frozen_cycle side facts id) peer) = state-closed side facts id closed ∙ ap (met_by (frozen_cycle side facts id)) met in
-    subst FitsState is (state-fits side facts id fits.states closed)
+    subst (FitsState side) is (state-fits side facts id fits.states closed)
 
 matched-tables : (side : Side) (point : List ℕ) (facts : List Fact) (id : CycleId) (peer : TableContents) → bad_fact side point facts ≡ None → FitsDesk side point facts
     → peer_of id facts ≡ Some peer → AreMatched (frozen_table side facts id) peer

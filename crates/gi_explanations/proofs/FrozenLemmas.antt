@@ -87,13 +87,13 @@ closed-below side point facts id legal closed = below-from side point [] facts i
 
 -- ---- its frozen table is a table
 
-own-table : (cycle : FrozenCycle) (met : Option TableContents) → FitsState (met_by cycle met) → IsTable cycle.own
-own-table cycle None fits = fits.own.table
-own-table cycle (Some peer) fits = fits.own.table
+own-table : (side : Side) (cycle : FrozenCycle) (met : Option TableContents) → FitsState side (met_by cycle met) → IsTable cycle.own
+own-table side cycle None fits = fits.own.table
+own-table side cycle (Some peer) fits = fits.own.table
 
 pub frozen-is-table : (side : Side) (point : List ℕ) (facts : List Fact) (id : CycleId) → FitsDesk side point facts → is_closed id facts ≡ true → IsTable (frozen_table side facts id)
 frozen-is-table side point facts id fits closed =
-    own-table (frozen_cycle side facts id) (peer_of id facts) (subst FitsState (state-closed side facts id closed) (state-fits side facts id fits.states closed))
+    own-table side (frozen_cycle side facts id) (peer_of id facts) (subst (FitsState side) (state-closed side facts id closed) (state-fits side facts id fits.states closed))
 
 -- ---- a portfolio that is known has rows
 

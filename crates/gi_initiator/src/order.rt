@@ -14,6 +14,8 @@ fn order(point: Code, cycle: &Frozen) -> Result<Delord, AllocError>
         point,
         day: id.day,
         cycle: id.cycle,
+        parts: 1,
+        part: 1,
         processed: cycle.own().copy()?,
     })
 }

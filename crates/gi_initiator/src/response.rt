@@ -1,8 +1,8 @@
-ghost use Rattle.std.specs.Prelude.{◌≡◌, ◌≤◌, IfErr, IfOk, IsTrue, length};
+ghost use Rattle.std.specs.Prelude.{◌≡◌, ◌≤◌, ◌==◌, ◌&&◌, IfErr, IfOk, IsTrue, length};
 ghost use Rattle.std.specs.Option.{option_copied, unwrap_or};
 ghost use Rattle.gi_pairs.specs.Limits.{most_processed_rows};
 ghost use Rattle.gi_pairs.specs.Table.{same_hours};
-ghost use Rattle.gi_desk.specs.Deciding.{IsUnlessShort, by_response, compared, response_may_want};
+ghost use Rattle.gi_desk.specs.Deciding.{IsUnlessShort, by_response, compared, if_whole, response_may_want};
 ghost use Rattle.gi_desk.specs.declared.decision.Decision.TheVariants.{Meet};
 ghost use Rattle.gi_initiator.specs.Taking.{taking};
 
@@ -39,16 +39,21 @@ fn unless_met(
 }
 
 /// What comes of a response, which has at most 4,096 processed rows, in a state of its cycle:
-/// `NotClosed` while nominations are collected; `ShapeDiffers` where its processed table is for other
+/// `Parts` where it is one part of several; `NotClosed` while nominations are collected; `ShapeDiffers` where its processed table is for other
 /// hours than the frozen one (in a response that was read both tables are for the same hours);
 /// `NotTheLesser` where what it confirms is not the lesser of the frozen table
 /// and its processed one. A frozen cycle meets the processed table, which is moved out of the
 /// response; a matched one has met it already, or answers `Conflict`. `OutOfMemory` comes only where
-/// the cycle is closed and the hours are the same, for the lesser of both.
+/// it is whole, the cycle is closed and the hours are the same, for the lesser of both.
 pub fn take_response(alloc: Global, state: &CycleState, response: Delres) -> Decision
     requires { length response.processed.rows ≤ most_processed_rows }
-    ensures { IsUnlessShort (response_may_want response.processed state.now) (by_response response.processed response.confirmed state.now) result }
+    ensures { IsUnlessShort ((response.parts == 1) && response_may_want response.processed state.now) (if_whole response.parts (by_response response.processed response.confirmed state.now)) result }
 {
+    if response.parts != 1 {
+        // (handed to drop, by one call: going out of scope here would be checked field by field on each way out)
+        drop(response);
+        return Decision::Refused(Refusal::Parts);
+    }
     let decision = match state {
         CycleState::Collecting(_) => Ok(Some(Decision::Refused(Refusal::NotClosed))),
         CycleState::Frozen(cycle) => unless_met(alloc, cycle.own(), None, &response),

@@ -6,5 +6,5 @@ mod lesser_rule;
 mod parallel;
 mod walk;
 
-pub use laws::lessens_both_ways;
+pub use laws::{adds_no_rows, lessens_both_ways};
 pub use lesser_rule::{lesser, lesser_parallel};

@@ -6,7 +6,7 @@ use Rattle.gi_office.specs.Keeping.{SeatState}
 use Rattle.gi_office.specs.Opening.{new_seat}
 use Rattle.gi_pairs.specs.declared.cycle_id.CycleId.{CycleId}
 use Rattle.gi_pairs.specs.declared.side.Side.{Side}
-use Rattle.gi_live.specs.Closing.{LeavesClosings, WritesClosings}
+use Rattle.gi_live.specs.Closing.{WritesClosings}
 use Rattle.gi_live.specs.Due.{AreDue}
 use Rattle.gi_live.specs.Stretches.{DueClosed, EndsLife, IsSettlingFault, LeavesDue, WritesCut, pause}
 use Rattle.gi_live.specs.declared.live_fault.LiveFault.{LiveFault}
@@ -57,22 +57,3 @@ pub not_opened : (side : Side) (desk : DeskState) (lines : ℕ) (moment : ℤ) (
     → LeavesDue side (pause desk lines) moment output output fault
 not_opened side desk lines moment output fault is =
     subst (λ f. LeavesDue side (pause desk lines) moment output output f) (sym is) (inl (keeps_same output))
-
--- they were not made whole
-not_closed_new : (side : Side) (desk : DeskState) (lines : ℕ) (moment : ℤ) (ids : List CycleId) (before after : Option (List ℕ)) (fault : LiveFault)
-    → AreDue desk.facts moment ids → LeavesClosings side (new_seat 16 1) desk.saved (lines + 1) ids before after fault → LeavesDue side (pause desk lines) moment before after fault
-not_closed_new side desk lines moment ids before after (faults.Turn why) due leaves = (leaves.0, record { ids = ids; due = due; closings = leaves.1 }, leaves.2)
-not_closed_new side desk lines moment ids before after faults.Unsaved due leaves = (leaves.0, record { ids = ids; due = due; closings = leaves.1 }, leaves.2)
-not_closed_new side desk lines moment ids before after faults.OutOfMemory due leaves = inl leaves
-not_closed_new side desk lines moment ids before after faults.SeatFull due leaves = leaves
-not_closed_new side desk lines moment ids before after faults.Write due leaves = tt
-not_closed_new side desk lines moment ids before after faults.Read due leaves = absurd leaves
-not_closed_new side desk lines moment ids before after (faults.Unsettled why) due leaves = absurd leaves
-
-pub not_closed : (side : Side) (desk : DeskState) (lines : ℕ) (moment : ℤ) (ids : List CycleId) (seat : SeatState) (saved : ℕ) (before after : Option (List ℕ)) (fault : LiveFault)
-    → seat ≡ new_seat 16 1 → saved ≡ desk.saved → AreDue desk.facts moment ids → LeavesClosings side seat saved (lines + 1) ids before after fault
-    → LeavesDue side (pause desk lines) moment before after fault
-not_closed side desk lines moment ids seat saved before after fault opened same due leaves =
-    not_closed_new side desk lines moment ids before after fault due
-    (subst (λ s. LeavesClosings side s desk.saved (lines + 1) ids before after fault) opened
-    (subst (λ n. LeavesClosings side seat n (lines + 1) ids before after fault) same leaves))

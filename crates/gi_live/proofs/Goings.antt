@@ -1,5 +1,5 @@
 -- One part more.
-use Rattle.std.proofs.Common.{◌≡◌, ◌+◌, arith, ℕ, List, [], ◌∷◌, ◌++◌, Bool, true, false, refl, sym, ap, subst, ◌∙◌, append_assoc, append-nil, inl, inr, Option, None, Result, Ok, Err, IfErr, IfOk, OnOk}
+use Rattle.std.proofs.Common.{◌≡◌, ◌+◌, arith, ℕ, List, [], ◌∷◌, ◌++◌, Bool, false, refl, sym, ap, subst, ◌∙◌, append_assoc, append-nil, inl, inr, Option, None, Result, Ok, Err, IfErr, IfOk, OnOk}
 use Rattle.std.specs.Io.KnownBytes.{Appends}
 use Rattle.gi_desk.specs.Machine.{DeskState}
 use Rattle.gi_office.specs.Keeping.{SeatState}
@@ -8,12 +8,12 @@ use Rattle.gi_pairs.specs.declared.side.Side.{Side}
 use Rattle.gi_live.specs.Lines.{TakesLines, lines_left}
 use Rattle.gi_live.specs.Running.{HasRoom, RunsSome, joined, live}
 use Rattle.gi_live.specs.Answering.{AnswersLine, LeavesAnswer, WritesAnswer, WritesEnding}
-use Rattle.gi_live.specs.Stretches.{Answered, AnswersHere, EndsAt, EndsLife, GoesFurther, GoesSome, GoesTo, IsPaused, IsSettlingFault, LeavesBetween, LeavesHere, LeavesPart, LeftBehind, Part, Parts, Pause, RunsUntil, RunsWhole, StretchesUntil, begun, pause}
+use Rattle.gi_live.specs.Stretches.{Answered, AnswersHere, EndsAt, GoesFurther, GoesSome, GoesTo, IsPaused, IsSettlingFault, LeavesBetween, LeavesHere, LeavesPart, LeftBehind, Part, Parts, Pause, RunsUntil, RunsWhole, StretchesUntil, begun, pause}
 use Rattle.gi_live.specs.declared.live_fault.LiveFault.{LiveFault}
 use Rattle.gi_live.specs.declared.live_fault.LiveFault.TheVariants as faults
 use Rattle.gi_live.specs.declared.running.End.{End}
 use Rattle.gi_live.specs.declared.running.End.TheVariants as ends
-use Rattle.gi_live.proofs.LineLemmas.{ends_at, takes_both, takes_none, takes_same, takes_whole}
+use Rattle.gi_live.proofs.LineLemmas.{takes_both, takes_none, takes_same, takes_whole}
 use Rattle.gi_live.proofs.Runnings.{appends_both, appends_none, keeps_same}
 
 -- ---- one after the other
@@ -75,18 +75,6 @@ goes_one side old input left before after lines text new part takes written = re
 }
 
 -- ---- a stretch
-
-pub stretched : (side : Side) (old : Pause) (input rest : Option (List (List ℕ))) (before after : Option (List ℕ)) (seat : SeatState) (taken : ℕ) (end : End) (desk : DeskState)
-    → RunsUntil side (begun old) input rest before after seat taken end → EndsLife side seat desk → StretchesUntil side old input rest before after desk taken end
-stretched side old input rest before after seat taken end desk runs life = record {
-  lines = joined runs.runs.pieces;
-  text = runs.runs.text;
-  left = runs.left;
-  stretch = record { pieces = runs.runs.pieces; seat = seat; saved = runs.saved; are = refl; runs = runs.runs.runs; life = life };
-  takes = runs.runs.taken;
-  written = runs.runs.written;
-  behind = runs.behind;
-}
 
 -- its office was not opened
 pub not_opened : (side : Side) (old : Pause) (input : Option (List (List ℕ))) (before : Option (List ℕ)) (fault : LiveFault)
@@ -162,22 +150,6 @@ pub asked_further : (side : Side) (desk same : DeskState) (taken : ℕ) (line : 
 asked_further side desk same taken line end before after new asked is paused answers paused_new =
     subst (λ e. GoesFurther side (pause desk taken) e before after new (taken + 1) false) (sym asked)
     (refl, refl, paused, paused_new, subst (λ d. (text : List ℕ) × AnswersHere side (pause d taken) line text new × Appends before after text) is answers)
-
--- the input is at its end where all is over
-pub over_at_end : (side : Side) (old at : Pause) (input rest : Option (List (List ℕ))) (before between after : Option (List ℕ)) (desk : DeskState) (taken : ℕ) (end : End)
-    (last : DeskState) (now : ℕ) (over : Bool)
-    → StretchesUntil side old input rest before between desk taken end → GoesFurther side at end between after last now over → over ≡ true → EndsAt input rest
-over_at_end side old at input rest before between after desk taken ends.Input last now over is further ended =
-    ends_at input is.left rest is.lines is.takes is.behind.0 is.behind.1
-over_at_end side old at input rest before between after desk taken ends.Full last now over is further ended = absurd (let no : false ≡ true = sym further.1 ∙ ended in cc)
-over_at_end side old at input rest before between after desk taken (ends.Asked line) last now over is further ended = absurd (let no : false ≡ true = sym further.1 ∙ ended in cc)
-
--- and else a further stretch can begin
-pub paused_else : (side : Side) (at : Pause) (between after : Option (List ℕ)) (end : End) (last : DeskState) (now : ℕ) (over : Bool)
-    → GoesFurther side at end between after last now over → over ≡ false → IsPaused last
-paused_else side at between after ends.Input last now over further going = absurd (let bad : true ≡ false = sym further.1 ∙ going in cc)
-paused_else side at between after ends.Full last now over further going = further.3
-paused_else side at between after (ends.Asked line) last now over further going = further.3
 
 leaves_here : (side : Side) (old : Pause) (input : Option (List (List ℕ))) (before after : Option (List ℕ)) (fault : LiveFault)
     → LeavesHere old.desk before after fault → LeavesPart side old input before after fault

@@ -96,18 +96,6 @@ pub takes_same : (old between new : Option (List (List ℕ))) (taken : List (Lis
 takes_same old between new taken first next =
     subst (λ ls. TakesLines old ls new) (append-nil taken) (takes_both old between new taken [] first next)
 
--- the line that was kept back is the next one
-pub takes_kept : (line : List ℕ) (remaining : Option (List ℕ)) → TakesLines (lines_left (Some line) remaining) (line ∷ []) (lines_left None remaining)
-takes_kept line None = tt
-takes_kept line (Some bytes) = refl
-
--- a line that was taken is kept back
-pub keeps_back : (old : Option (List (List ℕ))) (line : List ℕ) (remaining : Option (List ℕ)) → TakesLines old (line ∷ []) (lines_left None remaining)
-    → TakesLines old [] (lines_left (Some line) remaining)
-keeps_back None line remaining takes = tt
-keeps_back (Some all) line None takes = absurd takes
-keeps_back (Some all) line (Some bytes) takes = takes
-
 -- all bytes of an input, where no line is left
 pub takes_all : (input : Option (List ℕ)) (left : Option (List (List ℕ))) (all : List (List ℕ)) → TakesLines (lines_left None input) all left → IsAtEnd left
     → IfSome input (λ bytes. given_lines bytes ≡ all)

@@ -1,9 +1,7 @@
 -- What a line asks for is a call that is made.
-use Rattle.std.proofs.Common.{◌≡◌, ◌≤◌, ℕ, List, [], ◌∷◌, ◌++◌, length, true, refl, sym, ap, subst, ◌∙◌, Err}
+use Rattle.std.proofs.Common.{◌≡◌, ◌≤◌, ℕ, List, [], ◌∷◌, ◌++◌, length, refl, sym, ap, subst, ◌∙◌, Err}
 use Rattle.gi_desk.specs.declared.call.Call.{Call}
-use Rattle.gi_script.specs.Grammar.{Asks, SaysCall}
-use Rattle.gi_script.specs.declared.verb.Verb.{Verb}
-use Rattle.gi_script.specs.declared.verb.Verb.TheVariants as verbs
+use Rattle.gi_script.specs.Grammar.{Asks}
 use Rattle.gi_script.specs.Reading.{Reads}
 use Rattle.gi_script.specs.declared.fault.LineFault.{LineFault}
 use Rattle.gi_script.specs.declared.fault.LineFault.TheVariants.{Unreadable}
@@ -15,19 +13,6 @@ use Rattle.gi_live.specs.Queries.{AsksQuery}
 use Rattle.gi_live.specs.declared.came.Came.TheVariants.{Unread}
 use Rattle.gi_live.specs.declared.came.UnreadLine.{UnreadLine}
 use Rattle.gi_live.specs.declared.came.UnreadLine.TheVariants as unread_lines
-use Rattle.gi_serving.specs.Runs.{is_made}
-
-by_verb : (verb : Verb) (words : List (List ℕ)) (call : Call) → SaysCall verb words call → is_made call ≡ true
-by_verb verbs.Contract words call says = rw says.1 refl
-by_verb verbs.Notice words call says = rw says.1 refl
-by_verb verbs.Submit words call says = rw says.1 refl
-by_verb verbs.Close words call says = rw says.1 refl
-by_verb verbs.Resend words call says = rw says.1 refl
-by_verb verbs.Halt words call says = rw says.0 refl
-by_verb verbs.Deliver words call says = rw says.1 refl
-by_verb verbs.Save words call says = absurd says
-by_verb verbs.Restart words call says = absurd says
-by_verb verbs.Carry words call says = absurd says
 
 none_end : (xs : List ℕ) → [] ≡ xs ++ 10 ∷ [] → ⊥
 none_end [] e = cc
@@ -65,6 +50,3 @@ unread_is side old given bytes text fault unread_lines.Unreadable few same ended
   refl,
 )
 unread_is side old given bytes text fault unread_lines.TooLarge few same ended is reads none = absurd none
-
-pub is_asked : (line : List ℕ) (call : Call) → Asks line call → is_made call ≡ true
-is_asked line call asks = by_verb asks.verb asks.rest call asks.says

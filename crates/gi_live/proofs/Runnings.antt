@@ -44,10 +44,6 @@ pub keeps_same : (output : Option (List ℕ)) → Keeps output output
 keeps_same None = tt
 keeps_same (Some bytes) = refl
 
--- no step was made yet
-pub none_run : (side : Side) (old : LiveState) (input : Option (List (List ℕ))) (before : Option (List ℕ)) → RunsTo side old input input before before old
-none_run side old input before = record { pieces = []; text = []; runs = (refl, refl); taken = takes_none input; written = appends_none before }
-
 pub more_run : (side : Side) (old : LiveState) (input left : Option (List (List ℕ))) (before after : Option (List ℕ)) (reached : LiveState)
     (piece : List (List ℕ)) (rest : Option (List (List ℕ))) (next : Option (List ℕ)) (new : LiveState)
     → RunsTo side old input left before after reached → TakesLines left piece rest → WritesStep side reached piece after next new

@@ -1,6 +1,6 @@
 ghost use Rattle.std.specs.Prelude.{◌≡◌};
 ghost use Rattle.std.specs.Option.{unwrap_or};
-ghost use Rattle.gi_desk.specs.Deciding.{by_order};
+ghost use Rattle.gi_desk.specs.Deciding.{by_order, if_whole};
 ghost use Rattle.gi_desk.specs.declared.decision.Decision.TheVariants.{Meet};
 
 use gi_cycles::CycleState;
@@ -22,13 +22,19 @@ fn unless_met(state: &CycleState, peer: &Table) -> Option<Decision>
     }
 }
 
-/// What comes of an order in a state of its cycle: `NotClosed` while nominations are collected;
+/// What comes of an order in a state of its cycle: `Parts` where it is one part of several;
+/// `NotClosed` while nominations are collected;
 /// `ShapeDiffers` where its table is for other hours than the frozen one. A frozen cycle meets the
 /// table, which is moved out of the order; a matched one has met it already, or answers `Conflict`.
 /// It wants no memory.
 pub fn take_order(state: &CycleState, order: Delord) -> Decision
-    ensures { result ≡ by_order order.processed state.now }
+    ensures { result ≡ if_whole order.parts (by_order order.processed state.now) }
 {
+    let parts = order.parts;
     let peer = order.processed;
+    if parts != 1 {
+        drop(peer);
+        return Decision::Refused(Refusal::Parts);
+    }
     unless_met(state, &peer).unwrap_or(Decision::Meet(peer))
 }

@@ -14,6 +14,8 @@ fn response(point: Code, cycle: &Matched) -> Result<Delres, AllocError>
         point,
         day: id.day,
         cycle: id.cycle,
+        parts: 1,
+        part: 1,
         processed: cycle.own().copy()?,
         confirmed: cycle.confirmed().copy()?,
     })

@@ -16,12 +16,12 @@ use Rattle.jiff_core.specs.declared.civil.date.Date.{Date}
 use Rattle.gi_pairs.specs.declared.direction.Direction.{Direction}
 use Rattle.gi_messages.specs.Dates.{day_of}
 use Rattle.gi_messages.specs.Decoding.{acknow, decoded, delord, delres, head, if_json, if_kind, kind_of, named, nomint, nomres, of_kind}
-use Rattle.gi_messages.specs.FirstFault.{Among, Field, HasHours, HasNoKind, IsArray, IsJson, IsRefusedFor, Lacks, Part, Refuses, RefusesLineFor, RefusesNominationLine, RefusesNominationLines, RefusesHead, RefusesLinesFor, RefusesRow, RefusesSpan, RefusesTable}
+use Rattle.gi_messages.specs.FirstFault.{Among, Field, FieldOr, HasHours, HasNoKind, IsArray, IsJson, IsRefusedFor, Lacks, Part, Refuses, RefusesLineFor, RefusesNominationLine, RefusesNominationLines, RefusesHead, RefusesLinesFor, RefusesParts, RefusesRow, RefusesSpan, RefusesTable}
 use Rattle.gi_messages.specs.Grammar.{AreElements, Each, Has, HasOr, HasRows, HasTable, IsLineFor, IsNominationLine, IsOfKind, IsRowFor, IsText, IsWhole, NamesCode, NamesDay, NamesDirection}
 use Rattle.gi_messages.specs.Json.{json_of}
 use Rattle.gi_messages.specs.Key.{key_text}
 use Rattle.gi_messages.specs.Laws.{MissesKind, NamesFirstKey}
-use Rattle.gi_messages.specs.Limits.{last_cycle, last_priority, last_version, most_bytes, most_confirmed_elements, most_processed_elements, usual_priority}
+use Rattle.gi_messages.specs.Limits.{elements_of, last_cycle, last_priority, last_version, most_bytes, most_confirmed_elements, most_parts, most_processed_elements, usual_priority}
 use Rattle.gi_messages.specs.Names.{code_of}
 use Rattle.gi_messages.specs.Reading.{Read, ◌>>=◌, code, day, direction, each, hours, items, line, lines, member_at, nomination_line, number, number_or, or_usual, quantities, row, rows_of, span, table, wanted, whole}
 use Rattle.gi_messages.specs.Reading as reading
@@ -105,6 +105,12 @@ module _ {Y : Type 0} (key : Key) (d : Data) where
   number_field : (low high : ℕ) (f : ℕ → Read Y) (after : ℕ → Key → Type 0) → ((x : ℕ) → Refused (f x) (after x)) → Refused (number low high key d >>= f) (Field (IsWhole low high) key d after)
   number_field low high f after later = field key (number low high key) (IsWhole low high) (Reads-number low high key) (names-number low high key) d f after later
 
+  number_or_field : (usual low high : ℕ) (f : ℕ → Read Y) (after : ℕ → Key → Type 0) → ((x : ℕ) → Refused (f x) (after x)) → Refused (number_or usual low high key d >>= f) (FieldOr usual (IsWhole low high) key d after)
+  number_or_field usual low high f after later =
+      let stands = HasOr usual (IsWhole low high) key in
+      let g = gets (number_or usual low high key) stands (Reads-number_or usual low high key) d in
+      part (number_or usual low high key d) f (stands d) (Lacks (stands d) key) after g (lacks (number_or usual low high key d) (stands d) key g (names-number_or usual low high key d)) (λ x _. later x)
+
 abbrev named_span : Span → Read Span
 named_span s = Ok s
 
@@ -128,18 +134,27 @@ span_field d f after later =
     like _ _ _ (then (number 1 last_hour keys.First d) first_step f) (number_field keys.First d 1 last_hour (λ first. first_step first >>= f) _ (λ first.
     like _ _ _ (then (number first last_hour keys.Last d) (second first) f) (number_field keys.Last d first last_hour (λ last. second first last >>= f) _ (later first))))
 
-head_field : {Y : Type 0} (d : Data) (f : Head → Read Y) (after : ℕ → ℕ → Key → Type 0)
-    → ((point : List ℕ) (date : Date) (cycle first last : ℕ) → Refused (f (made_head point date cycle (made_span first last))) (after first last)) → Refused (head d >>= f) (RefusesHead d after)
+parts_field : {Y : Type 0} (d : Data) (g : ℕ → ℕ → Read Head) (f : Head → Read Y) (after : ℕ → Key → Type 0) → ((parts which : ℕ) → Refused (g parts which >>= f) (after parts))
+    → Refused ((number_or 1 1 most_parts keys.Parts d >>= λ parts. number_or 1 1 parts keys.Part d >>= g parts) >>= f) (RefusesParts d after)
+parts_field d g f after later =
+    let second = λ (parts : ℕ). number_or 1 1 parts keys.Part d >>= g parts in
+    like _ _ _ (then (number_or 1 1 most_parts keys.Parts d) second f) (number_or_field keys.Parts d 1 1 most_parts (λ parts. second parts >>= f) _ (λ parts.
+    like _ _ _ (then (number_or 1 1 parts keys.Part d) (g parts) f) (number_or_field keys.Part d 1 1 parts (λ which. g parts which >>= f) _ (later parts))))
+
+head_field : {Y : Type 0} (d : Data) (f : Head → Read Y) (after : ℕ → ℕ → ℕ → Key → Type 0)
+    → ((point : List ℕ) (date : Date) (cycle first last parts which : ℕ) → Refused (f (made_head point date cycle (made_span first last) parts which)) (after first last parts)) → Refused (head d >>= f) (RefusesHead d after)
 unfolding head
 head_field d f after later =
-    let fourth = λ (p : List ℕ) (w : Date) (c : ℕ) (s : Span). named_head (made_head p w c s) in
+    let fifth = λ (p : List ℕ) (w : Date) (c : ℕ) (s : Span) (parts which : ℕ). named_head (made_head p w c s parts which) in
+    let fourth = λ (p : List ℕ) (w : Date) (c : ℕ) (s : Span). number_or 1 1 most_parts keys.Parts d >>= λ parts. number_or 1 1 parts keys.Part d >>= fifth p w c s parts in
     let third = λ (p : List ℕ) (w : Date) (c : ℕ). span d >>= fourth p w c in
     let second = λ (p : List ℕ) (w : Date). number 0 last_cycle keys.Cycle d >>= third p w in
     let first = λ (p : List ℕ). day keys.Day d >>= second p in
     like _ _ _ (then (code keys.Point d) first f) (code_field keys.Point d (λ p. first p >>= f) _ (λ p.
     like _ _ _ (then (day keys.Day d) (second p) f) (day_field keys.Day d (λ w. second p w >>= f) _ (λ w.
     like _ _ _ (then (number 0 last_cycle keys.Cycle d) (third p w) f) (number_field keys.Cycle d 0 last_cycle (λ c. third p w c >>= f) _ (λ c.
-    like _ _ _ (then (span d) (fourth p w c) f) (span_field d (λ s. fourth p w c s >>= f) after (later p w c))))))))
+    like _ _ _ (then (span d) (fourth p w c) f) (span_field d (λ s. fourth p w c s >>= f) _ (λ begins ends.
+    parts_field d (fifth p w c (made_span begins ends)) f (after begins ends) (later p w c begins ends)))))))))
 
 -- ---- rows and lines
 
@@ -251,15 +266,19 @@ nomres_refused d =
 
 delord_refused : (d : Data) → Refused (delord d) (Refuses kinds.Delord d)
 unfolding delord
-delord_refused d = head_field d _ _ (λ point date cycle first last. made (table keys.Processed most_processed_elements first last d) _ _ (table_refused most_processed_elements first last keys.Processed d))
+delord_refused d = head_field d _ _ (λ point date cycle first last parts which.
+    let most = elements_of most_processed_elements parts in
+    made (table keys.Processed most first last d) _ _ (table_refused most first last keys.Processed d))
 
 delres_refused : (d : Data) → Refused (delres d) (Refuses kinds.Delres d)
 unfolding delres
-delres_refused d = head_field d _ _ (λ point date cycle first last.
-    part (table keys.Processed most_processed_elements first last d) _ (HasTable most_processed_elements first last keys.Processed d) (RefusesTable most_processed_elements first last keys.Processed d) _
-    (record { takes = table_takes keys.Processed most_processed_elements first last d; again = table_again keys.Processed most_processed_elements first last d })
-    (table_refused most_processed_elements first last keys.Processed d)
-    (λ processed _. made (table keys.Confirmed most_confirmed_elements first last d) _ _ (table_refused most_confirmed_elements first last keys.Confirmed d)))
+delres_refused d = head_field d _ _ (λ point date cycle first last parts which.
+    let most = elements_of most_processed_elements parts in
+    let most_confirmed = elements_of most_confirmed_elements parts in
+    part (table keys.Processed most first last d) _ (HasTable most first last keys.Processed d) (RefusesTable most first last keys.Processed d) _
+    (record { takes = table_takes keys.Processed most first last d; again = table_again keys.Processed most first last d })
+    (table_refused most first last keys.Processed d)
+    (λ processed _. made (table keys.Confirmed most_confirmed first last d) _ _ (table_refused most_confirmed first last keys.Confirmed d)))
 
 pub kind_refused : (kind : Kind) (d : Data) → Refused (of_kind kind d) (Refuses kind d)
 kind_refused kinds.Nomint d = made (nomint d) messages.Nomint (Refuses kinds.Nomint d) (nomint_refused d)

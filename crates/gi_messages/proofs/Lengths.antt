@@ -1,5 +1,5 @@
 -- How long the compact text of a value is at most.
-use Rattle.std.proofs.Common.{ℕ, ◌+◌, ◌*◌, ◌/◌, ◌%◌, ◌≤◌, Bool, true, false, cond, nat_lt, List, [], ◌∷◌, ◌++◌, length, map, All, arith, length-append}
+use Rattle.std.proofs.Common.{◌≡◌, ℕ, ◌+◌, ◌*◌, ◌/◌, ◌%◌, ◌≤◌, Bool, true, false, cond, nat_lt, List, [], ◌∷◌, ◌++◌, length, map, All, ap, arith, length-append}
 use Rattle.std.specs.Char.{digit_char}
 use Rattle.std.specs.List.{AllByRecursion}
 use Rattle.std.proofs.lemmas.List.Elements.{recursion_from_All}
@@ -28,6 +28,14 @@ escape_le (x ∷ xs) = omega (arith, length-append (escape_byte x) (escape xs), 
 pub quoted_le : (most : ℕ) (s : List ℕ) → length s ≤ most → length (quoted s) ≤ 6 * most + 2
 quoted_le most s short = omega (arith, length-append (escape s) (34 ∷ []), escape_le s)
 
+-- a text of which nothing is escaped
+pub record IsBare (s : List ℕ) : Type 0 where
+  pub same : escape s ≡ s
+
+-- such a text is written as its bytes between two quotation marks
+pub length-bare : (s : List ℕ) → IsBare s → length (quoted s) ≡ length s + 2
+length-bare s bare = omega (arith, length-append (escape s) (34 ∷ []), ap length bare.same)
+
 comma_le : (later : Bool) (xs : List ℕ) → length (comma_if later ++ xs) ≤ length xs + 1
 comma_le true xs = omega arith
 comma_le false xs = omega arith
@@ -54,11 +62,11 @@ array_within f most xs h = record { within = omega (arith, items_le f most false
 pub none_within : AreWithin 1 no_members
 none_within = record { within = omega arith }
 
--- a member whose key has at most thirteen characters
-pub member_within : (k : List ℕ) (d : Data) (ms : Members) (value rest : ℕ) → length k ≤ 13 → IsWithin value d → AreWithin rest ms → AreWithin (value + rest + 82) (member k d ms)
-member_within k d ms value rest short here there =
+-- a member has its key, a comma, two quotation marks and a colon beside its value
+pub member_within : (k : List ℕ) (d : Data) (ms : Members) (value rest : ℕ) → IsBare k → IsWithin value d → AreWithin rest ms → AreWithin (length k + value + rest + 4) (member k d ms)
+member_within k d ms value rest bare here there =
     let text = compact_text d ++ members_text true ms in
-    record { within = omega (arith, length-append (quoted k) (58 ∷ text), length-append (compact_text d) (members_text true ms), quoted_le 13 k short, here.within, there.within) }
+    record { within = omega (arith, length-append (quoted k) (58 ∷ text), length-append (compact_text d) (members_text true ms), length-bare k bare, here.within, there.within) }
 
 without_comma : (ms : Members) → length (members_text false ms) ≤ length (members_text true ms)
 without_comma no_members = omega arith

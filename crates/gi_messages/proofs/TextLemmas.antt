@@ -161,9 +161,6 @@ pub record Walked (nodes : List Node) (i more : ℕ) : Type 0 where
   pub few : more ≤ max_depth + i
   pub left : is_sound (map node_token nodes) max_depth ≡ is_sound (map node_token (drop i nodes)) more
 
-pub walk_begins : (nodes : List Node) → Walked nodes 0 max_depth
-walk_begins nodes = record { few = omega arith; left = refl }
-
 node_next : (nodes : List Node) (i : ℕ) (d : Node) → i < length nodes → map node_token (drop i nodes) ≡ node_token (get_or nodes i d) ∷ map node_token (drop (i + 1) nodes)
 node_next nodes i d below = ap (map node_token) (drop-cons nodes i d below) ∙ ap (λ j. node_token (get_or nodes i d) ∷ map node_token (drop j nodes)) (sym (add-one i))
 

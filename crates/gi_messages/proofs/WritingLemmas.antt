@@ -4,27 +4,28 @@ use Rattle.json.specs.Print.{print}
 use Rattle.json.specs.Written.{Written}
 use Rattle.serde_json.specs.Data.{depth}
 use Rattle.gi_messages.specs.Adding.{Added, tokens_of}
-use Rattle.gi_messages.specs.Limits.{most_bytes}
+use Rattle.gi_messages.specs.Limits.{most_bytes, most_parts}
+use Rattle.gi_messages.specs.declared.key.Key.TheVariants as keys
 use Rattle.gi_messages.specs.declared.message.Message.{Message}
 use Rattle.gi_messages.specs.declared.message.Message.TheVariants as messages
 use Rattle.gi_messages.specs.Decoding.{decoded}
 use Rattle.gi_messages.specs.Grammar.{IsMessage, IsWritable, Fits, Spells}
-use Rattle.gi_messages.specs.Writing.{nomint_data, acknow_data, nomres_data, delord_data, delres_data, data_of, text_of}
+use Rattle.gi_messages.specs.Writing.{nomint_data, acknow_data, nomres_data, data_of, text_of}
 use Rattle.gi_messages.proofs.MessageLemmas.{decoded_again}
 use Rattle.gi_messages.proofs.Plain.{IsPlain, json_of-compact_text}
 use Rattle.gi_messages.proofs.TableLemmas.{is_code}
 use Rattle.gi_messages.proofs.WrittenTokens.{text_is}
-use Rattle.gi_messages.proofs.WrittenParts.{depth-rows, depth-lines, depth-nomination_lines, few_rows, lines_fit_for, nomination_lines_fit}
-use Rattle.gi_messages.proofs.WrittenKinds.{nomint_stands, acknow_stands, nomres_stands, delord_stands, delres_stands, of_kind-nomint, of_kind-acknow, of_kind-nomres, of_kind-delord, of_kind-delres, nomint_plain, acknow_plain, nomres_plain, delord_plain, delres_plain}
+use Rattle.gi_messages.proofs.WrittenParts.{depth-lines, depth-nomination_lines, few_rows, lines_fit_for, nomination_lines_fit, usual_fits}
+use Rattle.gi_messages.proofs.WrittenKinds.{depth-delord, depth-delres, nomint_stands, acknow_stands, nomres_stands, delord_stands, delres_stands, of_kind-nomint, of_kind-acknow, of_kind-nomres, of_kind-delord, of_kind-delres, nomint_plain, acknow_plain, nomres_plain, delord_plain, delres_plain}
 
 -- the values nest four deep
 pub depth-data_of : (m : Message) → depth (data_of m) ≤ 127
-unfolding nomint_data acknow_data nomres_data delord_data delres_data
+unfolding nomint_data acknow_data nomres_data
 depth-data_of (messages.Nomint m) = omega (arith, depth-nomination_lines m.lines)
 depth-data_of (messages.Acknow m) = omega arith
 depth-data_of (messages.Nomres m) = omega (arith, depth-lines m.lines)
-depth-data_of (messages.Delord m) = omega (arith, depth-rows m.processed.rows)
-depth-data_of (messages.Delres m) = omega (arith, depth-rows m.processed.rows, depth-rows m.confirmed.rows)
+depth-data_of (messages.Delord m) = depth-delord m
+depth-data_of (messages.Delres m) = depth-delres m
 
 -- ---- a message that fits stands in the value that is written for it
 
@@ -70,13 +71,29 @@ fits_from_writable (messages.Nomres m) w =
     }
 fits_from_writable (messages.Delord m) w =
     let h = w.1.1 in
-    record { point = is_code _ _ m.point h.point; day = h.day.stands.names.0; cycle = h.cycle.stands.to; processed = h.processed.makes.table; few = few_rows _ _ _ _ _ m.processed h.processed }
-fits_from_writable (messages.Delres m) w =
-    let h = w.1.1 in
+    let parts = usual_fits 1 1 most_parts keys.Parts _ m.parts (omega arith) (omega arith) h.parts in
+    let part = usual_fits 1 1 m.parts keys.Part _ m.part (omega arith) parts.0 h.part in
     record {
       point = is_code _ _ m.point h.point;
       day = h.day.stands.names.0;
       cycle = h.cycle.stands.to;
+      few_parts = parts.1;
+      part_from = part.0;
+      part_to = part.1;
+      processed = h.processed.makes.table;
+      few = few_rows _ _ _ _ _ m.processed h.processed;
+    }
+fits_from_writable (messages.Delres m) w =
+    let h = w.1.1 in
+    let parts = usual_fits 1 1 most_parts keys.Parts _ m.parts (omega arith) (omega arith) h.parts in
+    let part = usual_fits 1 1 m.parts keys.Part _ m.part (omega arith) parts.0 h.part in
+    record {
+      point = is_code _ _ m.point h.point;
+      day = h.day.stands.names.0;
+      cycle = h.cycle.stands.to;
+      few_parts = parts.1;
+      part_from = part.0;
+      part_to = part.1;
       processed = h.processed.makes.table;
       few = few_rows _ _ _ _ _ m.processed h.processed;
       confirmed = h.confirmed.makes.table;

@@ -1,12 +1,12 @@
 -- The parts of what is written for a message: its rows, lines and fields.
-use Rattle.std.proofs.Common.{◌≡◌, ℕ, ◌≤◌, inl, inr, Bool, true, false, cond, ◌==◌, eqb-true, List, [], ◌∷◌, length, map, All, Some, IsUtf8, refl, sym, ap, ◌∙◌, subst, arith}
+use Rattle.std.proofs.Common.{◌≡◌, ℕ, ◌≤◌, inl, inr, Bool, true, false, cond, ◌==◌, eqb-true, List, [], ◌∷◌, length, map, All, Some, None, IsUtf8, refl, sym, ap, ◌∙◌, subst, arith}
 use Rattle.std.specs.List.{AllByRecursion}
 use Rattle.std.proofs.lemmas.List.Elements.{All-from_recursion, recursion_from_All}
 use Rattle.std.proofs.lemmas.List.Sorted.{IsPermutation-refl, length_permutation}
 use Rattle.std.proofs.lemmas.Str.{IsUtf8-from_ascii}
 use Rattle.json.proofs.Printed.Utf8.{IsUtf8-are_ascii}
 use Rattle.jiff_core.specs.declared.civil.date.Date.{Date}
-use Rattle.serde_json.specs.Find.{get}
+use Rattle.serde_json.specs.Find.{get, get_member}
 use Rattle.serde_json.specs.Data.{Data, string, object, Members, no_members, member, depth, items_depth, members_depth}
 use Rattle.serde_json.specs.View.{items_of}
 use Rattle.gi_day.specs.Day.{IsGasYear, day_text}
@@ -26,10 +26,10 @@ use Rattle.gi_messages.specs.declared.line.Line.{Line}
 use Rattle.gi_messages.specs.declared.nomination_line.NominationLine.{NominationLine}
 use Rattle.gi_messages.specs.Grammar.{Has, HasOr, IsText, NamesCode, NamesDay, NamesDirection, IsWhole, Each, AreElements, IsRowFor, HasTable, IsLine, IsLineFor, IsNominationLine, FitsLine, FitsNominationLine}
 use Rattle.gi_messages.specs.Key.{key_text}
-use Rattle.gi_messages.specs.Limits.{last_priority, usual_priority}
-use Rattle.gi_messages.specs.Writing.{whole, whole_numbers, row_data, rows_data, line_data, nomination_line_data, lines_data}
+use Rattle.gi_messages.specs.Limits.{last_priority, most_parts, usual_priority}
+use Rattle.gi_messages.specs.Writing.{whole, whole_numbers, row_data, rows_data, line_data, nomination_line_data, lines_data, part_members}
 use Rattle.gi_messages.proofs.FieldLemmas.{all_of_each}
-use Rattle.gi_messages.proofs.Plain.{IsPlain, ArePlainItems}
+use Rattle.gi_messages.proofs.Plain.{IsPlain, ArePlainItems, ArePlainMembers}
 use Rattle.gi_messages.proofs.TableLemmas.{is_code, are_quantities}
 
 -- ---- rows and lines nest two deep
@@ -268,6 +268,43 @@ stands_lines_for d n ls fits whole found = record {
   stands = record { elements = items_of (map line_data ls); written = refl; each = each_line_for n ls (recursion_from_All FitsLine ls fits) (recursion_from_All (λ l. length l.hours ≡ n) ls whole) };
 }
 
+-- ---- which part it is and of how many, which may be missing
+
+abbrev written_part : Bool → ℕ → ℕ → Members → Members
+written_part b parts part rest = cond b rest (member (key_text keys.Part) (whole part) (member (key_text keys.Parts) (whole parts) rest))
+
+-- other members are found past them
+point_by : (b : Bool) (parts part : ℕ) (rest : Members) → get_member (key_text keys.Point) (written_part b parts part rest) ≡ get_member (key_text keys.Point) rest
+point_by true parts part rest = refl
+point_by false parts part rest = refl
+
+pub point_past : (parts part : ℕ) (rest : Members) → get_member (key_text keys.Point) (part_members parts part rest) ≡ get_member (key_text keys.Point) rest
+point_past parts part rest = point_by (parts == 1) parts part rest
+
+processed_by : (b : Bool) (parts part : ℕ) (rest : Members) → get_member (key_text keys.Processed) (written_part b parts part rest) ≡ get_member (key_text keys.Processed) rest
+processed_by true parts part rest = refl
+processed_by false parts part rest = refl
+
+pub processed_past : (parts part : ℕ) (rest : Members) → get_member (key_text keys.Processed) (part_members parts part rest) ≡ get_member (key_text keys.Processed) rest
+processed_past parts part rest = processed_by (parts == 1) parts part rest
+
+module _ (d : Data) (parts part : ℕ) (rest : Members) (few : parts ≤ most_parts) (from : 1 ≤ part) (to : part ≤ parts) where
+  parts_by : (b : Bool) → (parts == 1) ≡ b → get (key_text keys.Parts) d ≡ get_member (key_text keys.Parts) (written_part b parts part rest) → get_member (key_text keys.Parts) rest ≡ None
+      → HasOr 1 (IsWhole 1 most_parts) keys.Parts d parts
+  parts_by true one found none = inl (found ∙ none, eqb-true parts 1 one)
+  parts_by false many found none = inr (stands_number keys.Parts d 1 most_parts parts (omega (arith, from, to)) few found)
+
+  pub stands_parts : get (key_text keys.Parts) d ≡ get_member (key_text keys.Parts) (part_members parts part rest) → get_member (key_text keys.Parts) rest ≡ None → HasOr 1 (IsWhole 1 most_parts) keys.Parts d parts
+  stands_parts found none = parts_by (parts == 1) refl found none
+
+  part_by : (b : Bool) → (parts == 1) ≡ b → get (key_text keys.Part) d ≡ get_member (key_text keys.Part) (written_part b parts part rest) → get_member (key_text keys.Part) rest ≡ None
+      → HasOr 1 (IsWhole 1 parts) keys.Part d part
+  part_by true one found none = inl (found ∙ none, omega (arith, eqb-true parts 1 one, from, to))
+  part_by false many found none = inr (stands_number keys.Part d 1 parts part from to found)
+
+  pub stands_part : get (key_text keys.Part) d ≡ get_member (key_text keys.Part) (part_members parts part rest) → get_member (key_text keys.Part) rest ≡ None → HasOr 1 (IsWhole 1 parts) keys.Part d part
+  stands_part found none = part_by (parts == 1) refl found none
+
 -- ---- fields of which some value stands fit
 
 pub few_rows : (most first last : ℕ) (key : Key) (d : Data) (t : TableContents) → HasTable most first last key d t → length t.rows ≤ most
@@ -276,14 +313,14 @@ few_rows most first last key d t h = subst (λ n. n ≤ most) (sym (length_permu
 line_fits : (d : Data) (l : Line) → IsLine d l → FitsLine l
 line_fits d l h = record { counterparty = is_code _ d l.counterparty h.counterparty; quantities = are_quantities d l.hours h.quantities }
 
--- the priority that is missing is one too
-usual_fits : (d : Data) (n : ℕ) → HasOr usual_priority (IsWhole 1 last_priority) keys.Priority d n → (1 ≤ n) × (n ≤ last_priority)
-usual_fits d n (inl h) = (omega (arith, h.1), omega (arith, h.1))
-usual_fits d n (inr h) = (h.stands.from, h.stands.to)
+-- a number that is missing is the usual one
+pub usual_fits : (usual low high : ℕ) (key : Key) (d : Data) (n : ℕ) → low ≤ usual → usual ≤ high → HasOr usual (IsWhole low high) key d n → (low ≤ n) × (n ≤ high)
+usual_fits usual low high key d n from to (inl h) = (omega (arith, h.1, from), omega (arith, h.1, to))
+usual_fits usual low high key d n from to (inr h) = (h.stands.from, h.stands.to)
 
 nomination_line_fits : (d : Data) (l : NominationLine) → IsNominationLine d l → FitsNominationLine l
 nomination_line_fits d l h =
-    let priority = usual_fits d l.priority h.priority in
+    let priority = usual_fits usual_priority 1 last_priority keys.Priority d l.priority (omega arith) (omega arith) h.priority in
     record { counterparty = is_code _ d l.counterparty h.counterparty; quantities = are_quantities d l.hours h.quantities; from = priority.0; to = priority.1 }
 
 pub nomination_lines_fit : (d : Data) (ls : List NominationLine) → Has (AreElements IsNominationLine) keys.Lines d ls → All FitsNominationLine ls
@@ -300,6 +337,13 @@ lines_fit_for d n ls h = (
 
 pub plain_table : (t : TableContents) → IsTable t → ArePlainItems (items_of (map row_data t.rows))
 plain_table t table = plain_rows t.rows (recursion_from_All IsRow t.rows table.all)
+
+plain_part_by : (b : Bool) (parts part : ℕ) (rest : Members) → parts ≤ most_parts → part ≤ parts → ArePlainMembers rest → ArePlainMembers (written_part b parts part rest)
+plain_part_by true parts part rest few to h = h
+plain_part_by false parts part rest few to h = (IsUtf8-are_ascii _ refl, omega (arith, few, to), (IsUtf8-are_ascii _ refl, omega (arith, few), h))
+
+pub plain_part : (parts part : ℕ) (rest : Members) → parts ≤ most_parts → part ≤ parts → ArePlainMembers rest → ArePlainMembers (part_members parts part rest)
+plain_part parts part rest few to h = plain_part_by (parts == 1) parts part rest few to h
 
 pub plain_day : (day : Date) → IsGasYear day.year → IsUtf8 (day_text day)
 plain_day day range = IsUtf8-from_ascii (day_text day) (day_text-ascii day range)

@@ -1,17 +1,20 @@
 -- The tokens of what is written, and their text.
-use Rattle.std.proofs.Common.{◌≡◌, ℕ, ◌≤◌, List, [], ◌∷◌, ◌++◌, length, map, take, Result, Ok, Err, refl, sym, ap, ◌∙◌, subst, append_assoc}
+use Rattle.std.proofs.Common.{◌≡◌, ℕ, ◌≤◌, Bool, true, false, cond, ◌==◌, List, [], ◌∷◌, ◌++◌, length, map, take, Result, Ok, Err, refl, sym, ap, ◌∙◌, subst, append_assoc}
 use Rattle.std.proofs.lemmas.List.{take_all}
 use Rattle.std.specs.Prelude.{IfOk}
 use Rattle.std.specs.List.{flat_map}
 use Rattle.json.specs.Print.{print}
 use Rattle.json.specs.Token.{Token}
-use Rattle.json.specs.Tree.{items_tokens}
+use Rattle.json.specs.Tree.{items_tokens, members_tokens}
 use Rattle.json.specs.Written.{Written, Writes}
-use Rattle.serde_json.specs.Data.{Data, array}
+use Rattle.serde_json.specs.Data.{Data, array, Members, member}
 use Rattle.serde_json.specs.View.{items_of}
-use Rattle.serde_json.specs.Written.{items_outline, compact_text}
+use Rattle.serde_json.specs.Written.{items_outline, members_outline, compact_text}
 use Rattle.serde_json.proofs.Texts.{print-outline}
-use Rattle.gi_messages.specs.Adding.{Added, Adds, tokens_of}
+use Rattle.gi_messages.specs.Adding.{Added, Adds, member_tokens, part_tokens, tokens_of}
+use Rattle.gi_messages.specs.Key.{key_text}
+use Rattle.gi_messages.specs.Writing.{part_members, whole}
+use Rattle.gi_messages.specs.declared.key.Key.TheVariants as keys
 
 -- ---- one after the other
 
@@ -53,6 +56,20 @@ pub array_closed : {E : Type 0} {X : Type 0} {a b : Written} {r : Result (Unit {
 array_closed {a = a} {r = r} {c = c} f xs i past each last =
     let all = rw (take_all i xs past) at each in
     subst (λ (ts : List Token). IfOk r (λ _. Added a c (Token.begin_array ∷ ts))) (sym (items_are f xs)) (closed all last)
+
+-- ---- which part it is
+
+-- the tokens of the members that are written or not, and of those that follow
+part_tokens_by : (b : Bool) (parts part : ℕ) (rest : Members) → members_tokens (members_outline (cond b rest (member (key_text keys.Part) (whole part) (member (key_text keys.Parts) (whole parts) rest))))
+    ≡ cond b [] (member_tokens keys.Part (whole part) ++ member_tokens keys.Parts (whole parts)) ++ members_tokens (members_outline rest)
+part_tokens_by true parts part rest = refl
+part_tokens_by false parts part rest = refl
+
+-- which part it is and of how many, and then the other members
+pub with_part : {E : Type 0} {a b : Written} (r : Result (Unit {0}) E) (c : Written) (parts part : ℕ) (rest : Members) → Added a b (part_tokens parts part) → IfOk r (λ _. Added b c (members_tokens (members_outline rest)))
+    → IfOk r (λ _. Added a c (members_tokens (members_outline (part_members parts part rest))))
+with_part {a = a} r c parts part rest h k =
+    subst (λ (ts : List Token). IfOk r (λ _. Added a c ts)) (sym (part_tokens_by (parts == 1) parts part rest)) (followed r c (members_tokens (members_outline rest)) h k)
 
 -- ---- the text
 

@@ -41,6 +41,13 @@ member_tokens k d = Token.key (key_text k) ∷ tokens_of d
 abbrev pub AddsPriority : {E : Type 0} → Result (Unit {0}) E → Written → Written → ℕ → Type 0
 AddsPriority r old new priority = IfOk r (λ _. Added old new (if priority == usual_priority then [] else member_tokens keys.Priority (whole priority)))
 
+-- the tokens of the members that say which part it is and of how many, where there are several; these members are added
+abbrev pub part_tokens : ℕ → ℕ → List Token
+part_tokens parts part = if parts == 1 then [] else member_tokens keys.Part (whole part) ++ member_tokens keys.Parts (whole parts)
+
+abbrev pub AddsPart : {E : Type 0} → Result (Unit {0}) E → Written → Written → ℕ → ℕ → Type 0
+AddsPart r old new parts part = IfOk r (λ _. Added old new (part_tokens parts part))
+
 -- the members are added that the messages of a cycle have from it on to the last hour
 abbrev pub AddsHead : {E : Type 0} → Result (Unit {0}) E → Written → Written → Kind → ℕ → Date → Span → Type 0
 AddsHead r old new kind cycle day span =

@@ -3,13 +3,13 @@ use Rattle.std.specs.Prelude.{◌≡◌, ℕ, List, length, nat_lt, Option, Some
 use Rattle.serde_json.specs.Data.{Data}
 use Rattle.serde_json.specs.Find.{get, as_str}
 use Rattle.gi_pairs.specs.Table.{TableContents, covered}
-use Rattle.gi_messages.specs.declared.key.Key.TheVariants.{Point, Portfolio, Day, Version, Cycle, Processed, Confirmed}
+use Rattle.gi_messages.specs.declared.key.Key.TheVariants.{Point, Portfolio, Day, Version, Cycle, Parts, Part, Processed, Confirmed}
 use Rattle.gi_messages.specs.declared.key.Key.TheVariants as keys
 use Rattle.gi_messages.specs.declared.head.Head.{Head}
 use Rattle.gi_messages.specs.declared.head.Span.{Span}
 use Rattle.gi_messages.specs.declared.kind.Kind.{Kind}
 use Rattle.gi_messages.specs.declared.kind.Kind.TheVariants as kinds
-use Rattle.gi_messages.specs.Limits.{last_cycle, last_version, most_bytes, most_confirmed_elements, most_processed_elements}
+use Rattle.gi_messages.specs.Limits.{elements_of, last_cycle, last_version, most_bytes, most_confirmed_elements, most_parts, most_processed_elements}
 use Rattle.gi_messages.specs.declared.message.Nomint.{Nomint}
 use Rattle.gi_messages.specs.declared.message.Acknow.{Acknow}
 use Rattle.gi_messages.specs.declared.message.Nomres.{Nomres}
@@ -22,7 +22,7 @@ use Rattle.gi_messages.specs.declared.message_fault.MessageFault.TheVariants as 
 use Rattle.gi_messages.specs.Json.{json_of}
 use Rattle.gi_messages.specs.Key.{key_text}
 use Rattle.gi_messages.specs.Kind.{kind_named}
-use Rattle.gi_messages.specs.Reading.{Read, ◌>>=◌, code, day, number, span, line, nomination_line, lines, table}
+use Rattle.gi_messages.specs.Reading.{Read, ◌>>=◌, code, day, number, number_or, span, line, nomination_line, lines, table}
 
 -- the fields of each kind, in their order
 unfoldable pub nomint : Data → Read Nomint
@@ -59,23 +59,29 @@ head d = do
   date ← day Day d
   cycle ← number 0 last_cycle Cycle d
   span ← span d
-  Ok (record { point = point; day = date; cycle = cycle; span = span })
+  parts ← number_or 1 1 most_parts Parts d
+  part ← number_or 1 1 parts Part d
+  Ok (record { point = point; day = date; cycle = cycle; span = span; parts = parts; part = part })
 
-abbrev pub processed : Span → Data → Read TableContents
-processed span d = table Processed most_processed_elements span.first span.last d
+-- their tables, of one of so many parts
+abbrev pub processed : ℕ → Span → Data → Read TableContents
+processed parts span d = table Processed (elements_of most_processed_elements parts) span.first span.last d
+
+abbrev pub confirmed : ℕ → Span → Data → Read TableContents
+confirmed parts span d = table Confirmed (elements_of most_confirmed_elements parts) span.first span.last d
 
 unfoldable pub delord : Data → Read Delord
 delord d = do
   head ← head d
-  processed ← processed head.span d
-  Ok (record { point = head.point; day = head.day; cycle = head.cycle; processed = processed })
+  processed ← processed head.parts head.span d
+  Ok (record { point = head.point; day = head.day; cycle = head.cycle; parts = head.parts; part = head.part; processed = processed })
 
 unfoldable pub delres : Data → Read Delres
 delres d = do
   head ← head d
-  processed ← processed head.span d
-  confirmed ← table Confirmed most_confirmed_elements head.span.first head.span.last d
-  Ok (record { point = head.point; day = head.day; cycle = head.cycle; processed = processed; confirmed = confirmed })
+  processed ← processed head.parts head.span d
+  confirmed ← confirmed head.parts head.span d
+  Ok (record { point = head.point; day = head.day; cycle = head.cycle; parts = head.parts; part = head.part; processed = processed; confirmed = confirmed })
 
 -- the kind that an object names
 unfoldable pub kind_of : Data → Option Kind

@@ -12,7 +12,7 @@ use Rattle.gi_messages.specs.declared.kind.Kind.{Kind}
 use Rattle.gi_messages.specs.declared.kind.Kind.TheVariants as kinds
 use Rattle.gi_messages.specs.Grammar.{AreElements, Each, Has, HasOr, HasRows, HasTable, IsLineFor, IsNominationLine, IsOfKind, IsRowFor, IsText, IsWhole, NamesCode, NamesDay, NamesDirection}
 use Rattle.gi_messages.specs.Json.{json_of}
-use Rattle.gi_messages.specs.Limits.{last_cycle, last_priority, last_version, most_bytes, most_confirmed_elements, most_processed_elements, usual_priority}
+use Rattle.gi_messages.specs.Limits.{elements_of, last_cycle, last_priority, last_version, most_bytes, most_confirmed_elements, most_parts, most_processed_elements, usual_priority}
 
 -- A part says itself which key is named where it has no value; where it has one, what comes after it says so.
 abbrev pub Part : {X : Type 0} → (X → Type 0) → (Key → Type 0) → (X → Key → Type 0) → Key → Type 0
@@ -29,6 +29,10 @@ Then Stands key after = Part Stands (Lacks Stands key) after
 -- a field, from its key and what its value stands for
 abbrev pub Field : {X : Type 0} → (Data → X → Type 0) → Key → Data → (X → Key → Type 0) → Key → Type 0
 Field Stands key d after = Then (Has Stands key d) key after
+
+-- the same, where the key may be missing
+abbrev pub FieldOr : {X : Type 0} → X → (Data → X → Type 0) → Key → Data → (X → Key → Type 0) → Key → Type 0
+FieldOr usual Stands key d after = Then (HasOr usual Stands key d) key after
 
 abbrev pub IsObject : Data → Members → Type 0
 IsObject d members = d ≡ object members
@@ -86,16 +90,20 @@ RefusesTable most first last key d =
     Part (Each (IsRowFor (covered first last)) elements) (Among (IsRowFor (covered first last)) (RefusesRow key (covered first last)) elements) (λ rows.
     Lacks (HasRows first last rows) key)))
 
--- the hours of a message, and what an order and a response begin with
+-- the hours of a message, which part it is and of how many, and what an order and a response begin with
 abbrev pub RefusesSpan : Data → (ℕ → ℕ → Key → Type 0) → Key → Type 0
 RefusesSpan d after = Field (IsWhole 1 last_hour) keys.First d (λ first. Field (IsWhole first last_hour) keys.Last d (after first))
 
-abbrev pub RefusesHead : Data → (ℕ → ℕ → Key → Type 0) → Key → Type 0
+abbrev pub RefusesParts : Data → (ℕ → Key → Type 0) → Key → Type 0
+RefusesParts d after = FieldOr 1 (IsWhole 1 most_parts) keys.Parts d (λ parts. FieldOr 1 (IsWhole 1 parts) keys.Part d (λ _. after parts))
+
+abbrev pub RefusesHead : Data → (ℕ → ℕ → ℕ → Key → Type 0) → Key → Type 0
 RefusesHead d after =
     Field (IsText NamesCode) keys.Point d (λ _.
     Field (IsText NamesDay) keys.Day d (λ _.
     Field (IsWhole 0 last_cycle) keys.Cycle d (λ _.
-    RefusesSpan d after)))
+    RefusesSpan d (λ first last.
+    RefusesParts d (after first last)))))
 
 -- the fields of each kind, in their order
 abbrev pub Refuses : Kind → Data → Key → Type 0
@@ -116,11 +124,11 @@ Refuses kinds.Nomres d =
     Field (IsText NamesDay) keys.Day d (λ _.
     Field (IsWhole 0 last_cycle) keys.Cycle d (λ _.
     RefusesSpan d (λ first last. RefusesLinesFor (covered first last) d)))))
-Refuses kinds.Delord d = RefusesHead d (λ first last. RefusesTable most_processed_elements first last keys.Processed d)
+Refuses kinds.Delord d = RefusesHead d (λ first last parts. RefusesTable (elements_of most_processed_elements parts) first last keys.Processed d)
 Refuses kinds.Delres d =
-    RefusesHead d (λ first last.
-    Part (HasTable most_processed_elements first last keys.Processed d) (RefusesTable most_processed_elements first last keys.Processed d) (λ _.
-    RefusesTable most_confirmed_elements first last keys.Confirmed d))
+    RefusesHead d (λ first last parts.
+    Part (HasTable (elements_of most_processed_elements parts) first last keys.Processed d) (RefusesTable (elements_of most_processed_elements parts) first last keys.Processed d) (λ _.
+    RefusesTable (elements_of most_confirmed_elements parts) first last keys.Confirmed d))
 
 -- bytes within the limit, the JSON text of a value
 pub record IsJson (bytes : List ℕ) (d : Data) : Type 0 where

@@ -10,7 +10,7 @@ use Rattle.gi_pairs.specs.Direction.{direction_text}
 use Rattle.gi_pairs.specs.Table.{TableContents, IsTable, covered}
 use Rattle.gi_pairs.specs.declared.direction.Direction.{Direction}
 use Rattle.gi_pairs.specs.Quantity.{IsQuantity, most_quantity}
-use Rattle.gi_messages.specs.Limits.{last_cycle, last_priority, last_version, most_bytes, most_confirmed_elements, most_lines, most_processed_elements, usual_priority}
+use Rattle.gi_messages.specs.Limits.{elements_of, last_cycle, last_priority, last_version, most_bytes, most_confirmed_elements, few_lines, most_parts, most_processed_elements, usual_priority}
 use Rattle.gi_pairs.specs.declared.row.Row.{Row}
 use Rattle.gi_pairs.specs.Limits.{last_hour}
 use Rattle.gi_messages.specs.declared.key.Key.{Key}
@@ -140,13 +140,16 @@ pub record IsNomres (d : Data) (m : Nomres) : Type 0 where
   pub last : Has (IsWhole m.first last_hour) keys.Last d m.last
   pub lines : Has (AreElements (IsLineFor (covered m.first m.last))) keys.Lines d m.lines
 
+-- where the key `parts` or `part` is missing, it is 1; in one of several parts the tables have fewer rows
 pub record IsDelord (d : Data) (m : Delord) : Type 0 where
   pub point : Has (IsText NamesCode) keys.Point d m.point
   pub day : Has (IsText NamesDay) keys.Day d m.day
   pub cycle : Has (IsWhole 0 last_cycle) keys.Cycle d m.cycle
   pub first : Has (IsWhole 1 last_hour) keys.First d m.processed.first
   pub last : Has (IsWhole m.processed.first last_hour) keys.Last d m.processed.last
-  pub processed : HasTable most_processed_elements m.processed.first m.processed.last keys.Processed d m.processed
+  pub parts : HasOr 1 (IsWhole 1 most_parts) keys.Parts d m.parts
+  pub part : HasOr 1 (IsWhole 1 m.parts) keys.Part d m.part
+  pub processed : HasTable (elements_of most_processed_elements m.parts) m.processed.first m.processed.last keys.Processed d m.processed
 
 -- both tables are for the hours of the message
 pub record IsDelres (d : Data) (m : Delres) : Type 0 where
@@ -155,8 +158,10 @@ pub record IsDelres (d : Data) (m : Delres) : Type 0 where
   pub cycle : Has (IsWhole 0 last_cycle) keys.Cycle d m.cycle
   pub first : Has (IsWhole 1 last_hour) keys.First d m.processed.first
   pub last : Has (IsWhole m.processed.first last_hour) keys.Last d m.processed.last
-  pub processed : HasTable most_processed_elements m.processed.first m.processed.last keys.Processed d m.processed
-  pub confirmed : HasTable most_confirmed_elements m.processed.first m.processed.last keys.Confirmed d m.confirmed
+  pub parts : HasOr 1 (IsWhole 1 most_parts) keys.Parts d m.parts
+  pub part : HasOr 1 (IsWhole 1 m.parts) keys.Part d m.part
+  pub processed : HasTable (elements_of most_processed_elements m.parts) m.processed.first m.processed.last keys.Processed d m.processed
+  pub confirmed : HasTable (elements_of most_confirmed_elements m.parts) m.processed.first m.processed.last keys.Confirmed d m.confirmed
 
 -- an object whose `kind` is the kind's name
 abbrev pub IsOfKind : Kind → Data → Type 0
@@ -193,8 +198,8 @@ pub record FitsNominationLine (line : NominationLine) : Type 0 where
   pub from : 1 ≤ line.priority
   pub to : line.priority ≤ last_priority
 
--- A message that can be written: codes, a gas day, a version or a cycle of it, lines, each for the hours of the message where it names hours, and tables
--- of not too many rows, for the same hours.
+-- A message that can be written: codes, a gas day, a version or a cycle of it, lines, each for the hours of the message where it names hours, which part
+-- it is of how many, and tables of not too many rows, for the same hours.
 pub record FitsNomint (m : Nomint) : Type 0 where
   pub point : IsCode m.point
   pub portfolio : IsCode m.portfolio
@@ -225,17 +230,23 @@ pub record FitsDelord (m : Delord) : Type 0 where
   pub point : IsCode m.point
   pub day : IsGasYear m.day.year
   pub cycle : m.cycle ≤ last_cycle
+  pub few_parts : m.parts ≤ most_parts
+  pub part_from : 1 ≤ m.part
+  pub part_to : m.part ≤ m.parts
   pub processed : IsTable m.processed
-  pub few : length m.processed.rows ≤ most_processed_elements
+  pub few : length m.processed.rows ≤ elements_of most_processed_elements m.parts
 
 pub record FitsDelres (m : Delres) : Type 0 where
   pub point : IsCode m.point
   pub day : IsGasYear m.day.year
   pub cycle : m.cycle ≤ last_cycle
+  pub few_parts : m.parts ≤ most_parts
+  pub part_from : 1 ≤ m.part
+  pub part_to : m.part ≤ m.parts
   pub processed : IsTable m.processed
-  pub few : length m.processed.rows ≤ most_processed_elements
+  pub few : length m.processed.rows ≤ elements_of most_processed_elements m.parts
   pub confirmed : IsTable m.confirmed
-  pub few_confirmed : length m.confirmed.rows ≤ most_confirmed_elements
+  pub few_confirmed : length m.confirmed.rows ≤ elements_of most_confirmed_elements m.parts
   pub begins : m.confirmed.first ≡ m.processed.first
   pub ends : m.confirmed.last ≡ m.processed.last
 
@@ -249,8 +260,8 @@ Fits (messages.Delres m) = FitsDelres m
 -- A message with few lines. Each line of a nomination, which could have any number of quantities, has no more than the
 -- longest gas day has hours.
 abbrev pub HasFewLines : Message → Type 0
-HasFewLines (messages.Nomint m) = (length m.lines ≤ most_lines) × All (λ l. length l.hours ≤ last_hour) m.lines
+HasFewLines (messages.Nomint m) = (length m.lines ≤ few_lines) × All (λ l. length l.hours ≤ last_hour) m.lines
 HasFewLines (messages.Acknow m) = Unit {0}
-HasFewLines (messages.Nomres m) = length m.lines ≤ most_lines
+HasFewLines (messages.Nomres m) = length m.lines ≤ few_lines
 HasFewLines (messages.Delord m) = Unit {0}
 HasFewLines (messages.Delres m) = Unit {0}

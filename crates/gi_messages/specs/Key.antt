@@ -1,7 +1,7 @@
 -- The keys of JSON objects, as they stand in the text.
 use Rattle.std.specs.Prelude.{ℕ, List, codes}
 use Rattle.gi_messages.specs.declared.key.Key.{Key}
-use Rattle.gi_messages.specs.declared.key.Key.TheVariants.{Kind, Point, Portfolio, Day, Version, Cycle, First, Last, Lines, Processed, Confirmed, Counterparty, Initiating, Matching, Direction, Hours, Priority, Fact, Nomint, Firm, Interruptible, Peer, Rule}
+use Rattle.gi_messages.specs.declared.key.Key.TheVariants.{Kind, Point, Portfolio, Day, Version, Cycle, First, Last, Parts, Part, Lines, Processed, Confirmed, Counterparty, Initiating, Matching, Direction, Hours, Priority, Fact, Nomint, Firm, Interruptible, Peer, Rule}
 
 abbrev pub key_text : Key → List ℕ
 key_text Kind = codes "kind"
@@ -12,6 +12,8 @@ key_text Version = codes "version"
 key_text Cycle = codes "cycle"
 key_text First = codes "first"
 key_text Last = codes "last"
+key_text Parts = codes "parts"
+key_text Part = codes "part"
 key_text Lines = codes "lines"
 key_text Processed = codes "processed"
 key_text Confirmed = codes "confirmed"

@@ -69,17 +69,21 @@ nomres_data m =
     (member (key_text keys.Kind) (string (kind_text kinds.Nomres)) (member (key_text keys.Last) (whole m.last) (member (key_text keys.Lines) (lines_data line_data m.lines)
     (member (key_text keys.Point) (string m.point) (member (key_text keys.Portfolio) (string m.portfolio) no_members))))))))
 
+-- which part it is and of how many is written where there are several
+abbrev pub part_members : ℕ → ℕ → Members → Members
+part_members parts part rest = if parts == 1 then rest else member (key_text keys.Part) (whole part) (member (key_text keys.Parts) (whole parts) rest)
+
 unfoldable pub delord_data : Delord → Data
 delord_data m =
     object (member (key_text keys.Cycle) (whole m.cycle) (member (key_text keys.Day) (string (day_text m.day)) (member (key_text keys.First) (whole m.processed.first)
-    (member (key_text keys.Kind) (string (kind_text kinds.Delord)) (member (key_text keys.Last) (whole m.processed.last) (member (key_text keys.Point) (string m.point)
-    (member (key_text keys.Processed) (rows_data m.processed.rows) no_members)))))))
+    (member (key_text keys.Kind) (string (kind_text kinds.Delord)) (member (key_text keys.Last) (whole m.processed.last) (part_members m.parts m.part
+    (member (key_text keys.Point) (string m.point) (member (key_text keys.Processed) (rows_data m.processed.rows) no_members))))))))
 
 unfoldable pub delres_data : Delres → Data
 delres_data m =
     object (member (key_text keys.Confirmed) (rows_data m.confirmed.rows) (member (key_text keys.Cycle) (whole m.cycle) (member (key_text keys.Day) (string (day_text m.day)) (member (key_text keys.First) (whole m.processed.first)
-    (member (key_text keys.Kind) (string (kind_text kinds.Delres)) (member (key_text keys.Last) (whole m.processed.last) (member (key_text keys.Point) (string m.point)
-    (member (key_text keys.Processed) (rows_data m.processed.rows) no_members))))))))
+    (member (key_text keys.Kind) (string (kind_text kinds.Delres)) (member (key_text keys.Last) (whole m.processed.last) (part_members m.parts m.part
+    (member (key_text keys.Point) (string m.point) (member (key_text keys.Processed) (rows_data m.processed.rows) no_members)))))))))
 
 abbrev pub data_of : Message → Data
 data_of (messages.Nomint m) = nomint_data m

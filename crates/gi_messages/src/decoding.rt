@@ -8,11 +8,11 @@ ghost use Rattle.gi_messages.specs.Grammar.{Spells};
 ghost use Rattle.gi_messages.specs.declared.key.Key.TheVariants.{Version};
 ghost use Rattle.gi_messages.specs.Json.{json_of};
 ghost use Rattle.gi_messages.specs.Limits.{most_bytes, last_version};
-ghost use Rattle.gi_messages.specs.Decoding.{Gives, nomint, acknow, nomres, processed, delord, delres, kind_of, of_kind, if_kind, if_json, decoded};
+ghost use Rattle.gi_messages.specs.Decoding.{Gives, nomint, acknow, nomres, processed, confirmed, delord, delres, kind_of, of_kind, if_kind, if_json, decoded};
 
 use crate::fault::FieldFault;
 use crate::fields::{code, day, number};
-use crate::head::{Span, head_of, span_of};
+use crate::head::{Span, elements_of, head_of, span_of};
 use crate::json_text::json;
 use crate::json_value::JsonValue;
 use crate::key::Key;
@@ -93,19 +93,32 @@ fn nomres(alloc: Global, object: &JsonValue<'_, '_>) -> Result<Nomres, FieldFaul
     })
 }
 
-fn processed(alloc: Global, object: &JsonValue<'_, '_>, span: Span) -> Result<Table, FieldFault>
+fn processed(
+    alloc: Global,
+    object: &JsonValue<'_, '_>,
+    parts: u8,
+    span: Span,
+) -> Result<Table, FieldFault>
     requires { span.first ≤ span.last }
-    ensures { reading.Gives (λ found. found) result (processed span (value_at object.now)) }
+    ensures { reading.Gives (λ found. found) result (processed parts span (value_at object.now)) }
 {
     let Span { first, last } = span;
-    table(
-        alloc,
-        object,
-        Key::Processed,
-        MOST_PROCESSED_ELEMENTS,
-        first,
-        last,
-    )
+    let most = elements_of(MOST_PROCESSED_ELEMENTS, parts);
+    table(alloc, object, Key::Processed, most, first, last)
+}
+
+fn confirmed(
+    alloc: Global,
+    object: &JsonValue<'_, '_>,
+    parts: u8,
+    span: Span,
+) -> Result<Table, FieldFault>
+    requires { span.first ≤ span.last }
+    ensures { reading.Gives (λ found. found) result (confirmed parts span (value_at object.now)) }
+{
+    let Span { first, last } = span;
+    let most = elements_of(MOST_CONFIRMED_ELEMENTS, parts);
+    table(alloc, object, Key::Confirmed, most, first, last)
 }
 
 #[tactic(auto, unfolding(crate::specs::Decoding::delord))]
@@ -113,11 +126,13 @@ fn delord(alloc: Global, object: &JsonValue<'_, '_>) -> Result<Delord, FieldFaul
     ensures { reading.Gives (λ found. found) result (delord (value_at object.now)) }
 {
     let head = head_of(object)?;
-    let processed = processed(alloc, object, head.span)?;
+    let processed = processed(alloc, object, head.parts, head.span)?;
     Ok(Delord {
         point: head.point,
         day: head.day,
         cycle: head.cycle,
+        parts: head.parts,
+        part: head.part,
         processed,
     })
 }
@@ -127,20 +142,14 @@ fn delres(alloc: Global, object: &JsonValue<'_, '_>) -> Result<Delres, FieldFaul
     ensures { reading.Gives (λ found. found) result (delres (value_at object.now)) }
 {
     let head = head_of(object)?;
-    let Span { first, last } = head.span;
-    let processed = processed(alloc, object, head.span)?;
-    let confirmed = table(
-        alloc,
-        object,
-        Key::Confirmed,
-        MOST_CONFIRMED_ELEMENTS,
-        first,
-        last,
-    )?;
+    let processed = processed(alloc, object, head.parts, head.span)?;
+    let confirmed = confirmed(alloc, object, head.parts, head.span)?;
     Ok(Delres {
         point: head.point,
         day: head.day,
         cycle: head.cycle,
+        parts: head.parts,
+        part: head.part,
         processed,
         confirmed,
     })

@@ -1,7 +1,7 @@
 //! Writing messages.
 
 ghost use Rattle.std.specs.Prelude.{◌≡◌, ◌≤◌, length, IfOk, Ok};
-ghost use Rattle.gi_messages.specs.Adding.{Adds, AddsHead};
+ghost use Rattle.gi_messages.specs.Adding.{Adds, AddsHead, AddsPart};
 ghost use Rattle.gi_messages.specs.Decoding.{decoded};
 ghost use Rattle.gi_messages.specs.Grammar.{IsWritable};
 ghost use Rattle.gi_messages.specs.Limits.{most_bytes};
@@ -78,6 +78,17 @@ fn put_nomres(alloc: Global, out: &mut Writer, message: &Nomres) -> Result<(), A
     out.end_object()
 }
 
+/// Adds which part it is and of how many, where there are several.
+fn put_part(out: &mut Writer, parts: u8, part: u8) -> Result<(), AllocError>
+    ensures { AddsPart result out.old out.new parts part }
+{
+    if parts == 1 {
+        return Ok(());
+    }
+    put_number(out, Key::Part, u64::from(part))?;
+    put_number(out, Key::Parts, u64::from(parts))
+}
+
 fn put_delord(alloc: Global, out: &mut Writer, message: &Delord) -> Result<(), AllocError>
     ensures { Adds result out.old out.new (delord_data message.now) }
 {
@@ -87,6 +98,7 @@ fn put_delord(alloc: Global, out: &mut Writer, message: &Delord) -> Result<(), A
     };
     out.begin_object()?;
     put_head(alloc, out, Kind::Delord, message.cycle, &message.day, span)?;
+    put_part(out, message.parts, message.part)?;
     put_code(out, Key::Point, &message.point)?;
     put_rows(out, Key::Processed, message.processed.rows())?;
     out.end_object()
@@ -102,6 +114,7 @@ fn put_delres(alloc: Global, out: &mut Writer, message: &Delres) -> Result<(), A
     out.begin_object()?;
     put_rows(out, Key::Confirmed, message.confirmed.rows())?;
     put_head(alloc, out, Kind::Delres, message.cycle, &message.day, span)?;
+    put_part(out, message.parts, message.part)?;
     put_code(out, Key::Point, &message.point)?;
     put_rows(out, Key::Processed, message.processed.rows())?;
     out.end_object()

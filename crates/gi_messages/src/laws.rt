@@ -22,8 +22,9 @@ pub fn names_first_key()
 /// A message is writable exactly where its point, portfolio and counterparties are codes, its day a
 /// gas day, its version from 1 to 999,999,999, the priorities of its lines from 1 to 9, its cycle
 /// from 0 to 36 and its quantities in range; where a NOMRES covers hours 1 <= first <= last <= 25
-/// and its lines are for them, a processed table has at most 4,096 rows, and a confirmed table is
-/// for the same hours.
+/// and its lines are for them, it is one of 66 parts at most, a processed table has at most 4,096
+/// rows, each table of one of several parts at most 1,000, and a confirmed table is for the same
+/// hours.
 pub fn writable_exactly()
     ensures { IsWritableExactly }
 {}
@@ -38,8 +39,8 @@ pub fn round_trip()
     ensures { RoundTrips }
 {}
 
-/// A message that can be written, with no more lines than a table has rows, and each line of a
-/// nomination with at most 25 quantities, has a text of at most 16 MiB.
+/// A message that can be written, with at most 33,280 lines, and each line of a nomination with at
+/// most 25 quantities, has a text of at most 16 MiB.
 pub fn texts_are_short()
     ensures { TextsAreShort }
 {}

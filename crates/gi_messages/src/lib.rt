@@ -41,7 +41,7 @@ pub use line::Line;
 pub use lines::Lines;
 pub use message::{
     Acknow, Delord, Delres, LAST_CYCLE, LAST_VERSION, MOST_BYTES, MOST_CONFIRMED_ELEMENTS,
-    MOST_PROCESSED_ELEMENTS, Message, Nomint, Nomres,
+    MOST_PART_ELEMENTS, MOST_PARTS, MOST_PROCESSED_ELEMENTS, Message, Nomint, Nomres,
 };
 pub use message_fault::MessageFault;
 pub use message_line::MessageLine;

@@ -16,6 +16,12 @@ pub const MOST_PROCESSED_ELEMENTS: usize = 4096;
 /// How many elements its array `confirmed` has at most.
 pub const MOST_CONFIRMED_ELEMENTS: usize = 8192;
 
+/// How many parts an order or a response comes in at most.
+pub const MOST_PARTS: u8 = 66;
+
+/// How many elements each array of one of several parts has at most.
+pub const MOST_PART_ELEMENTS: usize = 1000;
+
 /// The highest number of a cycle.
 pub const LAST_CYCLE: u8 = 36;
 
@@ -82,7 +88,11 @@ pub struct Delord {
     pub day: GasDay,
     /// From 0 to 36.
     pub cycle: u8,
-    /// At most 4,096 rows.
+    /// In how many parts it comes, from 1 to 66.
+    pub parts: u8,
+    /// Which of them this is, from 1.
+    pub part: u8,
+    /// At most 4,096 rows, or 1,000 in one of several parts.
     pub processed: Table,
 }
 
@@ -94,9 +104,14 @@ pub struct Delres {
     pub day: GasDay,
     /// From 0 to 36.
     pub cycle: u8,
-    /// At most 4,096 rows.
+    /// In how many parts it comes, from 1 to 66.
+    pub parts: u8,
+    /// Which of them this is, from 1.
+    pub part: u8,
+    /// At most 4,096 rows, or 1,000 in one of several parts.
     pub processed: Table,
-    /// At most 8,192 rows, for the same hours as the processed ones.
+    /// At most 8,192 rows, or 1,000 in one of several parts, for the same hours as the processed
+    /// ones.
     pub confirmed: Table,
 }
 

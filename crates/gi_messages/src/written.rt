@@ -7,42 +7,50 @@
 ghost use Rattle.std.specs.Prelude.{◌≡◌, ◌≤◌, length, IfSome, IsTrue, Ok};
 ghost use Rattle.gi_messages.specs.Decoding.{decoded};
 ghost use Rattle.gi_messages.specs.Grammar.{Fits, FitsDelord, FitsDelres};
-ghost use Rattle.gi_messages.specs.Limits.{most_bytes};
+ghost use Rattle.gi_messages.specs.Limits.{most_bytes, most_parts};
 ghost use Rattle.gi_messages.specs.Writing.{text_of};
 
 use crate::encoding::encode;
 use crate::front::Front;
-use crate::head::{Head, Span};
+use crate::head::{Head, Span, elements_of};
 use crate::message::{
-    Delord, Delres, LAST_CYCLE, MOST_CONFIRMED_ELEMENTS, MOST_PROCESSED_ELEMENTS, Message,
+    Delord, Delres, LAST_CYCLE, MOST_CONFIRMED_ELEMENTS, MOST_PARTS, MOST_PROCESSED_ELEMENTS,
+    Message,
 };
 use gi_pairs::Table;
 use std::alloc::Global;
 
 /// What stands before the processed rows: `start` goes before the number of the cycle, and `kind`
-/// between the first hour and the last.
+/// between the first hour and the last. Which part it is and of how many may be missing.
 fn head(front: &mut Front<'_>, start: &[u8], kind: &[u8]) -> Option<Head> {
     let cycle = front.small(start)?;
     let day = front.day(b",\"day\":\"")?;
     let first = front.small(b",\"first\":")?;
     let last = front.small(kind)?;
+    let part = front.small(b",\"part\":").unwrap_or(1);
+    let parts = front.small(b",\"parts\":").unwrap_or(1);
     let point = front.code(b",\"point\":\"")?;
     Some(Head {
         point,
         day,
         cycle,
         span: Span { first, last },
+        parts,
+        part,
     })
 }
 
 /// An order, or what a response has as an order has it.
 fn order(alloc: Global, front: &mut Front<'_>, start: &[u8], kind: &[u8]) -> Option<Delord> {
     let head = head(front, start, kind)?;
-    let rows = front.rows(alloc, b",\"processed\":[", MOST_PROCESSED_ELEMENTS)?;
+    let most = elements_of(MOST_PROCESSED_ELEMENTS, head.parts);
+    let rows = front.rows(alloc, b",\"processed\":[", most)?;
     Some(Delord {
         point: head.point,
         day: head.day,
         cycle: head.cycle,
+        parts: head.parts,
+        part: head.part,
         processed: Table::build(head.span.first, head.span.last, rows).ok()?,
     })
 }
@@ -69,9 +77,17 @@ fn delres(alloc: Global, front: &mut Front<'_>) -> Option<Delres> {
         point: order.point,
         day: order.day,
         cycle: order.cycle,
+        parts: order.parts,
+        part: order.part,
         processed: order.processed,
         confirmed,
     })
+}
+
+fn is_part(parts: u8, part: u8) -> bool
+    ensures { IsTrue result → (parts ≤ most_parts) × (1 ≤ part) × (part ≤ parts) }
+{
+    parts <= MOST_PARTS && 1 <= part && part <= parts
 }
 
 fn fits_delord(order: &Delord) -> bool
@@ -80,7 +96,9 @@ fn fits_delord(order: &Delord) -> bool
     order.point.reveal_invariant();
     order.day.reveal_invariant();
     order.processed.reveal_invariant();
-    order.cycle <= LAST_CYCLE && order.processed.rows().len() <= MOST_PROCESSED_ELEMENTS
+    order.cycle <= LAST_CYCLE
+        && is_part(order.parts, order.part)
+        && order.processed.rows().len() <= elements_of(MOST_PROCESSED_ELEMENTS, order.parts)
 }
 
 fn fits_delres(response: &Delres) -> bool
@@ -91,7 +109,9 @@ fn fits_delres(response: &Delres) -> bool
     response.processed.reveal_invariant();
     response.confirmed.reveal_invariant();
     response.cycle <= LAST_CYCLE
-        && response.processed.rows().len() <= MOST_PROCESSED_ELEMENTS
+        && is_part(response.parts, response.part)
+        && response.processed.rows().len() <= elements_of(MOST_PROCESSED_ELEMENTS, response.parts)
+        && response.confirmed.rows().len() <= elements_of(MOST_CONFIRMED_ELEMENTS, response.parts)
         && response.confirmed.first() == response.processed.first()
         && response.confirmed.last() == response.processed.last()
 }

@@ -415,6 +415,13 @@ pub const NAMES: &str = "\
   Do: Nothing: it stays skipped, and nominations count for the next cycle that
   is closed.
 
+# Parts
+  The order or the response is one part of several, and only whole ones are
+  taken. Of a delivered message: nothing is recorded. Of a line of 'match'
+  ('order: Parts', 'own: Parts'): nothing is written.
+  Rule: this program's.
+  Do: Ask the other operator for the whole table in one message.
+
 # PermilleRange
   One of the two per-mille numbers of a notice is over 1000. Nothing is
   recorded.
@@ -776,13 +783,13 @@ pub const NAMES: &str = "\
 
 # order (before a FAULT)
   The first line of the input of 'match', the initiating operator's DELORD, is
-  wrong. FAULT is that of a message, or WrongKind. Nothing is written.
+  wrong. FAULT is that of a message, WrongKind or Parts. Nothing is written.
   Rule: this program's.
   Do: See the entry of FAULT.
 
 # own (before a FAULT)
   The second line of the input of 'match', the matching operator's own table,
-  is wrong. FAULT is that of a message, or WrongKind. Nothing is written.
+  is wrong. FAULT is that of a message, WrongKind or Parts. Nothing is written.
   Rule: this program's.
   Do: See the entry of FAULT.
 

@@ -1,7 +1,9 @@
 pub mod Building
 pub mod CodeLaws
+pub mod Joining
 pub mod KeyOrder
 pub mod Members
 pub mod Reading
 pub mod Refusals
+pub mod Slices
 pub mod TableLaws

@@ -10,5 +10,6 @@ pub mod Quantity
 pub mod Row
 pub mod RowsRepr
 pub mod Side
+pub mod Slices
 pub mod Table
 pub mod TableRepr

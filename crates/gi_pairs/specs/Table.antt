@@ -7,6 +7,8 @@ use Rattle.std.specs.Ordering.{eq_of_both, is_eq, is_lt, on}
 use Rattle.gi_pairs.specs.Key.{key_cmp}
 use Rattle.gi_pairs.specs.Row.{key_of, row_eq, IsRow}
 use Rattle.gi_pairs.specs.declared.direction.Direction.{Direction}
+use Rattle.gi_pairs.specs.declared.join_fault.JoinFault.{JoinFault}
+use Rattle.gi_pairs.specs.declared.join_fault.JoinFault.TheVariants.{Overlap, TooMany}
 use Rattle.gi_pairs.specs.declared.key.Key.{Key}
 use Rattle.gi_pairs.specs.declared.pair.Pair.{Pair}
 use Rattle.gi_pairs.specs.declared.row.Row.{Row}
@@ -93,6 +95,14 @@ ok_unless (Some e) x = Err e
 -- the table that rows make, or their first fault
 unfoldable pub built : ℕ → ℕ → List Row → Result TableContents TableFault
 built first last rows = ok_unless (refusal first last rows) (record { first = first; last = last; rows = in_order rows })
+
+-- the first fault of the rows of several parts, which are to be at most so many: a key that stands twice, then their number
+unfoldable pub join_refusal : ℕ → List Row → Option JoinFault
+join_refusal most rows = if repeats (keys_of rows) then Some Overlap else (if nat_lt most (length rows) then Some TooMany else None)
+
+-- the table that the rows of several parts make, or their first fault
+unfoldable pub joined : ℕ → ℕ → ℕ → List Row → Result TableContents JoinFault
+joined first last most rows = ok_unless (join_refusal most rows) (record { first = first; last = last; rows = in_order rows })
 
 -- they cover the same hours, and their rows are equal
 abbrev pub table_eq : TableContents → TableContents → Bool

@@ -1,4 +1,4 @@
-ghost use Rattle.std.specs.Prelude.{◌≡◌, IfOk};
+ghost use Rattle.std.specs.Prelude.{◌≡◌, IfOk, drop, take};
 
 use crate::row::Row;
 use std::alloc::{AllocError, Global};
@@ -63,18 +63,32 @@ impl Rows {
         ensures { IfOk result (λ rows. rows ≡ self.now) }
     {
         Ok(match &self.kept {
-            Kept::Own(rows) => Rows::new(copy_rows(rows)?),
+            Kept::Own(rows) => Rows::new(copy_rows(*rows.allocator(), rows)?),
             Kept::Shared(rows) => Rows {
                 kept: Kept::Shared(Arc::try_clone(rows)?),
             },
         })
     }
+
+    /// Copies of the rows from a place on, counted from 0, at most so many; all of them in the same
+    /// memory where that is shared.
+    pub(crate) fn slice(&self, alloc: Global, from: usize, most: usize) -> Result<Rows, AllocError>
+        ensures { IfOk result (λ rows. rows ≡ take most (drop from self.now)) }
+    {
+        let rows = self.as_slice();
+        if from == 0 && rows.len() <= most {
+            return self.copy();
+        }
+        let rest = &rows[from.min(rows.len())..];
+        let some = &rest[..most.min(rest.len())];
+        Ok(Rows::new(copy_rows(alloc, some)?))
+    }
 }
 
-fn copy_rows(rows: &Vec<Row>) -> Result<Vec<Row>, AllocError>
-    ensures { IfOk result (λ copies. copies.items ≡ rows.now.items) }
+fn copy_rows(alloc: Global, rows: &[Row]) -> Result<Vec<Row>, AllocError>
+    ensures { IfOk result (λ copies. copies.items ≡ rows.now) }
 {
-    let mut copies = Vec::with_capacity(*rows.allocator(), rows.len())?;
+    let mut copies = Vec::with_capacity(alloc, rows.len())?;
     for row in rows {
         copies.push(row.copy()?)?;
     }

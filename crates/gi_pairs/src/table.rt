@@ -1,17 +1,20 @@
-ghost use Rattle.std.specs.Prelude.{◌≡◌, ◌==◌, ◌≤◌, ◌↔◌, IfOk, IsTrue, find, All, length};
+ghost use Rattle.std.specs.Prelude.{◌≡◌, ◌==◌, ◌≤◌, ◌↔◌, IfOk, IsTrue, MatchOption, false, find, true, All, length};
 ghost use Rattle.std.proofs.Common.{rules};
 ghost use Rattle.std.specs.Bool.{OnFalse, OnTrue};
 ghost use Rattle.std.specs.Cmp.Rules.{comparing};
 ghost use Rattle.std.specs.List.{list_all};
 ghost use Rattle.std.specs.List.Sorted.{IsPermutation, IsSortedByKey, IsStrictlySortedBy};
 ghost use Rattle.std.specs.Option.{option_copied};
-ghost use Rattle.gi_pairs.specs.Limits.{last_hour};
+ghost use Rattle.gi_pairs.specs.Limits.{last_hour, most_rows};
 ghost use Rattle.gi_pairs.specs.Quantity.{IsQuantity};
 ghost use Rattle.gi_pairs.specs.Row.{key_of, IsRow};
 ghost use Rattle.gi_pairs.specs.Key.{key_cmp};
-ghost use Rattle.gi_pairs.specs.Table.{HasShapeOf, IsTable, is_at, is_hour_range as is_hour_range_of, keys_of, reading, same_hours, built, repeats};
+ghost use Rattle.gi_pairs.specs.Table.{HasShapeOf, IsTable, covered, in_order, is_at, is_hour_range as is_hour_range_of, keys_of, reading, same_hours, built, joined, repeats};
+
+mod slicing;
 
 use crate::direction::Direction;
+use crate::join_fault::JoinFault;
 use crate::key::Key;
 use crate::pair::Pair;
 use crate::row::Row;
@@ -126,6 +129,18 @@ fn has_twins(rows: &[Row]) -> bool
     false
 }
 
+/// The rows in table order, where no key stands twice.
+fn ordered(rows: Vec<Row>) -> Option<Rows>
+    ensures { MatchOption result (repeats (keys_of rows.items) ≡ true) (λ sorted. (repeats (keys_of rows.items) ≡ false) × (sorted ≡ in_order rows.items)) }
+{
+    let mut rows = rows;
+    sort_rows(&mut rows);
+    if has_twins(&rows) {
+        return None;
+    }
+    Some(Rows::new(rows))
+}
+
 fn row_of(rows: &[Row], key: Key) -> Option<&Row>
     requires { IsStrictlySortedBy key_cmp (keys_of rows.now) }
     ensures { option_copied result ≡ find (is_at key) rows.now }
@@ -154,16 +169,32 @@ impl Table {
         if !have_hours(&rows, usize::from(last - first) + 1) {
             return Err(TableFault::UnequalHours);
         }
-        let mut rows = rows;
-        sort_rows(&mut rows);
-        if has_twins(&rows) {
-            return Err(TableFault::Duplicate);
+        match ordered(rows) {
+            Some(rows) => Ok(Table { first, last, rows }),
+            None => Err(TableFault::Duplicate),
         }
-        Ok(Table {
-            first,
-            last,
-            rows: Rows::new(rows),
-        })
+    }
+
+    /// The table for the hours from `first` to `last` that the rows of its parts make, which come
+    /// in any order: each is of codes and quantities, and has these hours. `Overlap` where a pair
+    /// and direction stands twice, then `TooMany` where there are more than `most` rows; it takes
+    /// no memory.
+    pub fn join(first: u8, last: u8, rows: Vec<Row>, most: usize) -> Result<Table, JoinFault>
+        requires begins { 1 ≤ first }
+        requires ordered { first ≤ last }
+        requires ends { last ≤ last_hour }
+        requires rows { All IsRow rows.items }
+        requires whole { All (λ row. length row.hours ≡ covered first last) rows.items }
+        requires limit { most ≤ most_rows }
+        ensures exact { result ≡ joined first last most rows.items }
+        ensures table { IfOk result IsTable }
+    {
+        let are_few = rows.len() <= most;
+        match ordered(rows) {
+            None => Err(JoinFault::Overlap),
+            Some(rows) if are_few => Ok(Table { first, last, rows }),
+            Some(_) => Err(JoinFault::TooMany),
+        }
     }
 
     /// The quantity, in kWh/h, of a pair, a direction and an hour: that of the row, where one

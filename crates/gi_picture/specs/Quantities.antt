@@ -42,12 +42,3 @@ peers_of direction hour = value_if hour.cycle (amounts_in direction hour).peers
 
 abbrev pub in_force_of : Direction → Hour → Option ℕ
 in_force_of direction hour = value_if hour.cycle (amounts_in direction hour).in_force
-
-abbrev pub own_cut_of : Direction → Hour → Option ℕ
-own_cut_of direction hour = value_if hour.cycle (own_cut (amounts_in direction hour))
-
-abbrev pub peer_cut_of : Direction → Hour → Option ℕ
-peer_cut_of direction hour = value_if hour.cycle (peer_cut (amounts_in direction hour))
-
-abbrev pub cut_of : Direction → Hour → Option ℕ
-cut_of direction hour = value_if hour.cycle (whole_cut (amounts_in direction hour))

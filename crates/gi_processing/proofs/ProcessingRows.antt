@@ -1,5 +1,5 @@
 -- The rows of the processed table make a table.
-use Rattle.std.proofs.Common.{◌≡◌, ℕ, ◌*◌, ◌≤◌, ◌==◌, List, [], ◌∷◌, ◌++◌, length, map, Bool, true, false, Option, Some, None, inl, inr, refl, sym, ap, ◌∙◌, subst, arith, nat_eq}
+use Rattle.std.proofs.Common.{◌≡◌, ℕ, ◌+◌, ◌*◌, ◌≤◌, ◌==◌, List, [], ◌∷◌, ◌++◌, length, map, count_by, Bool, true, false, cond, Option, Some, None, inl, inr, refl, sym, ap, ◌∙◌, subst, arith, nat_eq}
 use Rattle.std.specs.List.{AllByRecursion, IsDistinct, flat_map}
 use Rattle.std.specs.Ordering.{is_eq}
 use Rattle.std.specs.Str.{bytes_eq}
@@ -7,13 +7,16 @@ use Rattle.std.proofs.lemmas.Bool.{and_from, or_parts}
 use Rattle.std.proofs.lemmas.Bool.Decides.{Decides-eqb}
 use Rattle.std.proofs.lemmas.List.{length-append, length-map, map-append}
 use Rattle.std.proofs.lemmas.List.FromFn.{length-map-range_with_len}
+use Rattle.std.proofs.lemmas.List.Sorted.{sum_by-IsPermutation}
+use Rattle.std.proofs.lemmas.List.Sums.{count_by-le-length, sum_by-append, sum_by-cons}
 use Rattle.std.proofs.lemmas.Slice.Eq.{bytes_eq-Decides}
 use Rattle.jiff_core.specs.declared.civil.date.Date.{Date}
 use Rattle.gi_day.specs.Cycles.{hour_count}
 use Rattle.gi_pairs.specs.Direction.{place_of}
 use Rattle.gi_pairs.specs.Key.{key_cmp}
+use Rattle.gi_pairs.specs.Pair.{code_at, pair_of}
 use Rattle.gi_pairs.specs.Row.{key_of}
-use Rattle.gi_pairs.specs.Table.{covered, keys_of, repeats}
+use Rattle.gi_pairs.specs.Table.{covered, in_order, keys_of, repeats}
 use Rattle.gi_pairs.specs.declared.key.Key.{Key}
 use Rattle.gi_pairs.specs.declared.row.Row.{Row}
 use Rattle.gi_pairs.specs.declared.side.Side.{Side}
@@ -22,14 +25,17 @@ use Rattle.gi_pairs.proofs.Building.{In}
 use Rattle.gi_pairs.proofs.KeyOrder.{key_same}
 use Rattle.gi_pairs.proofs.Members.{from_append, from_map, in_append_left, in_append_right, repeats_append, repeats_cons}
 use Rattle.gi_pairs.proofs.Refusals.{are_whole}
+use Rattle.gi_pairs.proofs.TableLaws.{in_order-permutation}
 use Rattle.gi_messages.specs.declared.nomination_line.NominationLine.{NominationLine}
 use Rattle.gi_messages.specs.declared.message.Nomint.{Nomint}
 use Rattle.gi_nominations.specs.Book.{in_force}
 use Rattle.gi_nominations.specs.Lines.{has_twin, has_twins, is_twin, most_lines}
 use Rattle.gi_nominations.proofs.LinesLaws.{AreLines, without_fault}
 use Rattle.gi_processing.specs.Capacity.{Capacity}
-use Rattle.gi_processing.specs.Processing.{AreSound, line_key, lines_in_force, lines_of, portfolio_rows, processed_in, processed_row}
+use Rattle.gi_processing.specs.Processing.{AreSound, CanProcess, HasFewOfEach, is_row_of, line_key, lines_in_force, lines_of, portfolio_rows, processed_in, processed_row, processed_rows, span_table}
+use Rattle.gi_processing.specs.Recording.{portfolios_of}
 use Rattle.gi_processing.specs.declared.span.Span.{Span}
+use Rattle.gi_processing.proofs.PortfolioLaws.{flips}
 
 -- ---- lists made of lists
 
@@ -194,3 +200,66 @@ pub rows-few : (capacity : Capacity) (span : Span) (documents : List Nomint) (po
 rows-few capacity span documents [] sound = omega arith
 rows-few capacity span documents (p ∷ ps) sound =
     omega (arith, length-append (portfolio_rows capacity span documents p) (rows_for capacity span documents ps), portfolio-few capacity span documents p sound, rows-few capacity span documents ps sound)
+
+-- ---- how many rows each portfolio has
+
+code_is : (side : Side) (portfolio other : List ℕ) → code_at side (pair_of side portfolio other) ≡ portfolio
+code_is I portfolio other = refl
+code_is M portfolio other = refl
+
+row_code : (capacity : Capacity) (span : Span) (portfolio : List ℕ) (lines : List NominationLine) (line : NominationLine) → code_at span.side (processed_row capacity span portfolio lines line).pair ≡ portfolio
+unfolding processed_row
+row_code capacity span portfolio lines line = code_is span.side portfolio line.counterparty
+
+-- the lines of another portfolio make no row of it
+others_make-none : (capacity : Capacity) (span : Span) (wanted portfolio : List ℕ) (all lines : List NominationLine) → bytes_eq portfolio wanted ≡ false
+    → count_by (is_row_of span.side wanted) (map (processed_row capacity span portfolio all) lines) ≡ 0
+others_make-none capacity span wanted portfolio all [] other = refl
+others_make-none capacity span wanted portfolio all (x ∷ xs) other =
+    let row = processed_row capacity span portfolio all x in
+    let rows = map (processed_row capacity span portfolio all) xs in
+    let here : is_row_of span.side wanted row ≡ false = ap (λ (code : List ℕ). bytes_eq code wanted) (row_code capacity span portfolio all x) ∙ other in
+    let rest = others_make-none capacity span wanted portfolio all xs other in
+    sum_by-cons (λ (r : Row). cond (is_row_of span.side wanted r) 1 0) row rows ∙ (λ i. cond (here i) 1 0 + rest i)
+
+portfolio-none : (capacity : Capacity) (span : Span) (documents : List Nomint) (wanted portfolio : List ℕ) → bytes_eq portfolio wanted ≡ false
+    → count_by (is_row_of span.side wanted) (portfolio_rows capacity span documents portfolio) ≡ 0
+unfolding portfolio_rows
+portfolio-none capacity span documents wanted portfolio other =
+    let lines = lines_in_force portfolio span.day documents in others_make-none capacity span wanted portfolio lines lines other
+
+counted-more : (capacity : Capacity) (span : Span) (documents : List Nomint) (wanted portfolio : List ℕ) (portfolios : List (List ℕ))
+    → count_by (is_row_of span.side wanted) (rows_for capacity span documents (portfolio ∷ portfolios))
+    ≡ count_by (is_row_of span.side wanted) (portfolio_rows capacity span documents portfolio) + count_by (is_row_of span.side wanted) (rows_for capacity span documents portfolios)
+counted-more capacity span documents wanted portfolio portfolios =
+    sum_by-append (λ (r : Row). cond (is_row_of span.side wanted r) 1 0) (portfolio_rows capacity span documents portfolio) (rows_for capacity span documents portfolios)
+
+others-none : (capacity : Capacity) (span : Span) (documents : List Nomint) (wanted : List ℕ) (portfolios : List (List ℕ)) → AllByRecursion (λ y. bytes_eq wanted y ≡ false) portfolios
+    → count_by (is_row_of span.side wanted) (rows_for capacity span documents portfolios) ≡ 0
+others-none capacity span documents wanted [] others = refl
+others-none capacity span documents wanted (p ∷ ps) others =
+    let here = portfolio-none capacity span documents wanted p (flips p wanted ∙ others.0) in
+    let rest = others-none capacity span documents wanted ps others.1 in
+    counted-more capacity span documents wanted p ps ∙ (λ i. here i + rest i)
+
+rows-few_of_each : (capacity : Capacity) (span : Span) (documents : List Nomint) (wanted : List ℕ) (portfolios : List (List ℕ)) → AreSound capacity documents span.day → IsDistinct bytes_eq portfolios
+    → count_by (is_row_of span.side wanted) (rows_for capacity span documents portfolios) ≤ most_lines
+unfolding IsDistinct
+rows-few_of_each capacity span documents wanted [] sound distinct = omega arith
+rows-few_of_each capacity span documents wanted (p ∷ ps) sound distinct = by_portfolio (bytes_eq p wanted) refl (rows-few_of_each capacity span documents wanted ps sound distinct.1)
+  where
+    by_portfolio : (same : Bool) → bytes_eq p wanted ≡ same → count_by (is_row_of span.side wanted) (rows_for capacity span documents ps) ≤ most_lines
+        → count_by (is_row_of span.side wanted) (rows_for capacity span documents (p ∷ ps)) ≤ most_lines
+    by_portfolio true e rest =
+        let same = (bytes_eq-Decides p wanted).0 e in
+        let others = others-none capacity span documents wanted ps (subst (λ (q : List ℕ). AllByRecursion (λ y. bytes_eq q y ≡ false) ps) same distinct.0) in
+        let some = count_by-le-length (is_row_of span.side wanted) (portfolio_rows capacity span documents p) in
+        omega (arith, counted-more capacity span documents wanted p ps, others, some, portfolio-few capacity span documents p sound)
+    by_portfolio false e rest = omega (arith, counted-more capacity span documents wanted p ps, portfolio-none capacity span documents wanted p e, rest)
+
+-- in the table of all of them each portfolio has few
+pub table-few_of_each : (capacity : Capacity) (documents : List Nomint) (span : Span) → CanProcess capacity documents span → HasFewOfEach span.side (span_table capacity span documents)
+table-few_of_each capacity documents span kept wanted =
+    let rows = processed_rows capacity span documents in
+    let moved = sum_by-IsPermutation (λ (r : Row). cond (is_row_of span.side wanted r) 1 0) rows (in_order rows) (in_order-permutation rows) in
+    omega (arith, moved, rows-few_of_each capacity span documents wanted (portfolios_of capacity.contracts) kept.sound kept.distinct)

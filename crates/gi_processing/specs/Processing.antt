@@ -1,12 +1,12 @@
 -- The processed quantities of a side: what is nominated in its gas day's hours, reduced to what is available.
 -- Source: Regulation (EU) 2015/703 names them; the formula is this project's.
-use Rattle.std.specs.Prelude.{◌≡◌, ◌↔◌, ℕ, ◌-◌, ◌<◌, ◌≤◌, List, [], length, map, slice_index, sum, Contains, Option, Some, None, true}
+use Rattle.std.specs.Prelude.{◌≡◌, ◌↔◌, ℕ, ◌-◌, ◌<◌, ◌≤◌, List, [], length, map, slice_index, sum, count_by, Contains, Option, Some, None, Bool, true}
 use Rattle.std.specs.List.{IsDistinct, flat_map, range_with_len}
 use Rattle.std.specs.Str.{bytes_eq}
 use Rattle.jiff_core.specs.declared.civil.date.Date.{Date}
 use Rattle.gi_day.specs.Cycles.{first_hour, hour_count}
 use Rattle.gi_pairs.specs.Limits.{last_hour}
-use Rattle.gi_pairs.specs.Pair.{pair_of}
+use Rattle.gi_pairs.specs.Pair.{code_at, pair_of}
 use Rattle.gi_pairs.specs.Table.{TableContents, IsTable, covered, in_order, keys_of, reading}
 use Rattle.gi_pairs.specs.declared.direction.Direction.{Direction}
 use Rattle.gi_pairs.specs.declared.key.Key.{Key}
@@ -15,7 +15,7 @@ use Rattle.gi_pairs.specs.declared.side.Side.{Side}
 use Rattle.gi_messages.specs.declared.nomination_line.NominationLine.{NominationLine}
 use Rattle.gi_messages.specs.declared.message.Nomint.{Nomint}
 use Rattle.gi_nominations.specs.Book.{in_force}
-use Rattle.gi_nominations.specs.Lines.{lines_fault}
+use Rattle.gi_nominations.specs.Lines.{lines_fault, most_lines}
 use Rattle.gi_processing.specs.Capacity.{Capacity, available, knows}
 use Rattle.gi_processing.specs.CapacityLimits.{most_portfolios}
 use Rattle.gi_processing.specs.Recording.{portfolios_of}
@@ -107,6 +107,14 @@ span_of side day cycle rule = record { side = side; day = day; first = first_hou
 -- the processed table of a cycle by a rule
 unfoldable pub processed : Capacity → List Nomint → Side → Date → ℕ → Rule → TableContents
 processed capacity documents side day cycle rule = span_table capacity (span_of side day cycle rule) documents
+
+-- whether a row is of a portfolio of the side
+abbrev pub is_row_of : Side → List ℕ → Row → Bool
+is_row_of side portfolio row = bytes_eq (code_at side row.pair) portfolio
+
+-- each portfolio of the side has at most as many rows as a nomination has lines
+abbrev pub HasFewOfEach : Side → TableContents → Type 0
+HasFewOfEach side table = (portfolio : List ℕ) → count_by (is_row_of side portfolio) table.rows ≤ most_lines
 
 -- Each nomination in force of the gas day is of a portfolio that has a contract, and its lines have no fault.
 pub record IsSound (capacity : Capacity) (day : Date) (portfolio : List ℕ) (document : Nomint) : Type 0 where

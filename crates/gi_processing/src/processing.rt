@@ -4,7 +4,7 @@ ghost use Rattle.gi_day.specs.Cycles.{hour_count, IsCycle};
 ghost use Rattle.gi_nominations.specs.Lines.{lines_fault, most_lines};
 ghost use Rattle.gi_pairs.specs.Table.{IsTable, built};
 ghost use Rattle.gi_pairs.specs.Limits.{most_processed_rows};
-ghost use Rattle.gi_processing.specs.Processing.{AreSound, CanProcess, IsProcessed, IsSpan, columns, group_row, portfolio_rows, processed as processed_table, processed_row, processed_rows, row_at, ruled_row, span_table};
+ghost use Rattle.gi_processing.specs.Processing.{AreSound, CanProcess, HasFewOfEach, IsProcessed, IsSpan, columns, group_row, portfolio_rows, processed as processed_table, processed_row, processed_rows, row_at, ruled_row, span_table};
 ghost use Rattle.gi_processing.specs.Reduction.{AreOrdered, has_priority, in_direction, referred};
 ghost use Rattle.gi_processing.specs.declared.rule.Rule.TheVariants.{Two};
 
@@ -266,6 +266,7 @@ pub fn processed(
     ensures value { IfOk result (λ table. table ≡ processed_table contracts.now book.now.documents side frame.now cycle rule) }
     ensures law { IfOk result (IsProcessed contracts.now book.now.documents side frame.now cycle rule) }
     ensures few { IfOk result (λ table. length table.rows ≤ most_processed_rows) }
+    ensures few_of_each { IfOk result (HasFewOfEach side) }
 {
     let frame = *frame;
     let span = Span {

@@ -47,6 +47,7 @@ of_station side point facts fault.TooLarge is = absurd is
 of_station side point facts fault.Lines is = absurd is
 of_station side point facts (fault.Message a b) is = absurd is
 of_station side point facts (fault.WrongKind a) is = absurd is
+of_station side point facts (fault.Parts a) is = absurd is
 of_station side point facts fault.ShapeDiffers is = absurd is
 of_station side point facts (fault.Day a) is = absurd is
 of_station side point facts (fault.Calendar a) is = absurd is

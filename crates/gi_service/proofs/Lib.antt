@@ -4,3 +4,4 @@ mod Opened
 mod Unasked
 pub mod Told
 mod Begun
+mod Copied

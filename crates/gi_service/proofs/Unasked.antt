@@ -24,21 +24,21 @@ use Rattle.gi_service.specs.declared.program_fault.ProgramFault.TheVariants.{Com
 pub may_want : (from : Source) (wanted : Wanted) (remaining : Option (List ℕ)) → IsTaskFault from wanted remaining (Command fault.OutOfMemory)
 may_want from (at_once match_tables) remaining = if_some remaining (λ input. OfTables (IsFirstFault input) fault.OutOfMemory) (λ input. (table.OutOfMemory, refl, tt))
 may_want from (at_once (hours day)) remaining = (table.OutOfMemory, refl, tt)
-may_want from (at_once (simulate trace)) remaining = if_some remaining (λ input. IsFirstScriptFault HasScript input fault.OutOfMemory) (λ input. tt)
+may_want from (at_once (simulate trace strict)) remaining = if_some remaining (λ input. IsFirstScriptFault HasScript input fault.OutOfMemory) (λ input. tt)
 may_want from (at_once (report kind format side words book)) remaining = inl refl
 may_want from (at_once (explain format side words book)) remaining = inl refl
 may_want from (at_once (page side word book)) remaining = inl refl
 may_want from (at_once (audit format initiating matching point)) remaining = tt
 may_want from (at_once (about_book file expected)) remaining = tt
 may_want from (at_once mistaken) remaining = inr refl
-may_want from (serve service) remaining = if_some remaining (λ input. IsFirstServeFault service.sessions input (Command fault.OutOfMemory)) (λ input. inl tt)
+may_want from (serve service) remaining = (tt, if_some remaining (λ input. IsFirstServeFault service.sessions input (Command fault.OutOfMemory)) (λ input. inl tt))
 may_want from (office run) remaining = inr tt
 
 -- each command may have read nothing
 pub may_leave : (wanted : Wanted) (remaining : Option (List ℕ)) → MayReadTask wanted remaining remaining
 may_leave (at_once match_tables) remaining = tt
 may_leave (at_once (hours day)) remaining = keeps_same remaining
-may_leave (at_once (simulate trace)) remaining = tt
+may_leave (at_once (simulate trace strict)) remaining = tt
 may_leave (at_once (report kind format side words None)) remaining = tt
 may_leave (at_once (report kind format side words (Some book))) remaining = keeps_same remaining
 may_leave (at_once (explain format side words None)) remaining = tt
@@ -55,7 +55,7 @@ may_leave (office run) remaining = tt
 pub may_keep : (from : Source) (wanted : Wanted) (remaining old new : Option (List ℕ)) → Keeps old new → LeavesTask from wanted remaining old new (Command fault.OutOfMemory)
 may_keep from (at_once match_tables) remaining old new kept = kept
 may_keep from (at_once (hours day)) remaining old new kept = kept
-may_keep from (at_once (simulate trace)) remaining old new kept = if_some remaining (λ input. CutsShort trace input old new) (λ input. inl kept)
+may_keep from (at_once (simulate trace strict)) remaining old new kept = if_some remaining (λ input. CutsShort trace input old new) (λ input. inl kept)
 may_keep from (at_once (report kind format side words book)) remaining old new kept = kept
 may_keep from (at_once (explain format side words book)) remaining old new kept = kept
 may_keep from (at_once (page side word book)) remaining old new kept = kept

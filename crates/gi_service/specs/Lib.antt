@@ -3,6 +3,7 @@ pub mod Living
 pub mod Stations
 pub mod Opening
 pub mod Standing
+pub mod Copies
 pub mod Pasts
 pub mod Status
 pub mod Serving

@@ -9,7 +9,7 @@ use Rattle.gi_live.specs.Lines.{lines_left}
 use Rattle.gi_live.specs.Stretches.{IsPaused, RunsInPart, RunsWhole}
 use Rattle.gi_service.specs.Stations.{IsStationFault}
 use Rattle.gi_service.specs.declared.program_fault.ProgramFault.{ProgramFault}
-use Rattle.gi_service.specs.declared.program_fault.ProgramFault.TheVariants.{Closed, Command, Live, Served}
+use Rattle.gi_service.specs.declared.program_fault.ProgramFault.TheVariants.{Closed, Command, Live, Refused, Served}
 
 -- the desk with which a run begins: it is of the point, all its facts are saved, it is not halted, and a desk would record them so
 pub record Begins (side : Side) (point : List ℕ) (desk : DeskState) : Type 0 where
@@ -30,6 +30,7 @@ RunsOffice side point input before after = (desk : DeskState) × Begins side poi
 abbrev pub IsFirstOfficeFault : Side → List ℕ → ProgramFault → Type 0
 IsFirstOfficeFault side point (Command why) = ((why ≡ no_code) × ¬ (IsCode point)) ⊎ IsStationFault side point why
 IsFirstOfficeFault side point (Served why) = ⊥
+IsFirstOfficeFault side point (Refused count) = ⊥
 IsFirstOfficeFault side point (Live why) = Unit {0}
 IsFirstOfficeFault side point (Closed why) = Unit {0}
 
@@ -37,5 +38,6 @@ IsFirstOfficeFault side point (Closed why) = Unit {0}
 abbrev pub LeavesOffice : Side → List ℕ → Option (List ℕ) → Option (List ℕ) → Option (List ℕ) → ProgramFault → Type 0
 LeavesOffice side point input before after (Command why) = Keeps before after
 LeavesOffice side point input before after (Served why) = ⊥
+LeavesOffice side point input before after (Refused count) = ⊥
 LeavesOffice side point input before after (Live why) = (desk : DeskState) × Begins side point desk × RunsInPart side desk (lines_left None input) before after why
 LeavesOffice side point input before after (Closed why) = RunsOffice side point input before after

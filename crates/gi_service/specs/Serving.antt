@@ -1,5 +1,5 @@
 -- What both running offices write of a script, and the faults of that in their order.
-use Rattle.std.specs.Prelude.{◌≡◌, ◌<◌, ◌≤◌, ◌⊎◌, ℕ, List, length, Option, Some, IfSome, Result, Ok, Err}
+use Rattle.std.specs.Prelude.{◌≡◌, ◌≢◌, ◌<◌, ◌≤◌, ◌⊎◌, ℕ, Bool, false, List, length, Option, Some, IfSome, Result, Ok, Err}
 use Rattle.std.specs.Io.KnownBytes.{Appends, Keeps}
 use Rattle.gi_pairs.specs.declared.side.Side.{Side}
 use Rattle.gi_pairs.specs.declared.side.Side.TheVariants.{I, M}
@@ -9,10 +9,12 @@ use Rattle.gi_store.specs.declared.store_fault.StoreFault.{StoreFault}
 use Rattle.gi_store.specs.declared.store_fault.StoreFault.TheVariants as store
 use Rattle.gi_commands.specs.declared.fault.Fault.{Fault}
 use Rattle.gi_commands.specs.declared.fault.Fault.TheVariants as fault
-use Rattle.gi_serving.specs.Ending.{IsOver}
+use Rattle.gi_serving.specs.Ending.{Ends, IsOver}
+use Rattle.gi_serving.specs.Making.{MakesSome, new_offices}
 use Rattle.gi_serving.specs.declared.serve_fault.ServeFault.{ServeFault}
+use Rattle.gi_serving.specs.declared.serve_fault.ServeFault.TheVariants as serve
 use Rattle.gi_service.specs.declared.program_fault.ProgramFault.{ProgramFault}
-use Rattle.gi_service.specs.declared.program_fault.ProgramFault.TheVariants.{Closed, Command, Live, Served}
+use Rattle.gi_service.specs.declared.program_fault.ProgramFault.TheVariants.{Closed, Command, Live, Refused, Served}
 use Rattle.gi_service.specs.Pasts.{IsPastsFault}
 use Rattle.gi_service.specs.Standing.{IsPrefixFault}
 use Rattle.gi_service.specs.Stations.{IsStationFault}
@@ -21,20 +23,34 @@ use Rattle.gi_service.specs.Stations.{IsStationFault}
 abbrev pub End : Type 0
 End = Result (Unit {0}) ServeFault
 
--- What is promised of what both offices make of a script, each with so many sessions: the text tells the pieces of the script in
--- order and ends with the last lines of both, handed all their seats; or the run was cut off, and it tells the first pieces alone.
-abbrev pub IsServedFrom : ℕ → ScriptContents → List ℕ → End → Type 0
-IsServedFrom sessions script text end = IsOver sessions script.lines text end
+-- What is promised of what both offices write of a script, each with so many sessions: the text tells the pieces of the script in
+-- order and ends with the last lines of both, handed all their seats; or the run was cut off, and it tells the first pieces alone;
+-- or the writer failed behind some of them.
+abbrev pub IsServedFrom : ℕ → ScriptContents → Option (List ℕ) → Option (List ℕ) → End → Type 0
+IsServedFrom sessions script old new end = (count : ℕ) × Ends sessions script.lines count old new end
 
 -- the input spells the script, which has only lines that a running office takes
 abbrev pub IsInputOf : ScriptContents → List ℕ → Type 0
 IsInputOf script input = (length input ≤ most_input) × IsOfficeScript input script
 
--- what both offices make of the script that the input spells
+-- what both offices tell of the script that the input spells
 pub record IsServedText (sessions : ℕ) (input text : List ℕ) (end : End) : Type 0 where
   pub script : ScriptContents
   pub spelled : IsInputOf script input
-  pub served : IsServedFrom sessions script text end
+  pub served : IsOver sessions script.lines text end
+
+-- and what they write of it
+pub record IsServed (sessions : ℕ) (input : List ℕ) (old new : Option (List ℕ)) (end : End) : Type 0 where
+  pub script : ScriptContents
+  pub spelled : IsInputOf script input
+  pub served : IsServedFrom sessions script old new end
+
+-- the first lines of that script are made, perhaps none and perhaps all
+pub record MakesFront (sessions : ℕ) (input : List ℕ) : Type 0 where
+  pub script : ScriptContents
+  pub spelled : IsInputOf script input
+  pub count : ℕ
+  pub made : MakesSome sessions script.lines count (new_offices sessions)
 
 -- ---- the faults
 
@@ -62,22 +78,26 @@ HasBooksFault input why = (script : ScriptContents) × IsInputOf script input ×
 abbrev pub IsTextFault : List ℕ → Fault → Type 0
 IsTextFault input why = IsScriptFault input why ⊎ HasBooksFault input why
 
--- the first fault: of the input, of the books, of the writer, of the run, of closing the books
+-- The first fault: of the input, of the books, of the run or of the writer, whichever comes first, of closing the books.
 abbrev pub IsFirstServeFault : ℕ → List ℕ → ProgramFault → Type 0
-IsFirstServeFault sessions input (Command fault.Write) = (text : List ℕ) × (end : End) × IsServedText sessions input text end
+IsFirstServeFault sessions input (Command fault.Write) = MakesFront sessions input
 IsFirstServeFault sessions input (Command why) = IsTextFault input why
 IsFirstServeFault sessions input (Served why) = (text : List ℕ) × IsServedText sessions input text (Err why)
 IsFirstServeFault sessions input (Live why) = ⊥
+IsFirstServeFault sessions input (Refused count) = ⊥
 IsFirstServeFault sessions input (Closed why) = (text : List ℕ) × IsServedText sessions input text (Ok tt)
 
--- why a text is not told well: the writer failed; or the text is written and tells of a run that ended by a fault, or of one that ended
--- well, whose books were not closed
-abbrev pub IsToldFault : List ℕ → End → Result (Unit {0}) StoreFault → Option (List ℕ) → Option (List ℕ) → ProgramFault → Type 0
-IsToldFault text end closed old new (Command fault.Write) = Unit {0}
-IsToldFault text end closed old new (Command _) = ⊥
-IsToldFault text end closed old new (Served why) = (end ≡ Err why) × Appends old new text
-IsToldFault text end closed old new (Live why) = ⊥
-IsToldFault text end closed old new (Closed why) = (end ≡ Ok tt) × (closed ≡ Err why) × Appends old new text
+-- of a dry run, which opens no book in a file, it is never told that one was not closed
+abbrev pub MayBeTold : Bool → ProgramFault → Type 0
+MayBeTold dry_run (Closed why) = dry_run ≡ false
+MayBeTold dry_run _ = Unit {0}
+
+-- why a run is not done: the writer failed; or it ended by another fault; or it ended well, and its books were not closed
+abbrev pub IsUndone : End → Result (Unit {0}) StoreFault → ProgramFault → Type 0
+IsUndone end closed why =
+    ((end ≡ Err serve.Write) × (why ≡ Command fault.Write))
+    ⊎ ((fault : ServeFault) × (end ≡ Err fault) × (fault ≢ serve.Write) × (why ≡ Served fault))
+    ⊎ ((fault : StoreFault) × (end ≡ Ok tt) × (closed ≡ Err fault) × (why ≡ Closed fault))
 
 -- ---- what is written
 
@@ -92,5 +112,6 @@ LeavesServed sessions remaining old new (Command why) = Keeps old new
 LeavesServed sessions remaining old new (Served why) =
     IfSome remaining (λ input. (text : List ℕ) × IsServedText sessions input text (Err why) × Appends old new text)
 LeavesServed sessions remaining old new (Live why) = ⊥
+LeavesServed sessions remaining old new (Refused count) = ⊥
 LeavesServed sessions remaining old new (Closed why) =
     IfSome remaining (λ input. (text : List ℕ) × IsServedText sessions input text (Ok tt) × Appends old new text)

@@ -12,7 +12,7 @@ use Rattle.gi_serving.specs.declared.serve_fault.ServeFault.{ServeFault}
 use Rattle.gi_serving.specs.declared.serve_fault.ServeFault.TheVariants.{OutOfMemory, Turn, Unreconciled}
 use Rattle.gi_store.specs.declared.store_fault.StoreFault.TheVariants as stores
 use Rattle.gi_service.specs.declared.program_fault.ProgramFault.{ProgramFault}
-use Rattle.gi_service.specs.declared.program_fault.ProgramFault.TheVariants.{Closed, Command, Live, Served}
+use Rattle.gi_service.specs.declared.program_fault.ProgramFault.TheVariants.{Closed, Command, Live, Refused, Served}
 
 -- of a turn that saves: 3 where the book failed, 4 where memory ran out, the book's too
 abbrev pub turn_status : SaveFault → ℕ
@@ -38,5 +38,6 @@ abbrev pub program_status : ProgramFault → ℕ
 program_status (Command why) = status_of why
 program_status (Served why) = serve_status why
 program_status (Live why) = live_status why
+program_status (Refused count) = 1
 program_status (Closed stores.OutOfMemory) = 4
 program_status (Closed why) = 3

@@ -1,15 +1,16 @@
 -- What the program does of all that can be asked of it, and its faults.
-use Rattle.std.specs.Prelude.{ℕ, List, Option, IfSome}
-use Rattle.gi_command_line.specs.Asked.{Wanted, at_once, office, serve}
+use Rattle.std.specs.Prelude.{◌≡◌, ◌<◌, ℕ, List, Option, IfSome, true}
+use Rattle.gi_command_line.specs.Asked.{Wanted, at_once, is_strict, office, serve}
 use Rattle.gi_pairs.specs.Code.{IsCode}
 use Rattle.gi_commands.specs.Commands.{Does, HasNoCode, IsFaultOf, Leaves, MayRead}
 use Rattle.gi_commands.specs.Fault.{no_code}
 use Rattle.gi_commands.specs.Leaving.{LeavesNothing}
 use Rattle.gi_store.specs.Source.{Source}
 use Rattle.gi_service.specs.Living.{IsFirstOfficeFault, LeavesOffice, RunsOffice, input_of}
-use Rattle.gi_service.specs.Serving.{IsFirstServeFault, LeavesServed, Serves}
+use Rattle.gi_refusals.specs.Refusals.{refused_told}
+use Rattle.gi_service.specs.Serving.{IsFirstServeFault, LeavesServed, MayBeTold, Serves}
 use Rattle.gi_service.specs.declared.program_fault.ProgramFault.{ProgramFault}
-use Rattle.gi_service.specs.declared.program_fault.ProgramFault.TheVariants.{Command}
+use Rattle.gi_service.specs.declared.program_fault.ProgramFault.TheVariants.{Command, Refused}
 
 -- `from` says what may come of reading a book, by its file's name; `serve` and `office` open their books by themselves.
 
@@ -23,7 +24,7 @@ DoesTask from (office run) remaining old new = RunsOffice run.side run.point (in
 abbrev pub IsTaskFault : Source → Wanted → Option (List ℕ) → ProgramFault → Type 0
 IsTaskFault from (at_once asked) remaining (Command why) = IsFaultOf from asked remaining why
 IsTaskFault from (at_once asked) remaining _ = ⊥
-IsTaskFault from (serve service) remaining why = IfSome remaining (λ input. IsFirstServeFault service.sessions input why)
+IsTaskFault from (serve service) remaining why = MayBeTold service.dry_run why × IfSome remaining (λ input. IsFirstServeFault service.sessions input why)
 IsTaskFault from (office run) remaining why = IsFirstOfficeFault run.side run.point why
 
 -- what stands on the output after it
@@ -52,3 +53,24 @@ NamesNoCode (office run) = ¬ (IsCode run.point)
 
 abbrev pub no_task_code : ProgramFault
 no_task_code = Command no_code
+
+-- ---- what is asked strictly
+
+-- so many of the lines that the output holds tell a refusal, where it is known what it holds
+abbrev pub HoldsRefused : Option (List ℕ) → ℕ → Type 0
+HoldsRefused held count = IfSome held (λ bytes. count ≡ refused_told bytes)
+
+-- what is asked strictly and was done fails where one does
+abbrev pub IsStrictFault : Wanted → Option (List ℕ) → ProgramFault → Type 0
+IsStrictFault wanted held (Refused count) = (is_strict wanted ≡ true) × (0 < count) × HoldsRefused held count
+IsStrictFault wanted held _ = ⊥
+
+-- the first fault: it comes behind all others
+abbrev pub IsEndFault : Source → Wanted → Option (List ℕ) → Option (List ℕ) → ProgramFault → Type 0
+IsEndFault from wanted remaining held (Refused count) = IsStrictFault wanted held (Refused count)
+IsEndFault from wanted remaining held why = IsTaskFault from wanted remaining why
+
+-- what stands on the output after it: all that is asked for, where a step was refused
+abbrev pub LeavesEnd : Source → Wanted → Option (List ℕ) → Option (List ℕ) → Option (List ℕ) → ProgramFault → Type 0
+LeavesEnd from wanted remaining old new (Refused count) = DoesTask from wanted remaining old new
+LeavesEnd from wanted remaining old new why = LeavesTask from wanted remaining old new why

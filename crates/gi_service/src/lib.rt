@@ -3,9 +3,11 @@
 //! written, and the faults in their order.
 #![tactic(auto)]
 
+mod copies;
 mod dispatching;
 mod living;
 mod places;
+mod placing;
 mod program_fault;
 mod progress;
 mod service;
@@ -13,10 +15,11 @@ mod standing;
 mod stations;
 mod tasks;
 mod teaching;
+mod telling;
 
 pub use dispatching::dispatch;
 pub use living::run_office;
 pub use program_fault::ProgramFault;
 pub use progress::Progress;
 pub use service::serve_script;
-pub use tasks::perform_task;
+pub use tasks::{perform_task, perform_whole};

@@ -3,6 +3,7 @@
 ghost use Rattle.std.specs.Prelude.{◌≡◌, IfErr, IfOk, None, false, string_bytes, true};
 ghost use Rattle.sqlite.specs.Files.{file_state};
 ghost use Rattle.sqlite.specs.State.{HasCleanDisk};
+ghost use Rattle.gi_audit.specs.Agreeing.{Agree};
 ghost use Rattle.gi_store.specs.FaultText.{IsOpenRefusal};
 ghost use Rattle.gi_store.specs.Keeping.{IsReady};
 ghost use Rattle.gi_service.specs.Serving.{IsFilesFault};
@@ -12,7 +13,9 @@ use crate::standing::{Found, facts_in, found, left, may_open, stands};
 use crate::stations::one_past;
 use gi_command_line::WaitSeconds;
 use gi_commands::Fault;
-use gi_desk::Fact;
+use gi_desk::{Desk, Fact};
+use gi_initiator::Initiating;
+use gi_matcher::Matching;
 use gi_pairs::{Code, Side};
 use gi_store::{
     BookStore, FileSource, Owner, StoreFault, book_of_file, close_book, head_of_file, left_head,
@@ -70,16 +73,17 @@ pub(crate) struct InMemory {
 }
 
 impl Place for InMemory {
-    ghost use Rattle.std.specs.Prelude.{◌≡◌, None, length};
+    ghost use Rattle.std.specs.Prelude.{◌≡◌, [], None, length};
     ghost use Rattle.sqlite.specs.Held.{state};
     ghost use Rattle.sqlite.specs.Steps.{over_memory};
     ghost use Rattle.gi_store.specs.Book.{counted};
     ghost use Rattle.gi_store.specs.FaultText.{IsPreparingRefusal};
     ghost use Rattle.gi_store.specs.Keeping.{IsReady};
+    ghost use Rattle.gi_store.specs.Rows.{facts_in};
 
     type Store = MemStore;
 
-    ghost opens = { λ place side book. (book.loaded ≡ None) × IsReady (record { side = side; point = place.point }) (state over_memory book.connection) };
+    ghost opens = { λ place side book. (book.loaded ≡ None) × IsReady (record { side = side; point = place.point }) (state over_memory book.connection) × (facts_in (state over_memory book.connection).now ≡ []) };
 
     ghost keeps = { λ _ _ facts book. book.loaded ≡ counted (length facts) };
 
@@ -119,6 +123,9 @@ pub(crate) struct InFiles<'a> {
     wait: WaitSeconds,
 }
 
+/// What both books make: a desk of each side, which have one past.
+pub(crate) type Past = (Desk<Initiating>, Desk<Matching>);
+
 /// How often a book in use is tried in a second.
 const TRIES: u32 = 10;
 
@@ -140,15 +147,17 @@ pub(crate) fn looked_at(rt: &HostRuntime, name: &str, owner: Owner) -> Found {
     }
 }
 
-/// Whether both books are to be made, by what is found under their names, before anything is opened.
+/// The desks that both books make, and whether they are to be made, by what is found under their names, before anything
+/// is opened.
 fn may_open_both(
     rt: &HostRuntime,
     initiating: &str,
     matching: &str,
     point: Code,
     only_old: bool,
-) -> Result<bool, Fault>
-    ensures old { IfOk result (λ is_new. only_old ≡ true → is_new ≡ false) }
+) -> Result<(Past, bool), Fault>
+    ensures old { IfOk result (λ found. only_old ≡ true → found.1 ≡ false) }
+    ensures agreed { IfOk result (λ found. Agree found.0.0 found.0.1) }
     ensures fault { IfErr result (IsFilesFault point) }
 {
     let alloc = rt.alloc();
@@ -163,8 +172,10 @@ fn may_open_both(
             return Err(fault);
         }
     };
-    one_past(alloc, point, facts_in(alloc, ours), facts_in(alloc, theirs))?;
-    Ok(is_new)
+    match one_past(alloc, point, facts_in(alloc, ours), facts_in(alloc, theirs)) {
+        Ok(past) => Ok((past, is_new)),
+        Err(fault) => Err(fault),
+    }
 }
 
 /// Tells on a terminal that both books are made.
@@ -172,6 +183,30 @@ fn tell_new(rt: &HostRuntime, prefix: &str) {
     let mut errors = rt.stderr();
     if errors.is_terminal() {
         let _ = write!(errors, "new books: {prefix}-I.db and {prefix}-M.db\n");
+    }
+}
+
+/// The desks that the books of a prefix make, as they are found in copies: of books that are to be made, desks with no
+/// facts, and then that is told. The first fault is that of [`InFiles::at`].
+pub(crate) fn past_of(
+    rt: &HostRuntime,
+    prefix: &str,
+    point: Code,
+    only_old: bool,
+) -> Result<Past, Fault>
+    ensures agreed { IfOk result (λ past. Agree past.0 past.1) }
+    ensures fault { IfErr result (IsFilesFault point) }
+{
+    let initiating = name_of(rt, prefix, Side::I)?;
+    let matching = name_of(rt, prefix, Side::M)?;
+    match may_open_both(rt, &initiating, &matching, point, only_old) {
+        Ok((past, is_new)) => {
+            if is_new {
+                tell_new(rt, prefix);
+            }
+            Ok(past)
+        }
+        Err(fault) => Err(fault),
     }
 }
 
@@ -189,15 +224,11 @@ impl<'a> InFiles<'a> {
     ) -> Result<InFiles<'a>, Fault>
         ensures { IfErr result (IsFilesFault point) }
     {
-        let initiating = name_of(rt, prefix, Side::I)?;
-        let matching = name_of(rt, prefix, Side::M)?;
-        if may_open_both(rt, &initiating, &matching, point, only_old)? {
-            tell_new(rt, prefix);
-        }
+        drop(past_of(rt, prefix, point, only_old)?);
         Ok(InFiles {
             rt,
-            initiating,
-            matching,
+            initiating: name_of(rt, prefix, Side::I)?,
+            matching: name_of(rt, prefix, Side::M)?,
             point,
             wait,
         })

@@ -25,6 +25,9 @@ pub enum ProgramFault {
     /// What had a book in a file ended well, and then the book could not be closed.
     #[error(transparent)]
     Closed(StoreFault),
+    /// What was asked for strictly was done, and so many steps were refused.
+    #[error("{0} refused")]
+    Refused(u64),
 }
 
 impl From<TableFault> for ProgramFault {
@@ -83,6 +86,7 @@ impl ProgramFault {
             ProgramFault::Live(fault) => status_of_live(fault),
             ProgramFault::Closed(StoreFault::OutOfMemory) => 4,
             ProgramFault::Closed(_) => 3,
+            ProgramFault::Refused(_) => 1,
         }
     }
 }

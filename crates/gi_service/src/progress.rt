@@ -1,14 +1,15 @@
 ghost use Rattle.std.specs.Prelude.{◌≡◌};
 
 use gi_serving::Watch;
-use std::io::{IsTerminal, Stderr, Write};
+use std::io::{IsTerminal, Stderr, Stdout, Write};
 use std::marker::Model;
 
 /// The least lines of a script of which it is told how far it is.
 const LONG: usize = 1000;
 
 /// Tells how far a long run is on one line of a terminal, which is rewritten at each hundredth, and
-/// wiped away at the end. Where standard error is no terminal it tells nothing.
+/// wiped away at the end. Where standard error is no terminal it tells nothing, nor where standard output is
+/// one too, which is told of each line.
 #[derive(Drop)]
 pub struct Progress {
     errors: Stderr,
@@ -31,10 +32,10 @@ impl Model for Progress {
 
 impl Progress {
     /// Nothing is told yet.
-    pub fn new(errors: Stderr) -> Progress
+    pub fn new(errors: Stderr, output: &Stdout) -> Progress
         ensures { result ≡ (0, 0) }
     {
-        let is_told = errors.is_terminal();
+        let is_told = errors.is_terminal() && !output.is_terminal();
         Progress {
             errors,
             is_told,

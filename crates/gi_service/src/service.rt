@@ -1,14 +1,15 @@
-ghost use Rattle.std.specs.Prelude.{◌≡◌, IfErr, IfOk, IfSome, Ok, OnOk, string_bytes};
-ghost use Rattle.std.specs.Io.KnownBytes.{Appends};
-ghost use Rattle.gi_service.specs.Serving.{IsFilesFault, IsFirstServeFault, IsInputOf, IsScriptFault, IsServedFrom, IsServedText, IsTextFault, IsToldFault, LeavesServed, Serves};
+ghost use Rattle.std.specs.Prelude.{◌≡◌, IfErr, IfOk, IfSome, Ok, OnErr, OnOk, true};
+ghost use Rattle.std.specs.Io.KnownBytes.{Keeps};
+ghost use Rattle.gi_service.specs.Serving.{IsFilesFault, IsFirstServeFault, IsInputOf, IsScriptFault, IsServed, IsServedFrom, IsTextFault, IsUndone, LeavesServed, MayBeTold, Serves};
 
+use crate::copies::InCopies;
 use crate::places::{InFiles, InMemory};
 use crate::program_fault::ProgramFault;
 use crate::stations::served;
 use gi_command_line::{Service, Sessions};
 use gi_commands::{Fault, read_input};
 use gi_script::{Script, read_office_script};
-use gi_serving::{Served, Watch};
+use gi_serving::{ServeFault, Watch};
 use gi_store::StoreFault;
 use gi_table_commands::Calls;
 use std::alloc::Global;
@@ -24,82 +25,143 @@ fn script_of<R: Read>(alloc: Global, input: &mut R) -> Result<Script, Fault>
     Ok(read_office_script(alloc, bytes.as_slice())?)
 }
 
-/// What came of a script, and of closing the books that it was served over.
-type Done = (Served, Result<(), StoreFault>);
+/// How a script ended, and what came of closing the books that it was served over.
+type Done = (Result<(), ServeFault>, Result<(), StoreFault>);
 
-fn served_in_memory<T: Threads + Wait + Sync, V: Watch>(
+fn served_in_memory<T: Threads + Wait + Sync, V: Watch, O: Write>(
     threads: &T,
     watch: &mut V,
     alloc: Global,
     script: &Script,
     sessions: Sessions,
+    output: &mut O,
 ) -> Result<Done, Fault>
-    ensures served { IfOk result (λ done. IsServedFrom sessions script.now (string_bytes done.0.text) done.0.end) }
+    ensures served { IfOk result (λ done. IsServedFrom sessions script.now (O.contents output.old) (O.contents output.new) done.0) }
+    ensures none { IfOk result (λ done. done.1 ≡ Ok tt) }
+    ensures unwritten { OnErr result (Keeps (O.contents output.old) (O.contents output.new)) }
     ensures fault { IfErr result (IsFilesFault script.now.point) }
 {
     let point = script.point();
     let place = InMemory { alloc, point };
-    match served(threads, watch, alloc, script, sessions, &place) {
-        Ok(served) => Ok((served, Ok(()))),
+    match served(threads, watch, alloc, script, sessions, &place, output) {
+        Ok(end) => Ok((end, Ok(()))),
         Err(fault) => Err(fault),
     }
 }
 
-fn served_in_files<T: Threads + Wait + Sync, V: Watch>(
+fn served_in_copies<T: Threads + Wait + Sync, V: Watch, O: Write>(
     rt: &HostRuntime,
     threads: &T,
     watch: &mut V,
     script: &Script,
     service: &Service<'_>,
     prefix: &str,
+    output: &mut O,
 ) -> Result<Done, Fault>
-    ensures served { IfOk result (λ done. IsServedFrom service.now.sessions script.now (string_bytes done.0.text) done.0.end) }
+    ensures served { IfOk result (λ done. IsServedFrom service.now.sessions script.now (O.contents output.old) (O.contents output.new) done.0) }
+    ensures none { IfOk result (λ done. done.1 ≡ Ok tt) }
+    ensures unwritten { OnErr result (Keeps (O.contents output.old) (O.contents output.new)) }
+    ensures fault { IfErr result (IsFilesFault script.now.point) }
+{
+    let place = InCopies::of(rt, prefix, script.point(), service.only_old)?;
+    match served(
+        threads,
+        watch,
+        rt.alloc(),
+        script,
+        service.sessions,
+        &place,
+        output,
+    ) {
+        Ok(end) => Ok((end, Ok(()))),
+        Err(fault) => Err(fault),
+    }
+}
+
+fn served_in_files<T: Threads + Wait + Sync, V: Watch, O: Write>(
+    rt: &HostRuntime,
+    threads: &T,
+    watch: &mut V,
+    script: &Script,
+    service: &Service<'_>,
+    prefix: &str,
+    output: &mut O,
+) -> Result<Done, Fault>
+    ensures served { IfOk result (λ done. IsServedFrom service.now.sessions script.now (O.contents output.old) (O.contents output.new) done.0) }
+    ensures unwritten { OnErr result (Keeps (O.contents output.old) (O.contents output.new)) }
     ensures fault { IfErr result (IsFilesFault script.now.point) }
 {
     let place = InFiles::at(rt, prefix, script.point(), service.wait, service.only_old)?;
-    match served(threads, watch, rt.alloc(), script, service.sessions, &place) {
+    match served(
+        threads,
+        watch,
+        rt.alloc(),
+        script,
+        service.sessions,
+        &place,
+        output,
+    ) {
         // (a book that failed is left as it is: to close it would begin its log anew)
-        Ok(served) => match &served.end {
-            Ok(()) => Ok((served, place.close())),
-            Err(_) => Ok((served, Ok(()))),
+        Ok(end) => match &end {
+            Ok(()) | Err(ServeFault::Write) => Ok((end, place.close())),
+            Err(_) => Ok((end, Ok(()))),
         },
         Err(fault) => Err(fault),
     }
 }
 
-fn text_of<R: Read, T: Threads + Wait + Sync, V: Watch>(
+/// Serves a script over the books that are asked for.
+fn served_over_books<T: Threads + Wait + Sync, V: Watch, O: Write>(
+    rt: &HostRuntime,
+    threads: &T,
+    watch: &mut V,
+    script: &Script,
+    service: &Service<'_>,
+    output: &mut O,
+) -> Result<Done, Fault>
+    ensures served { IfOk result (λ done. IsServedFrom service.now.sessions script.now (O.contents output.old) (O.contents output.new) done.0) }
+    ensures dry { IfOk result (λ done. service.now.dry_run ≡ true → done.1 ≡ Ok tt) }
+    ensures unwritten { OnErr result (Keeps (O.contents output.old) (O.contents output.new)) }
+    ensures fault { IfErr result (IsFilesFault script.now.point) }
+{
+    match service.books {
+        None => served_in_memory(threads, watch, rt.alloc(), script, service.sessions, output),
+        Some(prefix) if service.dry_run => {
+            served_in_copies(rt, threads, watch, script, service, prefix, output)
+        }
+        Some(prefix) => served_in_files(rt, threads, watch, script, service, prefix, output),
+    }
+}
+
+#[tactic(auto, using(crate::proofs::Told::served_of))]
+fn script_served<R: Read, T: Threads + Wait + Sync, V: Watch, O: Write>(
     rt: &HostRuntime,
     threads: &T,
     watch: &mut V,
     service: &Service<'_>,
     input: &mut R,
+    output: &mut O,
 ) -> Result<Done, Fault>
     ensures served { IfOk result (λ done. IfSome (R.remaining input.old) (λ bytes.
-        IsServedText service.now.sessions bytes (string_bytes done.0.text) done.0.end)) }
+        IsServed service.now.sessions bytes (O.contents output.old) (O.contents output.new) done.0)) }
+    ensures dry { IfOk result (λ done. service.now.dry_run ≡ true → done.1 ≡ Ok tt) }
+    ensures unwritten { OnErr result (Keeps (O.contents output.old) (O.contents output.new)) }
     ensures fault { IfErr result (λ fault. IfSome (R.remaining input.old) (λ bytes. IsTextFault bytes fault)) }
 {
-    let alloc = rt.alloc();
-    let script = script_of(alloc, input)?;
-    match service.books {
-        None => served_in_memory(threads, watch, alloc, &script, service.sessions),
-        Some(prefix) => served_in_files(rt, threads, watch, &script, service, prefix),
-    }
+    let script = script_of(rt.alloc(), input)?;
+    served_over_books(rt, threads, watch, &script, service, output)
 }
 
-fn tell<W: Write>(done: Done, output: &mut W) -> Result<(), ProgramFault>
-    ensures written { OnOk result (Appends (W.contents output.old) (W.contents output.new) (string_bytes done.0.text)) }
-    ensures whole { OnOk result (done.0.end ≡ Ok tt) }
+fn ended(done: Done) -> Result<(), ProgramFault>
+    ensures whole { OnOk result (done.0 ≡ Ok tt) }
     ensures closed { OnOk result (done.1 ≡ Ok tt) }
-    ensures fault { IfErr result (IsToldFault (string_bytes done.0.text) done.0.end done.1 (W.contents output.old) (W.contents output.new)) }
+    ensures fault { IfErr result (IsUndone done.0 done.1) }
 {
-    let (served, closed) = done;
-    let Served { text, end } = served;
-    match output.write_all(text.as_bytes()) {
+    let (end, closed) = done;
+    match end {
         Ok(()) => {}
-        Err(_) => return Err(ProgramFault::Command(Fault::Write)),
-    }
-    if let Err(fault) = end {
-        return Err(ProgramFault::Served(fault));
+        Err(ServeFault::Write) => return Err(ProgramFault::Command(Fault::Write)),
+        Err(fault) => return Err(ProgramFault::Served(fault)),
     }
     match closed {
         Ok(()) => Ok(()),
@@ -108,11 +170,12 @@ fn tell<W: Write>(done: Done, output: &mut W) -> Result<(), ProgramFault>
 }
 
 /// Runs both offices by the script on the input, each with so many sessions, over the books in the
-/// files whose names begin so, else in memory, and writes what is told of it: of a run that was cut
-/// off, what was told before. Books in files are closed then, so that each file alone is the whole book. The
-/// faults come in this order: those of reading the input and the script; `MissingBook`, and what is told of
+/// files whose names begin so, else in memory, and writes what is told of each batch and each other line once it
+/// is saved. Books in files are closed then, but after a fault of the run, so that each file alone is the whole book. In a dry
+/// run the books are copies in memory of those in files, which stay as they are. The faults come in this order: those of reading the input and the script; `MissingBook`, and what is told of
 /// copies of the two books; those of the initiating side's book, and then of the matching side's; `TwoPasts`;
-/// `Write`; what ended the run; and what kept a book from being closed. The watch is told how far it is.
+/// `Write`, or what ended the run, whichever came first; and what kept a book from being closed. Where a writer
+/// fails no further line is made, and what was made before is saved. The watch is told how far it is.
 pub fn serve_script<R: Read, W: Write, T: Threads + Wait + Sync, V: Watch>(
     rt: &HostRuntime,
     threads: &T,
@@ -125,10 +188,11 @@ pub fn serve_script<R: Read, W: Write, T: Threads + Wait + Sync, V: Watch>(
         Serves service.now.sessions bytes (W.contents output.old) (W.contents output.new))) }
     ensures first { IfErr result (λ fault. IfSome (R.remaining input.old) (λ bytes.
         IsFirstServeFault service.now.sessions bytes fault)) }
+    ensures dry { IfErr result (MayBeTold service.now.dry_run) }
     ensures leaves { IfErr result (LeavesServed service.now.sessions (R.remaining input.old) (W.contents output.old) (W.contents output.new)) }
 {
-    match text_of(rt, threads, watch, service, input) {
-        Ok(done) => tell(done, output),
+    match script_served(rt, threads, watch, service, input, output) {
+        Ok(done) => ended(done),
         Err(fault) => Err(ProgramFault::Command(fault)),
     }
 }

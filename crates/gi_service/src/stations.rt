@@ -1,6 +1,7 @@
 //! What each side of two running offices begins with: its desk, replayed from its book.
 
-ghost use Rattle.std.specs.Prelude.{◌≡◌, IfErr, IfOk, OnOk, false, length, string_bytes};
+ghost use Rattle.std.specs.Prelude.{◌≡◌, IfErr, IfOk, OnErr, OnOk, false, length};
+ghost use Rattle.std.specs.Io.KnownBytes.{Keeps};
 ghost use Rattle.sqlite.specs.Held.{state};
 ghost use Rattle.gi_store.specs.Book.{IsRead, counted};
 ghost use Rattle.gi_store.specs.Clean.{IsClean};
@@ -22,10 +23,11 @@ use gi_initiator::Initiating;
 use gi_matcher::Matching;
 use gi_pairs::Code;
 use gi_script::Script;
-use gi_serving::{Served, Watch, serve};
+use gi_serving::{ServeFault, Watch, serve};
 use gi_store::BookStore;
 use sqlite::Alter;
 use std::alloc::Global;
+use std::io::Write;
 use std::sync::Wait;
 use std::thread::Threads;
 
@@ -98,8 +100,6 @@ fn agreed(
     initiating: &Desk<Initiating>,
     matching: &Desk<Matching>,
 ) -> Result<(), Fault>
-    requires initiating { initiating.now.halted ≡ false }
-    requires matching { matching.now.halted ≡ false }
     ensures agreed { OnOk result (Agree initiating.now matching.now) }
     ensures fault { IfErr result (IsPastFault initiating.now matching.now) }
 {
@@ -111,16 +111,18 @@ fn agreed(
     }
 }
 
-/// Whether the facts of both sides make desks of the point that have one past: of I's side is told first why they make
-/// none.
+/// The desks of the point that the facts of both sides make, where they have one past: of I's side is told first why they
+/// make none.
 #[tactic(auto, using(crate::proofs::Agreed::of_ours, crate::proofs::Agreed::of_theirs, crate::proofs::Agreed::of_both))]
 pub(crate) fn one_past(
     alloc: Global,
     point: Code,
     initiating: Vec<Fact>,
     matching: Vec<Fact>,
-) -> Result<(), Fault>
-    ensures agreed { OnOk result (Agree (desk_of point initiating.items) (desk_of point matching.items)) }
+) -> Result<(Desk<Initiating>, Desk<Matching>), Fault>
+    ensures initiating { IfOk result (λ desks. desks.0 ≡ desk_of point initiating.items) }
+    ensures matching { IfOk result (λ desks. desks.1 ≡ desk_of point matching.items) }
+    ensures agreed { IfOk result (λ desks. Agree desks.0 desks.1) }
     ensures fault { IfErr result (IsBooksFault point) }
 {
     let ours: Desk<Initiating> = match replayed(alloc, point, initiating) {
@@ -137,24 +139,30 @@ pub(crate) fn one_past(
             return Err(fault);
         }
     };
-    let told = agreed(alloc, &ours, &theirs);
-    drop((ours, theirs));
-    told
+    match agreed(alloc, &ours, &theirs) {
+        Ok(()) => Ok((ours, theirs)),
+        Err(fault) => {
+            drop((ours, theirs));
+            Err(fault)
+        }
+    }
 }
 
 /// Serves a script over the books of both sides, the initiating one's loaded before the matching
-/// one's is opened, where they have one past. The fault is of one of the books or of both, or `OutOfMemory`, before
-/// the first step: the first of them.
-pub(crate) fn served<P: Place, T: Threads + Wait + Sync, V: Watch>(
+/// one's is opened, where they have one past, and answers how that ended. The fault is of one of the books or of both, or
+/// `OutOfMemory`, before the first step: the first of them.
+pub(crate) fn served<P: Place, T: Threads + Wait + Sync, V: Watch, O: Write>(
     threads: &T,
     watch: &mut V,
     alloc: Global,
     script: &Script,
     sessions: Sessions,
     place: &P,
-) -> Result<Served, Fault>
-    ensures served { IfOk result (λ served. IsServedFrom sessions script.now (string_bytes served.text) served.end) }
-    ensures agreed { IfOk result (λ served. HaveOnePast P.Store.Store (P.opens place.now) script.now.point) }
+    output: &mut O,
+) -> Result<Result<(), ServeFault>, Fault>
+    ensures served { IfOk result (IsServedFrom sessions script.now (O.contents output.old) (O.contents output.new)) }
+    ensures unwritten { OnErr result (Keeps (O.contents output.old) (O.contents output.new)) }
+    ensures agreed { IfOk result (λ end. HaveOnePast P.Store.Store (P.opens place.now) script.now.point) }
     ensures fault { IfErr result (IsBooksFault script.now.point) }
     ensures first { IfErr result (IsFirstSideFault (P.opens place.now) (P.refuses place.now) script.now.point) }
 {
@@ -171,5 +179,6 @@ pub(crate) fn served<P: Place, T: Threads + Wait + Sync, V: Watch>(
         initiating,
         matching,
         watch,
+        output,
     ))
 }

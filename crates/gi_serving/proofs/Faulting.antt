@@ -15,9 +15,6 @@ use Rattle.gi_pairs.specs.declared.side.Side.TheVariants.{I, M}
 pub none_made : {B : Type 0} (takes : Takes B) (book : B) → GoWell takes book book
 none_made takes book = ([], refl)
 
-pub kept_well : {B : Type 0} (takes : Takes B) (first last : B) → last ≡ first → GoWell takes first last
-kept_well takes first last same = ([], same)
-
 through : {B : Type 0} (takes : Takes B) (first : B) (books : List B) (between : B) (later : List B) (last : B)
     → GoThrough takes first books between → GoThrough takes between later last → GoThrough takes first (books ++ later) last
 through {B} takes first [] between later last same rest = subst (λ (b : B). GoThrough takes b later last) same rest
@@ -50,13 +47,6 @@ pub both_then : {B C : Type 0} (takes : Takes B) (peer_takes : Takes C) (first b
 both_then takes peer_takes first between last peer_first peer_between peer_last front rest =
     (well_then takes first between last front.0 rest.0, well_then peer_takes peer_first peer_between peer_last front.1 rest.1)
 
--- what stands beside the turns leaves the books
-pub both_left : {B C : Type 0} (takes : Takes B) (peer_takes : Takes C) (first between last : B) (peer_first peer_between peer_last : C)
-    → BothGoWell takes peer_takes first peer_first between peer_between → last ≡ between → peer_last ≡ peer_between
-    → BothGoWell takes peer_takes first peer_first last peer_last
-both_left takes peer_takes first between last peer_first peer_between peer_last front same peer_same =
-    both_then takes peer_takes first between last peer_first peer_between peer_last front (both_kept takes peer_takes between last peer_between peer_last same peer_same)
-
 pub one_then : {B C : Type 0} (takes : Takes B) (peer_takes : Takes C) (first between last : B) (peer_first peer_between peer_last : C) (fault : SaveFault)
     → BothGoWell takes peer_takes first peer_first between peer_between → OneEndsBy takes peer_takes between peer_between last peer_last fault
     → OneEndsBy takes peer_takes first peer_first last peer_last fault
@@ -72,6 +62,8 @@ tells_then takes peer_takes first between last peer_first peer_between peer_last
     one_then takes peer_takes first between last peer_first peer_between peer_last fault front told
 tells_then takes peer_takes first between last peer_first peer_between peer_last faults.OutOfMemory front told =
     both_then takes peer_takes first between last peer_first peer_between peer_last front told
+tells_then takes peer_takes first between last peer_first peer_between peer_last faults.Write front told =
+    both_then takes peer_takes first between last peer_first peer_between peer_last front told
 tells_then takes peer_takes first between last peer_first peer_between peer_last (faults.Unsettled why) front told = absurd told
 tells_then takes peer_takes first between last peer_first peer_between peer_last (faults.Unreconciled why) front told = absurd told
 
@@ -82,10 +74,18 @@ pub tells_short : {B C A : Type 0} (takes : Takes B) (peer_takes : Takes C) (fir
 tells_short takes peer_takes first last peer_first peer_last (Ok done) is well = tt
 tells_short takes peer_takes first last peer_first peer_last (Err fault) is well = subst (TellsTurns takes peer_takes first peer_first last peer_last) (sym is) well
 
+-- the writer failed, and no turn ended by a fault
+pub tells_unwritten : {B C A : Type 0} (takes : Takes B) (peer_takes : Takes C) (first last : B) (peer_first peer_last : C) (r : Result A ServeFault)
+    → IfErr r (λ fault. fault ≡ faults.Write) → BothGoWell takes peer_takes first peer_first last peer_last
+    → IfErr r (TellsTurns takes peer_takes first peer_first last peer_last)
+tells_unwritten takes peer_takes first last peer_first peer_last (Ok done) is well = tt
+tells_unwritten takes peer_takes first last peer_first peer_last (Err fault) is well = subst (TellsTurns takes peer_takes first peer_first last peer_last) (sym is) well
+
 pub of_turns : {B C : Type 0} (takes : Takes B) (peer_takes : Takes C) (first last : B) (peer_first peer_last : C) (fault : ServeFault)
     → TellsTurns takes peer_takes first peer_first last peer_last fault → IsOfTurns takes peer_takes first peer_first fault
 of_turns takes peer_takes first last peer_first peer_last (faults.Turn fault) told = (last, peer_last, told)
 of_turns takes peer_takes first last peer_first peer_last faults.OutOfMemory told = tt
+of_turns takes peer_takes first last peer_first peer_last faults.Write told = tt
 of_turns takes peer_takes first last peer_first peer_last (faults.Unsettled why) told = tt
 of_turns takes peer_takes first last peer_first peer_last (faults.Unreconciled why) told = tt
 

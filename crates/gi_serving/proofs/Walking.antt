@@ -1,11 +1,15 @@
 -- The first piece of the lines, and a run of one piece more.
 use Rattle.std.proofs.Common.{get_or, ◌≡◌, ◌≢◌, ◌≤◌, ◌<◌, ℕ, ◌+◌, max, length, drop-drop, List, [], ◌∷◌, ◌++◌, take, drop, Option, None, Some, refl, ap, append_assoc, append-nil, ◌∙◌, sym, subst, arith}
 use Rattle.std.proofs.lemmas.List.{drop_all, length-drop}
+use Rattle.std.specs.Io.KnownBytes.{Appends, Keeps}
 use Rattle.gi_pairs.specs.declared.side.Side.{Side}
 use Rattle.gi_script.specs.declared.line.Line.{Line}
 use Rattle.gi_serving.specs.Batches.{submission}
-use Rattle.gi_serving.specs.Making.{AddsFirst, MakesAndSaves, MakesBatch, MakesFirst, MakesLine, OfficesState, Runs, RunsSome, RunsTo, SavesAndSends}
+use Rattle.gi_serving.specs.Ending.{LeavesNothing, LeavesRun}
+use Rattle.gi_serving.specs.Making.{MakesAndSaves, MakesBatch, MakesFirst, MakesLine, OfficesState, Runs, RunsSome, RunsTo, SavesAndSends, SavesFirst, WritesFirst, WritesTo}
 use Rattle.gi_serving.specs.Runs.{Batch, Piece, Single, joined, lead, lead_by, pieces, put, side_in}
+use Rattle.gi_serving.specs.declared.serve_fault.ServeFault.{ServeFault}
+use Rattle.gi_serving.specs.declared.serve_fault.ServeFault.TheVariants as faults
 
 join : (line : Line) (later : List Line) → joined line (pieces later) ≡ Batch (line ∷ take (lead later) later) ∷ pieces (drop (lead later) later)
 join line [] = refl
@@ -56,26 +60,77 @@ runs_more sessions [] piece start now next text said runs one =
 runs_more sessions (first ∷ made) piece start now next text said runs one =
     (runs.0, runs.1, runs.2 ++ said, runs.3, runs_more sessions made piece runs.0 now next runs.2 said runs.4 one, ap (λ (t : List ℕ). t ++ said) runs.5 ∙ append_assoc runs.1 runs.2 said)
 
-pub next_made : (sessions : ℕ) (lines left : List Line) (at count : ℕ) (start now next : OfficesState) (old new : List ℕ) → left ≡ drop at lines
-    → RunsTo sessions lines at start old now → AddsFirst sessions left count now old new next → RunsTo sessions lines (at + count) start new next
-next_made sessions lines left at count start now next old new same to adds = record {
-  made = to.made ++ adds.piece ∷ [];
-  all = to.all ∙ ap (λ (ps : List Piece). to.made ++ ps) on ∙ sym (append_assoc to.made (adds.piece ∷ []) (pieces (drop (at + count) lines)));
-  runs = subst (λ (t : List ℕ). Runs sessions (to.made ++ adds.piece ∷ []) start t next) (sym adds.added) (runs_more sessions to.made adds.piece start now next old adds.said to.runs adds.makes);
+-- ---- what a writer holds
+
+pub appends_none : (held : Option (List ℕ)) → Appends held held []
+appends_none None = tt
+appends_none (Some bytes) = sym (append-nil bytes)
+
+pub appends_both : (before between after : Option (List ℕ)) (text more : List ℕ) → Appends before between text → Appends between after more → Appends before after (text ++ more)
+appends_both None between after text more first next = tt
+appends_both (Some bytes) None after text more first next = absurd first
+appends_both (Some bytes) (Some middle) None text more first next = absurd next
+appends_both (Some bytes) (Some middle) (Some all) text more first next = next ∙ ap (λ (l : List ℕ). l ++ more) first ∙ append_assoc bytes text more
+
+pub appends_kept : (before between after : Option (List ℕ)) (text : List ℕ) → Appends before between text → Keeps between after → Appends before after text
+appends_kept None between after text first kept = tt
+appends_kept (Some bytes) None after text first kept = absurd first
+appends_kept (Some bytes) (Some middle) None text first kept = absurd kept
+appends_kept (Some bytes) (Some middle) (Some all) text first kept = kept ∙ first
+
+keeps_same : (held : Option (List ℕ)) → Keeps held held
+keeps_same None = tt
+keeps_same (Some bytes) = refl
+
+pub nothing_left : (held : Option (List ℕ)) (fault : ServeFault) → LeavesNothing held held fault
+nothing_left held (faults.Turn why) = keeps_same held
+nothing_left held (faults.Unsettled why) = keeps_same held
+nothing_left held (faults.Unreconciled why) = keeps_same held
+nothing_left held faults.Write = tt
+nothing_left held faults.OutOfMemory = keeps_same held
+
+pub next_made : (sessions : ℕ) (lines left : List Line) (at count : ℕ) (start now next : OfficesState) (before between after : Option (List ℕ)) → left ≡ drop at lines
+    → WritesTo sessions lines at start before between now → WritesFirst sessions left count now between after next → WritesTo sessions lines (at + count) start before after next
+next_made sessions lines left at count start now next before between after same to first = record {
+  text = to.text ++ first.text;
+  runs = record {
+    made = to.runs.made ++ first.saves.piece ∷ [];
+    all = to.runs.all ∙ ap (λ (ps : List Piece). to.runs.made ++ ps) on ∙ sym (append_assoc to.runs.made (first.saves.piece ∷ []) (pieces (drop (at + count) lines)));
+    runs = runs_more sessions to.runs.made first.saves.piece start now next to.text first.text to.runs.runs first.saves.makes;
+  };
+  written = appends_both before between after to.text first.text to.written first.written;
 }
   where
-    on : pieces (drop at lines) ≡ adds.piece ∷ pieces (drop (at + count) lines)
-    on = ap pieces (sym same) ∙ adds.first ∙ ap (λ (ls : List Line). adds.piece ∷ pieces ls) (ap (drop count) same ∙ drop-drop count at lines)
+    on : pieces (drop at lines) ≡ first.saves.piece ∷ pieces (drop (at + count) lines)
+    on = ap pieces (sym same) ∙ first.saves.first ∙ ap (λ (ls : List Line). first.saves.piece ∷ pieces ls) (ap (drop count) same ∙ drop-drop count at lines)
 
-pub begun : (sessions : ℕ) (lines : List Line) (start : OfficesState) (text : List ℕ) → text ≡ [] → RunsTo sessions lines 0 start text start
-begun sessions lines start text none = record { made = []; all = refl; runs = (none, refl) }
+pub begun : (sessions : ℕ) (lines : List Line) (start : OfficesState) (held : Option (List ℕ)) → WritesTo sessions lines 0 start held held start
+begun sessions lines start held = record { text = []; runs = record { made = []; all = refl; runs = (refl, refl) }; written = appends_none held }
 
-pub none_made : (sessions : ℕ) (lines : List Line) (told : ℕ) (start : OfficesState) (text : List ℕ) → told ≡ 0 → text ≡ [] → RunsSome sessions lines told start text
-none_made sessions lines told start text first none = (start, subst (λ (n : ℕ). RunsTo sessions lines n start text start) (sym first) (begun sessions lines start text none))
+pub none_made : (sessions : ℕ) (lines : List Line) (told : ℕ) (start : OfficesState) → told ≡ 0 → RunsSome sessions lines told start []
+none_made sessions lines told start first =
+    (start, subst (λ (n : ℕ). RunsTo sessions lines n start [] start) (sym first) (record { made = []; all = refl; runs = (refl, refl) }))
 
-pub so_far : (sessions : ℕ) (lines : List Line) (at told : ℕ) (start reached : OfficesState) (text new : List ℕ) → told ≡ at → new ≡ text → RunsTo sessions lines at start text reached → RunsSome sessions lines told start new
-so_far sessions lines at told start reached text new same kept to =
-    (reached, subst (λ (n : ℕ). RunsTo sessions lines n start new reached) (sym same) (subst (λ (t : List ℕ). RunsTo sessions lines at start t reached) (sym kept) to))
+pub so_far : (sessions : ℕ) (lines : List Line) (at told : ℕ) (start reached : OfficesState) (before between after : Option (List ℕ)) (fault : ServeFault) → told ≡ at
+    → WritesTo sessions lines at start before between reached → LeavesNothing between after fault → LeavesRun sessions lines told start before after fault
+so_far sessions lines at told start reached before between after fault same to left = by fault left
+  where
+    runs : RunsTo sessions lines told start to.text reached
+    runs = subst (λ (n : ℕ). RunsTo sessions lines n start to.text reached) (sym same) to.runs
+
+    kept : Keeps between after → WritesTo sessions lines told start before after reached
+    kept still = record { text = to.text; runs = runs; written = appends_kept before between after to.text to.written still }
+
+    by : (why : ServeFault) → LeavesNothing between after why → LeavesRun sessions lines told start before after why
+    by (faults.Turn why) still = (reached, kept still)
+    by (faults.Unsettled why) still = (reached, kept still)
+    by (faults.Unreconciled why) still = (reached, kept still)
+    by faults.Write still = (to.text, (reached, runs))
+    by faults.OutOfMemory still = (reached, kept still)
+
+pub all_made : (sessions : ℕ) (lines : List Line) (at : ℕ) (start reached : OfficesState) (before after : Option (List ℕ)) → at ≡ length lines
+    → WritesTo sessions lines at start before after reached → WritesTo sessions lines (length lines) start before after reached
+all_made sessions lines at start reached before after same to = subst (λ (n : ℕ). WritesTo sessions lines n start before after reached) same to
 
 pub to_the_end : (sessions : ℕ) (lines : List Line) (at : ℕ) (start reached : OfficesState) (text : List ℕ) → length lines ≤ at → RunsTo sessions lines at start text reached → Runs sessions (pieces lines) start text reached
 to_the_end sessions lines at start reached text past to =
@@ -111,11 +166,9 @@ first_single sessions line (first ∷ later) batch old text new some at counted 
     first_one sessions line (first ∷ later) later batch old text new (ap (λ (l : Line). l ∷ later) (sym at)) counted none makes
 
 pub first_saved : (sessions : ℕ) (lines : List Line) (count : ℕ) (old between new : OfficesState) (said : List ℕ) → MakesFirst sessions lines count old said between → SavesAndSends between new
-    → AddsFirst sessions lines count old [] said new
+    → SavesFirst sessions lines count old said new
 first_saved sessions lines count old between new said makes saves = record {
   piece = makes.piece;
   first = makes.first;
-  said = said;
   makes = record { between = between; makes = makes.makes; saves = saves };
-  added = refl;
 }

@@ -53,8 +53,10 @@ abbrev pub IsOfTurns : {B C : Type 0} → Takes B → Takes C → B → C → Se
 IsOfTurns {B} {C} takes peer_takes first peer_first (faults.Turn fault) = (last : B) × (peer_last : C) × OneEndsBy takes peer_takes first peer_first last peer_last fault
 IsOfTurns takes peer_takes first peer_first _ = Unit {0}
 
--- What is told where a run is cut off: of a turn that ended by a fault that fault, and no other; that memory ran out only where none did.
+-- What is told where a run ends early: of a turn that ended by a fault that fault, and no other; that memory ran out, or that the writer
+-- failed, only where none did.
 abbrev pub TellsTurns : {B C : Type 0} → Takes B → Takes C → B → C → B → C → ServeFault → Type 0
 TellsTurns takes peer_takes first peer_first last peer_last (faults.Turn fault) = OneEndsBy takes peer_takes first peer_first last peer_last fault
 TellsTurns takes peer_takes first peer_first last peer_last faults.OutOfMemory = BothGoWell takes peer_takes first peer_first last peer_last
+TellsTurns takes peer_takes first peer_first last peer_last faults.Write = BothGoWell takes peer_takes first peer_first last peer_last
 TellsTurns takes peer_takes first peer_first last peer_last _ = ⊥

@@ -1,5 +1,6 @@
 -- Both offices under way: what each piece of a script makes of them, and what is told of it.
-use Rattle.std.specs.Prelude.{◌≡◌, ℕ, ◌+◌, List, [], ◌∷◌, ◌++◌, drop}
+use Rattle.std.specs.Prelude.{◌≡◌, ℕ, ◌+◌, List, [], ◌∷◌, ◌++◌, drop, Option}
+use Rattle.std.specs.Io.KnownBytes.{Appends}
 use Rattle.gi_office.specs.Opening.{new_seats}
 use Rattle.gi_pairs.specs.declared.side.Side.{Side}
 use Rattle.gi_pairs.specs.declared.side.Side.TheVariants.{I, M}
@@ -92,15 +93,34 @@ pub record MakesFirst (sessions : ℕ) (lines : List Line) (count : ℕ) (old : 
   pub first : pieces lines ≡ piece ∷ pieces (drop count lines)
   pub makes : MakesPiece sessions piece old text new
 
--- that and what follows, and its text is added
-pub record AddsFirst (sessions : ℕ) (lines : List Line) (count : ℕ) (old : OfficesState) (before after : List ℕ) (new : OfficesState) : Type 0 where
+-- that and what follows
+pub record SavesFirst (sessions : ℕ) (lines : List Line) (count : ℕ) (old : OfficesState) (text : List ℕ) (new : OfficesState) : Type 0 where
   pub piece : Piece
   pub first : pieces lines ≡ piece ∷ pieces (drop count lines)
-  pub said : List ℕ
-  pub makes : MakesAndSaves sessions piece old said new
-  pub added : after ≡ before ++ said
+  pub makes : MakesAndSaves sessions piece old text new
 
--- ---- the offices as they are kept
+-- ---- what is written of it, behind what the writer holds
+
+-- of the first piece
+pub record WritesFirst (sessions : ℕ) (lines : List Line) (count : ℕ) (old : OfficesState) (before after : Option (List ℕ)) (new : OfficesState) : Type 0 where
+  pub text : List ℕ
+  pub saves : SavesFirst sessions lines count old text new
+  pub written : Appends before after text
+
+-- of the pieces of so many lines
+pub record WritesTo (sessions : ℕ) (lines : List Line) (count : ℕ) (old : OfficesState) (before after : Option (List ℕ)) (new : OfficesState) : Type 0 where
+  pub text : List ℕ
+  pub runs : RunsTo sessions lines count old text new
+  pub written : Appends before after text
+
+abbrev pub WritesSome : ℕ → List Line → ℕ → OfficesState → Option (List ℕ) → Option (List ℕ) → Type 0
+WritesSome sessions lines count old before after = (reached : OfficesState) × WritesTo sessions lines count old before after reached
+
+-- the pieces of so many lines are made, and what stands of that on the output is not said
+abbrev pub MakesSome : ℕ → List Line → ℕ → OfficesState → Type 0
+MakesSome sessions lines count old = (text : List ℕ) × RunsSome sessions lines count old text
+
+-- ---- the offices as they are kept (`P` and `O` are what their roles receive)
 
 abbrev pub state_of : {R P L S : Type 0} → Running R P L S → SideState
 state_of running = record { seats = running.seats.items; sent = running.sent; way = running.way }

@@ -53,7 +53,7 @@ pub use assigning::sessions_of;
 pub use closing::{Closed, close_both};
 pub use running::{called, saved_all};
 pub use serve_fault::ServeFault;
-pub use serving::{Served, serve};
+pub use serving::serve;
 pub use turns::Turns;
 pub use watch::Watch;
 pub use word::Word;

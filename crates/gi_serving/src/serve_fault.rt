@@ -14,6 +14,8 @@ pub enum ServeFault {
     Unsettled(Unsettled),
     /// The two offices are not reconciled.
     Unreconciled(Unreconciled),
+    /// The writer failed.
+    Write,
     /// Memory ran out.
     OutOfMemory,
 }
@@ -38,6 +40,7 @@ impl fmt::Display for ServeFault {
             ServeFault::Turn(fault) => fmt::Display::fmt(fault, f),
             ServeFault::Unsettled(fault) => fmt::Display::fmt(fault, f),
             ServeFault::Unreconciled(fault) => fmt::Display::fmt(fault, f),
+            ServeFault::Write => f.write_str("Write"),
             ServeFault::OutOfMemory => f.write_str("OutOfMemory"),
         }
     }

@@ -1,22 +1,23 @@
 //! A script, served by both offices.
 
-ghost use Rattle.std.specs.Prelude.{◌≡◌, ◌≤◌, ◌<◌, ◌+◌, Err, IfErr, IfOk, OnErr, OnOk, [], false, is_none, length, max, string_bytes};
+ghost use Rattle.std.specs.Prelude.{◌≡◌, ◌≤◌, ◌<◌, ◌+◌, Err, IfErr, IfOk, OnOk, false, is_none, length, max, string_bytes};
 ghost use Rattle.sqlite.specs.Held.{state};
 ghost use Rattle.gi_store.specs.Book.{IsRead, counted};
 ghost use Rattle.gi_store.specs.Clean.{IsClean};
 ghost use Rattle.gi_serving.specs.Batches.{submission as submission_in};
 ghost use Rattle.gi_pairs.specs.declared.side.Side.TheVariants.{I, M};
-ghost use Rattle.gi_serving.specs.Ending.{AreSamePlaces, Closes, IsCut, IsOver, IsTold};
+ghost use Rattle.gi_serving.specs.Ending.{AreSamePlaces, Closes, Ends, IsCut, IsEarly, IsTold, LeavesNothing, LeavesRun};
 ghost use Rattle.gi_serving.specs.Faulting.{BothGoWell, IsOfTurns, TellsTurns};
 ghost use Rattle.gi_office.specs.Saving.{TakesTurn};
-ghost use Rattle.gi_serving.specs.Making.{AddsFirst, MakesFirst, Runs, RunsSome, new_offices, offices_of};
-ghost use Rattle.gi_serving.specs.Runs.{lead, pieces};
+ghost use Rattle.gi_serving.specs.Making.{MakesFirst, SavesFirst, WritesFirst, WritesTo, new_offices, offices_of};
+ghost use Rattle.gi_serving.specs.Runs.{lead};
 
 use crate::both::Both;
 use crate::closing::Closed;
 use crate::pieces::submission;
 use crate::serve_fault::ServeFault;
 use crate::station::Station;
+use crate::telling::write;
 use crate::turns::Turns;
 use crate::watch::Watch;
 use gi_desk::Desk;
@@ -26,17 +27,11 @@ use gi_script::{Line, Script};
 use gi_store::BookStore;
 use sqlite::Alter;
 use std::alloc::Global;
+use std::io::Write;
 use std::marker::Brand;
 use std::sync::Wait;
 use std::sync::ledger::{Blank, Ledger};
 use std::thread::Threads;
-
-/// What a script came to: a line for each step and the last lines, and how it ended.
-#[derive(Drop)]
-pub struct Served {
-    pub text: String,
-    pub end: Result<(), ServeFault>,
-}
 
 fn is_single(line: &Line) -> bool
     ensures { result ≡ is_none (submission_in line.now.instruction) }
@@ -101,8 +96,8 @@ fn made_and_saved<
     ensures sessions { both.new.sessions ≡ both.old.sessions }
     ensures ours { OnOk result (AreSamePlaces both.old.initiating.seats.items both.new.initiating.seats.items) }
     ensures theirs { OnOk result (AreSamePlaces both.old.matching.seats.items both.new.matching.seats.items) }
-    ensures made { IfOk result (λ text. AddsFirst both.old.sessions lines.now (max batch 1)
-        (offices_of both.old.initiating both.old.matching) [] (string_bytes text) (offices_of both.new.initiating both.new.matching)) }
+    ensures made { IfOk result (λ text. SavesFirst both.old.sessions lines.now (max batch 1)
+        (offices_of both.old.initiating both.old.matching) (string_bytes text) (offices_of both.new.initiating both.new.matching)) }
     ensures cut { IfErr result (λ fault. IsCut (Err fault)) }
     ensures well { OnOk result (BothGoWell (B.takes I) (C.takes M) both.old.initiating.book both.old.matching.book both.new.initiating.book both.new.matching.book) }
     ensures tells { IfErr result (TellsTurns (B.takes I) (C.takes M) both.old.initiating.book both.old.matching.book both.new.initiating.book both.new.matching.book) }
@@ -117,18 +112,20 @@ fn made_and_saved<
     }
 }
 
+/// Makes the first piece, saves what it recorded, sends what was let out, and writes its lines.
 fn step<
     L: Ledger + Send + Sync,
     K: Ledger + Send + Sync,
     B: Turns + Drop + Send,
     C: Turns + Drop + Send,
     T: Threads + Wait + Sync,
+    O: Write,
 >(
     rt: &T,
     both: &mut Both<L, K, B, C>,
     lines: &[Line],
     batch: usize,
-    text: &mut String,
+    output: &mut O,
 ) -> Result<(), ServeFault>
     requires some { 0 < length lines.now }
     requires batch { batch ≡ lead lines.now }
@@ -138,10 +135,10 @@ fn step<
     ensures sessions { both.new.sessions ≡ both.old.sessions }
     ensures ours { OnOk result (AreSamePlaces both.old.initiating.seats.items both.new.initiating.seats.items) }
     ensures theirs { OnOk result (AreSamePlaces both.old.matching.seats.items both.new.matching.seats.items) }
-    ensures made { OnOk result (AddsFirst both.old.sessions lines.now (max batch 1)
-        (offices_of both.old.initiating both.old.matching) (string_bytes text.old) (string_bytes text.new) (offices_of both.new.initiating both.new.matching)) }
-    ensures unchanged { OnErr result (string_bytes text.new ≡ string_bytes text.old) }
-    ensures cut { IfErr result (λ fault. IsCut (Err fault)) }
+    ensures made { OnOk result (WritesFirst both.old.sessions lines.now (max batch 1)
+        (offices_of both.old.initiating both.old.matching) (O.contents output.old) (O.contents output.new) (offices_of both.new.initiating both.new.matching)) }
+    ensures leaves { IfErr result (LeavesNothing (O.contents output.old) (O.contents output.new)) }
+    ensures early { IfErr result (λ fault. IsEarly (Err fault)) }
     ensures well { OnOk result (BothGoWell (B.takes I) (C.takes M) both.old.initiating.book both.old.matching.book both.new.initiating.book both.new.matching.book) }
     ensures tells { IfErr result (TellsTurns (B.takes I) (C.takes M) both.old.initiating.book both.old.matching.book both.new.initiating.book both.new.matching.book) }
 {
@@ -149,10 +146,7 @@ fn step<
         Ok(said) => said,
         Err(fault) => return Err(fault),
     };
-    match text.push_str(said.as_str()) {
-        Ok(()) => Ok(()),
-        Err(_) => Err(ServeFault::OutOfMemory),
-    }
+    write(output, said.as_bytes())
 }
 
 fn run<
@@ -162,14 +156,14 @@ fn run<
     C: Turns + Drop + Send,
     T: Threads + Wait + Sync,
     V: Watch,
+    O: Write,
 >(
     rt: &T,
     both: &mut Both<L, K, B, C>,
     lines: &[Line],
-    text: &mut String,
     watch: &mut V,
+    output: &mut O,
 ) -> Result<(), ServeFault>
-    requires none { string_bytes text.old ≡ [] }
     requires begun { V.told watch.old ≡ 0 }
     requires counted { V.whole watch.old ≡ length lines.now }
     requires ours { length both.old.initiating.seats.items ≡ both.old.sessions + 1 }
@@ -177,10 +171,11 @@ fn run<
     ensures sessions { both.new.sessions ≡ both.old.sessions }
     ensures ours { OnOk result (AreSamePlaces both.old.initiating.seats.items both.new.initiating.seats.items) }
     ensures theirs { OnOk result (AreSamePlaces both.old.matching.seats.items both.new.matching.seats.items) }
-    ensures told { RunsSome both.old.sessions lines.now (V.told watch.new) (offices_of both.old.initiating both.old.matching) (string_bytes text.new) }
-    ensures whole { OnOk result (Runs both.old.sessions (pieces lines.now)
-        (offices_of both.old.initiating both.old.matching) (string_bytes text.new) (offices_of both.new.initiating both.new.matching)) }
-    ensures cut { IfErr result (λ fault. IsCut (Err fault)) }
+    ensures whole { OnOk result (WritesTo both.old.sessions lines.now (length lines.now)
+        (offices_of both.old.initiating both.old.matching) (O.contents output.old) (O.contents output.new) (offices_of both.new.initiating both.new.matching)) }
+    ensures leaves { IfErr result (LeavesRun both.old.sessions lines.now (V.told watch.new)
+        (offices_of both.old.initiating both.old.matching) (O.contents output.old) (O.contents output.new)) }
+    ensures early { IfErr result (λ fault. IsEarly (Err fault)) }
     ensures well { OnOk result (BothGoWell (B.takes I) (C.takes M) both.old.initiating.book both.old.matching.book both.new.initiating.book both.new.matching.book) }
     ensures tells { IfErr result (TellsTurns (B.takes I) (C.takes M) both.old.initiating.book both.old.matching.book both.new.initiating.book both.new.matching.book) }
     ensures left { IfErr result (λ fault. V.told watch.new < length lines.now) }
@@ -191,7 +186,7 @@ fn run<
     while at < lines.len() {
         let left = &lines[at..];
         let batch = batch_length(left);
-        if let Err(fault) = step(rt, both, left, batch, text) {
+        if let Err(fault) = step(rt, both, left, batch, output) {
             return Err(fault);
         }
         at += batch.max(1);
@@ -200,24 +195,24 @@ fn run<
     Ok(())
 }
 
-fn told(text: &mut String, closed: Closed) -> Result<(), ServeFault>
-    ensures { IsTold (string_bytes text.old) (string_bytes closed.text) closed.end (string_bytes text.new) result }
+fn told<O: Write>(output: &mut O, closed: Closed) -> Result<(), ServeFault>
+    ensures { IsTold (O.contents output.old) (string_bytes closed.text) closed.end (O.contents output.new) result }
 {
     let Closed { text: last, end } = closed;
-    match text.push_str(last.as_str()) {
+    match write(output, last.as_bytes()) {
         Ok(()) => end,
-        Err(_) => Err(ServeFault::OutOfMemory),
+        Err(unwritten) => Err(unwritten),
     }
 }
 
-fn closed<L: Ledger, K: Ledger, B: Turns + Drop, C: Turns + Drop>(
+fn closed<L: Ledger, K: Ledger, B: Turns + Drop, C: Turns + Drop, O: Write>(
     both: Both<L, K, B, C>,
-    text: &mut String,
+    output: &mut O,
 ) -> Result<(), ServeFault>
-    ensures { Closes L.parts K.parts both.sessions (offices_of both.initiating both.matching) (string_bytes text.old) (string_bytes text.new) result }
+    ensures { Closes L.parts K.parts both.sessions (offices_of both.initiating both.matching) (O.contents output.old) (O.contents output.new) result }
 {
     match both.close() {
-        Ok(closed) => told(text, closed),
+        Ok(closed) => told(output, closed),
         Err(_) => Err(ServeFault::OutOfMemory),
     }
 }
@@ -229,30 +224,29 @@ fn end_of<
     C: Turns + Drop + Send,
     T: Threads + Wait + Sync,
     V: Watch,
+    O: Write,
 >(
     rt: &T,
     both: Both<L, K, B, C>,
     lines: &[Line],
-    text: &mut String,
     watch: &mut V,
+    output: &mut O,
 ) -> Result<(), ServeFault>
-    requires none { string_bytes text.old ≡ [] }
     requires begun { V.told watch.old ≡ 0 }
     requires counted { V.whole watch.old ≡ length lines.now }
     requires parts { L.parts ≡ 16 }
     requires peer_parts { K.parts ≡ 16 }
     requires new { offices_of both.initiating both.matching ≡ new_offices both.sessions }
-    ensures over { IsOver both.sessions lines.now (string_bytes text.new) result }
-    ensures told { IsCut result → RunsSome both.sessions lines.now (V.told watch.new) (new_offices both.sessions) (string_bytes text.new) }
-    ensures all { ¬ IsCut result → V.told watch.new ≡ length lines.now }
+    ensures ends { Ends both.sessions lines.now (V.told watch.new) (O.contents output.old) (O.contents output.new) result }
+    ensures all { ¬ IsEarly result → V.told watch.new ≡ length lines.now }
     ensures counted { V.whole watch.new ≡ length lines.now }
 
     // The fault of a turn is one by which a turn ended.
     ensures turn { IfErr result (IsOfTurns (B.takes I) (C.takes M) both.initiating.book both.matching.book) }
 {
     let mut both = both;
-    match run(rt, &mut both, lines, text, watch) {
-        Ok(()) => closed(both, text),
+    match run(rt, &mut both, lines, watch, output) {
+        Ok(()) => closed(both, output),
         // (handed to drop, by one call: going out of scope here would be checked field by field on each way out)
         Err(fault) => {
             drop(both);
@@ -263,7 +257,6 @@ fn end_of<
 
 /// Over two ledgers and two types of book, so that here and below a seat or a book of one office is of
 /// another type than the other's.
-#[tactic(auto, using(crate::proofs::Walking::none_made))]
 fn serve_by<
     L: Ledger + Send + Sync,
     K: Ledger + Send + Sync,
@@ -271,16 +264,16 @@ fn serve_by<
     C: Turns + Drop + Send,
     T: Threads + Wait + Sync,
     V: Watch,
+    O: Write,
 >(
     rt: &T,
     sessions: u8,
     initiating: Station<Initiating, B>,
     matching: Station<Matching, C>,
     lines: &[Line],
-    text: &mut String,
     watch: &mut V,
+    output: &mut O,
 ) -> Result<(), ServeFault>
-    requires none { string_bytes text.old ≡ [] }
     requires begun { V.told watch.old ≡ 0 }
     requires counted { V.whole watch.old ≡ length lines.now }
     requires some { 1 ≤ sessions }
@@ -297,25 +290,26 @@ fn serve_by<
     requires peer_saved { matching.desk.saved ≡ length matching.desk.facts }
     requires peer_runs { matching.desk.halted ≡ false }
     requires peer_book { C.holds matching.book matching.desk.facts }
-    ensures over { IsOver sessions lines.now (string_bytes text.new) result }
-    ensures told { IsCut result → RunsSome sessions lines.now (V.told watch.new) (new_offices sessions) (string_bytes text.new) }
-    ensures all { ¬ IsCut result → V.told watch.new ≡ length lines.now }
+    ensures ends { Ends sessions lines.now (V.told watch.new) (O.contents output.old) (O.contents output.new) result }
+    ensures all { ¬ IsEarly result → V.told watch.new ≡ length lines.now }
     ensures counted { V.whole watch.new ≡ length lines.now }
     ensures turn { IfErr result (IsOfTurns (B.takes I) (C.takes M) initiating.book matching.book) }
 {
     match Both::<L, K, B, C>::open(sessions, initiating, matching) {
-        Ok(both) => end_of(rt, both, lines, text, watch),
+        Ok(both) => end_of(rt, both, lines, watch, output),
         Err(_) => Err(ServeFault::OutOfMemory),
     }
 }
 
 /// Serves a script by both offices, each with so many sessions, from 1 to 15, from desks of its point that
 /// are not halted and whose facts are all saved, and their books, which are loaded and have these facts. The
-/// text has a line of each step, and then the last lines of both offices, handed all their seats. Where a
-/// turn that saves answers a fault, or memory runs out, that is the end, a turn's fault before want of
-/// memory, and the text has the lines of what was done before. The watch is told after each batch and each
-/// other line how many lines are made and told of, of how many: of a run that was not cut off, all.
-pub fn serve<S: Alter + Drop + Send, T: Threads + Wait + Sync, V: Watch>(
+/// lines of each batch and of each other line are written once what it recorded is saved, and at the end the
+/// last lines of both offices, handed all their seats. Where a turn that saves answers a fault, or memory
+/// runs out, that is the end, a turn's fault before want of memory, and the lines of what was done before are
+/// written; so is `Write`, where the writer fails, and no further line is made then. The watch is told after
+/// each batch and each other line how many lines are made and written, of how many: of a run that came to its
+/// end, all.
+pub fn serve<S: Alter + Drop + Send, T: Threads + Wait + Sync, V: Watch, O: Write>(
     rt: &T,
     alloc: Global,
     script: &Script,
@@ -323,7 +317,8 @@ pub fn serve<S: Alter + Drop + Send, T: Threads + Wait + Sync, V: Watch>(
     initiating: (Desk<Initiating>, BookStore<S>),
     matching: (Desk<Matching>, BookStore<S>),
     watch: &mut V,
-) -> Served
+    output: &mut O,
+) -> Result<(), ServeFault>
     requires some { 1 ≤ sessions }
     requires few { sessions < 16 }
     requires point { initiating.0.point ≡ script.now.point }
@@ -336,13 +331,12 @@ pub fn serve<S: Alter + Drop + Send, T: Threads + Wait + Sync, V: Watch>(
     requires peer_runs { matching.0.halted ≡ false }
     requires peer_loaded { matching.1.loaded ≡ counted (length matching.0.facts) }
     requires peer_facts { IsClean S.Store matching.1.connection → IsRead (state S.Store matching.1.connection) matching.0.facts }
-    ensures over { IsOver sessions script.now.lines (string_bytes result.text) result.end }
-    ensures told { IsCut result.end → RunsSome sessions script.now.lines (V.told watch.new) (new_offices sessions) (string_bytes result.text) }
-    ensures all { ¬ IsCut result.end → V.told watch.new ≡ length script.now.lines }
+    ensures ends { Ends sessions script.now.lines (V.told watch.new) (O.contents output.old) (O.contents output.new) result }
+    ensures all { ¬ IsEarly result → V.told watch.new ≡ length script.now.lines }
     ensures counted { V.whole watch.new ≡ length script.now.lines }
 
     // The fault of a turn is one by which a turn can end, after turns that went well, from the books as they were handed over.
-    ensures turn { IfErr result.end (IsOfTurns (TakesTurn I S.Store) (TakesTurn M S.Store) initiating.1 matching.1) }
+    ensures turn { IfErr result (IsOfTurns (TakesTurn I S.Store) (TakesTurn M S.Store) initiating.1 matching.1) }
 {
     let lines = script.lines();
     watch.made(0, lines.len());
@@ -360,10 +354,9 @@ pub fn serve<S: Alter + Drop + Send, T: Threads + Wait + Sync, V: Watch>(
         desk,
         book,
     };
-    let mut text = String::new(alloc);
-    let end = serve_by::<Brand, Brand, BookStore<S>, BookStore<S>, T, V>(
-        rt, sessions, initiating, matching, lines, &mut text, watch,
+    let end = serve_by::<Brand, Brand, BookStore<S>, BookStore<S>, T, V, O>(
+        rt, sessions, initiating, matching, lines, watch, output,
     );
     watch.ended();
-    Served { text, end }
+    end
 }

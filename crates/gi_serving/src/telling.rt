@@ -1,14 +1,17 @@
 //! The lines that tell what came of steps.
 
-ghost use Rattle.std.specs.Prelude.{◌≡◌, ◌++◌, IfOk, OnErr, OnOk, string_bytes};
+ghost use Rattle.std.specs.Prelude.{◌≡◌, ◌++◌, IfErr, IfOk, OnErr, OnOk, string_bytes};
+ghost use Rattle.std.specs.Io.KnownBytes.{Appends};
 ghost use Rattle.gi_serving.specs.Batches.{batch_text as text_of, told as told_of};
 ghost use Rattle.gi_serving.specs.Words.{step_line};
 
 use crate::pieces::submission;
+use crate::serve_fault::ServeFault;
 use crate::word::Word;
 use gi_pairs::Side;
 use gi_script::Line;
 use std::alloc::{AllocError, Global};
+use std::io::Write;
 
 fn add_line(
     alloc: Global,
@@ -73,4 +76,19 @@ pub(crate) fn batch_text(
         }
     }
     Ok(text)
+}
+
+/// Writes lines, and hands them on at once. `Write` where the writer fails.
+pub(crate) fn write<O: Write>(output: &mut O, lines: &[u8]) -> Result<(), ServeFault>
+    ensures written { OnOk result (Appends (O.contents output.old) (O.contents output.new) lines.now) }
+    ensures fault { IfErr result (λ fault. fault ≡ ServeFault.Write) }
+{
+    match output.write_all(lines) {
+        Ok(()) => {}
+        Err(_) => return Err(ServeFault::Write),
+    }
+    match output.flush() {
+        Ok(()) => Ok(()),
+        Err(_) => Err(ServeFault::Write),
+    }
 }

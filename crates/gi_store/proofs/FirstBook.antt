@@ -79,14 +79,6 @@ kept_name store start first last name m r takes one_survives two_survives one tw
     (inside_keeps (state store start) (state store first) 0 false make_owner [] (Ok m) made_one)
     (inside_keeps (state store first) (state store last) 0 false write_name (row_given 1 name) r (two clean made_one.1.mode))
 
--- the first statement alone
-pub kept_first : {D : Type 0} (store : Ghosts D) (start first : Held D) (r : Result ℕ Error) → (HasCleanDisk (state store start) → IsTrue start.in_transaction × TakesOwner start.schema)
-    → Survives (state store start) (state store first) (λ _. ⊥)
-    → (HasCleanDisk (state store first) → IsTrue start.in_transaction → ExecutesInside 0 make_owner [] (state store start) (state store first) r)
-    → HasCleanDisk (state store first) → KeepsCommit (state store start) (state store first)
-kept_first store start first r takes survives runs clean =
-    inside_keeps (state store start) (state store first) 0 false make_owner [] r (runs clean (takes (omega (arith, survives.clean))).0)
-
 -- ---- all of them
 
 pub written_all : {D : Type 0} (store : Ghosts D) (start mid last : Held D) (name : List ℕ) (r : Result ℕ Error) → IsFree start.schema → Survives (state store mid) (state store last) (λ _. ⊥)

@@ -1,5 +1,5 @@
 -- The text of a head has its parts at their places, and its digits tell its number.
-use Rattle.std.proofs.Common.{◌≡◌, ℕ, zero, suc, ◌+◌, ◌*◌, ◌-◌, ◌/◌, ◌%◌, ◌<◌, ◌≤◌, ◌^◌, List, [], ◌∷◌, ◌++◌, length, take, drop, codes, replicate, refl, sym, ap, ◌∙◌, arith, rules, Option, None, Some, if◌then◌else◌, nat_lt, lt-ltb, IsSome, inl, inr, Bool, true, false, Result, Ok, Err, add-one, lit<, drop-drop, get_or, append_assoc, length-append, slice_set}
+use Rattle.std.proofs.Common.{◌≡◌, ℕ, zero, suc, ◌+◌, ◌*◌, ◌-◌, ◌/◌, ◌%◌, ◌<◌, ◌≤◌, ◌^◌, List, [], ◌∷◌, ◌++◌, length, take, drop, codes, replicate, refl, sym, ap, ◌∙◌, arith, rules, Option, None, Some, if◌then◌else◌, nat_lt, lt-ltb, IsSome, inl, inr, Bool, true, false, Result, Ok, Err, lit<, drop-drop, get_or, append_assoc, length-append, slice_set}
 use Rattle.std.proofs.Math.Nat.{pow-le-pow_right, pow-suc}
 use Rattle.std.proofs.lemmas.Bool.{cases_Bool}
 use Rattle.std.proofs.lemmas.Nat.{div_below}
@@ -90,9 +90,6 @@ not_refused text bytes refused long are is told =
 
 pub pow_low : (i : ℕ) → i < 10 → 10 ^ i ≤ 1000000000
 pow_low i below = let nine : i ≤ 9 = omega arith in pow-le-pow_right {n = 10} (omega arith) nine
-
-pub pow_more : (i : ℕ) → 10 ^ (i + 1) ≡ 10 ^ i * 10
-pow_more i = rw add-one (pow-suc 10 i)
 
 pub digest_is_ascii : (bytes : List ℕ) → IsAscii (encode_lower bytes)
 digest_is_ascii bytes = IsAscii-encode_with lower_digits bytes (IsAscii-cons 48 (49 ∷ 50 ∷ 51 ∷ 52 ∷ 53 ∷ 54 ∷ 55 ∷ 56 ∷ 57 ∷ 97 ∷ 98 ∷ 99 ∷ 100 ∷ 101 ∷ 102 ∷ []) (lit< tt) (IsAscii-cons 49 (50 ∷ 51 ∷ 52 ∷ 53 ∷ 54 ∷ 55 ∷ 56 ∷ 57 ∷ 97 ∷ 98 ∷ 99 ∷ 100 ∷ 101 ∷ 102 ∷ []) (lit< tt) (IsAscii-cons 50 (51 ∷ 52 ∷ 53 ∷ 54 ∷ 55 ∷ 56 ∷ 57 ∷ 97 ∷ 98 ∷ 99 ∷ 100 ∷ 101 ∷ 102 ∷ []) (lit< tt) (IsAscii-cons 51 (52 ∷ 53 ∷ 54 ∷ 55 ∷ 56 ∷ 57 ∷ 97 ∷ 98 ∷ 99 ∷ 100 ∷ 101 ∷ 102 ∷ []) (lit< tt) (IsAscii-cons 52 (53 ∷ 54 ∷ 55 ∷ 56 ∷ 57 ∷ 97 ∷ 98 ∷ 99 ∷ 100 ∷ 101 ∷ 102 ∷ []) (lit< tt) (IsAscii-cons 53 (54 ∷ 55 ∷ 56 ∷ 57 ∷ 97 ∷ 98 ∷ 99 ∷ 100 ∷ 101 ∷ 102 ∷ []) (lit< tt) (IsAscii-cons 54 (55 ∷ 56 ∷ 57 ∷ 97 ∷ 98 ∷ 99 ∷ 100 ∷ 101 ∷ 102 ∷ []) (lit< tt) (IsAscii-cons 55 (56 ∷ 57 ∷ 97 ∷ 98 ∷ 99 ∷ 100 ∷ 101 ∷ 102 ∷ []) (lit< tt) (IsAscii-cons 56 (57 ∷ 97 ∷ 98 ∷ 99 ∷ 100 ∷ 101 ∷ 102 ∷ []) (lit< tt) (IsAscii-cons 57 (97 ∷ 98 ∷ 99 ∷ 100 ∷ 101 ∷ 102 ∷ []) (lit< tt) (IsAscii-cons 97 (98 ∷ 99 ∷ 100 ∷ 101 ∷ 102 ∷ []) (lit< tt) (IsAscii-cons 98 (99 ∷ 100 ∷ 101 ∷ 102 ∷ []) (lit< tt) (IsAscii-cons 99 (100 ∷ 101 ∷ 102 ∷ []) (lit< tt) (IsAscii-cons 100 (101 ∷ 102 ∷ []) (lit< tt) (IsAscii-cons 101 (102 ∷ []) (lit< tt) (IsAscii-cons 102 [] (lit< tt) IsAscii-nil))))))))))))))))

@@ -2,30 +2,31 @@
 use Rattle.std.proofs.Common.{◌≤◌, inl, inr, ℕ, List, length, arith}
 use Rattle.std.proofs.lemmas.List.Sorted.{length_permutation}
 use Rattle.gi_pairs.specs.Limits.{most_processed_rows}
-use Rattle.gi_messages.specs.Grammar.{Spells}
 use Rattle.gi_messages.specs.declared.message.Delord.{Delord}
-use Rattle.gi_messages.specs.declared.message.Message.TheVariants as message
 use Rattle.gi_table_commands.specs.Lines.{HasLines}
-use Rattle.gi_table_commands.specs.Match.{IsFirstLineFault, IsLineFault, IsRefused, IsUnanswered}
+use Rattle.gi_table_commands.specs.Match.{IsFirstLineFault, IsLineFault, IsRefused, IsUnanswered, SpellsWhole}
 use Rattle.gi_table_commands.specs.declared.fault.Fault.{Fault}
 use Rattle.gi_table_commands.specs.declared.fault.Fault.TheVariants as fault
 use Rattle.gi_table_commands.specs.declared.fault.Line.TheVariants.{Order, Own}
 
--- a table that is read from a message has few rows
-pub few_rows : (bytes : List ℕ) (table : Delord) → Spells bytes (message.Delord table)
-    → length table.processed.rows ≤ most_processed_rows
-few_rows bytes table spelled =
-    let processed = spelled.stands.1.processed in
-    omega (arith, processed.few, length_permutation processed.rows table.processed.rows processed.makes.same)
+-- a table that is read from a whole message has few rows
+pub few_rows : (bytes : List ℕ) (table : Delord) → SpellsWhole bytes table → length table.processed.rows ≤ most_processed_rows
+few_rows bytes table is =
+    let processed = is.spelled.stands.1.processed in
+    let few = rw is.whole at processed.few in
+    omega (arith, few, length_permutation processed.rows table.processed.rows processed.makes.same)
 
--- the second line is refused, and the first one is a DELORD
+-- the second line is refused, and the first one is a whole DELORD
 pub own_refused : (input first second : List ℕ) (order : Delord) (why : Fault) → HasLines input first second
-    → Spells first (message.Delord order) → IsLineFault Own second why → IsRefused input why
+    → SpellsWhole first order → IsLineFault Own second why → IsRefused input why
 own_refused input first second order (fault.Message Order why) lines spelled refused = let other = refused.0 in cc
 own_refused input first second order (fault.Message Own why) lines spelled refused =
     (first, second, lines, (order, spelled), refused)
 own_refused input first second order (fault.WrongKind Order) lines spelled refused = let other = refused.0 in cc
 own_refused input first second order (fault.WrongKind Own) lines spelled refused =
+    (first, second, lines, (order, spelled), refused)
+own_refused input first second order (fault.Parts Order) lines spelled refused = let other = refused.0 in cc
+own_refused input first second order (fault.Parts Own) lines spelled refused =
     (first, second, lines, (order, spelled), refused)
 own_refused input first second order fault.OutOfMemory lines spelled refused = tt
 own_refused input first second order fault.CommandLine lines spelled refused = absurd refused
@@ -46,6 +47,9 @@ order_refused input first second (fault.Message Order why) lines refused =
 order_refused input first second (fault.WrongKind Own) lines refused = let other = refused.0 in cc
 order_refused input first second (fault.WrongKind Order) lines refused =
     (first, second, lines, refused)
+order_refused input first second (fault.Parts Own) lines refused = let other = refused.0 in cc
+order_refused input first second (fault.Parts Order) lines refused =
+    (first, second, lines, refused)
 order_refused input first second fault.OutOfMemory lines refused = tt
 order_refused input first second fault.CommandLine lines refused = absurd refused
 order_refused input first second fault.Read lines refused = absurd refused
@@ -63,7 +67,7 @@ lines_refused input first second why lines (inr refused) = own_refused input fir
 
 -- two tables of different shapes, or want of memory
 pub unanswered_refused : (input first second : List ℕ) (order own : Delord) (why : Fault) → HasLines input first second
-    → Spells first (message.Delord order) → Spells second (message.Delord own) → IsUnanswered order own why → IsRefused input why
+    → SpellsWhole first order → SpellsWhole second own → IsUnanswered order own why → IsRefused input why
 unanswered_refused input first second order own fault.ShapeDiffers lines is_order is_own different = record {
   order = order;
   own = own;
@@ -73,6 +77,7 @@ unanswered_refused input first second order own fault.ShapeDiffers lines is_orde
 unanswered_refused input first second order own fault.OutOfMemory lines is_order is_own unanswered = tt
 unanswered_refused input first second order own (fault.Message line why) lines is_order is_own unanswered = absurd unanswered
 unanswered_refused input first second order own (fault.WrongKind line) lines is_order is_own unanswered = absurd unanswered
+unanswered_refused input first second order own (fault.Parts line) lines is_order is_own unanswered = absurd unanswered
 unanswered_refused input first second order own fault.CommandLine lines is_order is_own unanswered = absurd unanswered
 unanswered_refused input first second order own fault.Read lines is_order is_own unanswered = absurd unanswered
 unanswered_refused input first second order own fault.TooLarge lines is_order is_own unanswered = absurd unanswered

@@ -1,5 +1,6 @@
 -- The tables of an input as a function of its lines, for the laws.
-use Rattle.std.proofs.Common.{◌≡◌, ◌≢◌, ℕ, List, [], ◌∷◌, ◌++◌, ◌⊎◌, inl, inr, Result, Ok, Err, refl, sym, ap, ap₂, ◌∙◌}
+use Rattle.std.proofs.Common.{◌≡◌, ◌≢◌, ◌==◌, ℕ, List, [], ◌∷◌, ◌++◌, ◌⊎◌, inl, inr, cond, Result, Ok, Err, refl, sym, ap, ap₂, ◌∙◌}
+use Rattle.std.proofs.lemmas.Bool.Decides.{eqb_tells}
 use Rattle.gi_pairs.specs.Table.{TableContents}
 use Rattle.gi_lesser.specs.Lesser.{lesser_of}
 use Rattle.gi_messages.specs.Decoding.{decoded}
@@ -11,7 +12,7 @@ use Rattle.gi_messages.specs.declared.message.Message.TheVariants as message
 use Rattle.gi_messages.specs.declared.message_fault.MessageFault.{MessageFault}
 use Rattle.gi_table_commands.specs.Laws.{HasNoAnswer, HasOneAnswer, HasOneFault}
 use Rattle.gi_text.specs.Lines.{lines, line_feed}
-use Rattle.gi_table_commands.specs.Match.{IsRefused, HasTwoShapes, SpellsTables, response}
+use Rattle.gi_table_commands.specs.Match.{IsRefused, HasTwoShapes, SpellsPart, SpellsTables, SpellsWhole, response}
 use Rattle.gi_table_commands.specs.declared.fault.Fault.{Fault}
 use Rattle.gi_table_commands.specs.declared.fault.Fault.TheVariants as fault
 use Rattle.gi_table_commands.specs.declared.fault.Line.{Line}
@@ -19,7 +20,7 @@ use Rattle.gi_table_commands.specs.declared.fault.Line.TheVariants.{Order, Own}
 
 -- the table of a line
 abbrev table_of : Line → Result Message MessageFault → Result Delord Fault
-table_of line (Ok (message.Delord table)) = Ok table
+table_of line (Ok (message.Delord table)) = cond (table.parts == 1) (Ok table) (Err (fault.Parts line))
 table_of line (Ok (message.Nomint other)) = Err (fault.WrongKind line)
 table_of line (Ok (message.Acknow other)) = Err (fault.WrongKind line)
 table_of line (Ok (message.Nomres other)) = Err (fault.WrongKind line)
@@ -52,15 +53,32 @@ other_kind line (message.Acknow found) other = refl
 other_kind line (message.Nomres found) other = refl
 other_kind line (message.Delres found) other = refl
 
+-- a table that is whole, and one part of several
+taken : (line : Line) (table : Delord) → table.parts ≡ 1 → table_of line (Ok (message.Delord table)) ≡ Ok table
+taken line table whole = rw whole refl
+
+one_part : (line : Line) (table : Delord) → table.parts ≢ 1 → table_of line (Ok (message.Delord table)) ≡ Err (fault.Parts line)
+one_part line table several =
+    elim (eqb_tells table.parts 1) [
+      | inl one ↦ absurd (several one.1)
+      | inr other ↦ rw other.0 refl
+    ]
+
 same_pair : (order own order' own' : Delord) → ◌≡◌ {A = Result (Delord × Delord) Fault} (Ok (order, own)) (Ok (order', own')) → (order ≡ order') × (own ≡ own')
 same_pair order own order' own' e =
     let pair : ◌≡◌ {A = Delord × Delord} (order, own) (order', own') = cc in
     (ap (λ (p : Delord × Delord). p.0) pair, ap (λ (p : Delord × Delord). p.1) pair)
 
 module _ (reads : ReadsSpelling) where
+  table_is : (line : Line) (bytes : List ℕ) (table : Delord) → SpellsWhole bytes table → table_of line (decoded bytes) ≡ Ok table
+  table_is line bytes table is = ap (table_of line) ((reads bytes (message.Delord table)).1 is.spelled) ∙ taken line table is.whole
+
   tables_are : (input : List ℕ) (order own : Delord) → SpellsTables input order own → tables_of (lines input) ≡ Ok (order, own)
-  tables_are input order own is =
-      rw (is.lines, (reads is.first (message.Delord order)).1 is.is_order, (reads is.second (message.Delord own)).1 is.is_own) refl
+  tables_are input order own is = rw (is.lines, table_is Order is.first order is.is_order, table_is Own is.second own is.is_own) refl
+
+  -- what one part of several comes to
+  part_is : (line : Line) (bytes : List ℕ) → SpellsPart bytes → table_of line (decoded bytes) ≡ Err (fault.Parts line)
+  part_is line bytes is = ap (table_of line) ((reads bytes (message.Delord is.found)).1 is.spelled) ∙ one_part line is.found is.several
 
   -- a fault is what the lines say first, but for the shapes, of which the tables say it
   fault_is : (input : List ℕ) (why : Fault) → why ≢ fault.OutOfMemory → IsRefused input why
@@ -68,11 +86,14 @@ module _ (reads : ReadsSpelling) where
   fault_is input fault.Lines memory none = inl (not_two (lines input) none)
   fault_is input (fault.Message Order why) memory (first, second, is, (same, told)) = inl (rw (is, told) refl)
   fault_is input (fault.Message Own why) memory (first, second, is, (order, spelled), (same, told)) =
-      inl (rw (is, (reads first (message.Delord order)).1 spelled, told) refl)
+      inl (rw (is, table_is Order first order spelled, told) refl)
   fault_is input (fault.WrongKind Order) memory (first, second, is, (same, other)) =
       inl (rw (is, (reads first other.found).1 other.spelled, other_kind Order other.found other.other) refl)
   fault_is input (fault.WrongKind Own) memory (first, second, is, (order, spelled), (same, other)) =
-      inl (rw (is, (reads first (message.Delord order)).1 spelled, (reads second other.found).1 other.spelled, other_kind Own other.found other.other) refl)
+      inl (rw (is, table_is Order first order spelled, (reads second other.found).1 other.spelled, other_kind Own other.found other.other) refl)
+  fault_is input (fault.Parts Order) memory (first, second, is, (same, part)) = inl (rw (is, part_is Order first part) refl)
+  fault_is input (fault.Parts Own) memory (first, second, is, (order, spelled), (same, part)) =
+      inl (rw (is, table_is Order first order spelled, part_is Own second part) refl)
   fault_is input fault.ShapeDiffers memory two = inr (two, refl)
   fault_is input fault.OutOfMemory memory refused = absurd (memory refl)
   fault_is input fault.CommandLine memory refused = absurd refused

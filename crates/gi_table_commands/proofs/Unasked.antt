@@ -30,7 +30,7 @@ keeps_same (Some input) = refl
 pub may_want : (wanted : Wanted) (remaining : Option (List ℕ)) → IsTablesFault wanted remaining fault.OutOfMemory
 may_want (at_once match_tables) remaining = if_some remaining (λ input. IsFirstFault input fault.OutOfMemory) (λ input. tt)
 may_want (at_once (hours day)) remaining = tt
-may_want (at_once (simulate trace)) remaining = inr refl
+may_want (at_once (simulate trace strict)) remaining = inr refl
 may_want (at_once (report kind format side words book)) remaining = inr refl
 may_want (at_once (explain format side words book)) remaining = inr refl
 may_want (at_once (page side word book)) remaining = inr refl
@@ -44,7 +44,7 @@ may_want (serve wanted) remaining = inr refl
 pub may_leave : (wanted : Wanted) (remaining : Option (List ℕ)) → MayReadTables wanted remaining remaining
 may_leave (at_once match_tables) remaining = tt
 may_leave (at_once (hours day)) remaining = keeps_same remaining
-may_leave (at_once (simulate trace)) remaining = keeps_same remaining
+may_leave (at_once (simulate trace strict)) remaining = keeps_same remaining
 may_leave (at_once (report kind format side words book)) remaining = keeps_same remaining
 may_leave (at_once (explain format side words book)) remaining = keeps_same remaining
 may_leave (at_once (page side word book)) remaining = keeps_same remaining

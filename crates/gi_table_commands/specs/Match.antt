@@ -1,5 +1,5 @@
 -- What `match` answers: the lesser rule, from bytes to bytes.
-use Rattle.std.specs.Prelude.{◌≡◌, ◌⊎◌, ◌<◌, ◌≤◌, ℕ, List, [], ◌∷◌, ◌++◌, length, Option, Result, Err, IfOk, IfErr}
+use Rattle.std.specs.Prelude.{◌≡◌, ◌≢◌, ◌⊎◌, ◌<◌, ◌≤◌, ℕ, List, [], ◌∷◌, ◌++◌, length, Option, Result, Err, IfOk, IfErr}
 use Rattle.std.specs.Io.KnownBytes.{Appends}
 use Rattle.gi_messages.specs.Decoding.{decoded}
 use Rattle.gi_messages.specs.Grammar.{Spells}
@@ -28,12 +28,14 @@ pub record SameShape (order own : Delord) : Type 0 where
   pub cycle : order.cycle ≡ own.cycle
   pub hours : HasShapeOf own.processed order.processed
 
--- what the matching operator answers: its own table, and the confirmed one
+-- what the matching operator answers, whole: its own table, and the confirmed one
 abbrev pub response : Delord → TableContents → Delres
 response own confirmed = record {
   point = own.point;
   day = own.day;
   cycle = own.cycle;
+  parts = 1;
+  part = 1;
   processed = own.processed;
   confirmed = confirmed;
 }
@@ -52,13 +54,18 @@ IsUnanswered order own fault.ShapeDiffers = ¬ (SameShape order own)
 IsUnanswered order own fault.OutOfMemory = Unit {0}
 IsUnanswered order own _ = ⊥
 
--- the input is two lines, which spell these DELORDs
+-- the bytes are this DELORD, whole: it comes in one part
+pub record SpellsWhole (bytes : List ℕ) (table : Delord) : Type 0 where
+  pub spelled : Spells bytes (message.Delord table)
+  pub whole : table.parts ≡ 1
+
+-- the input is two lines, which are these DELORDs, whole
 pub record SpellsTables (input : List ℕ) (order own : Delord) : Type 0 where
   pub first : List ℕ
   pub second : List ℕ
   pub lines : HasLines input first second
-  pub is_order : Spells first (message.Delord order)
-  pub is_own : Spells second (message.Delord own)
+  pub is_order : SpellsWhole first order
+  pub is_own : SpellsWhole second own
 
 -- the text of the response with the lesser of the input's two tables, and a line feed
 pub record IsAnswer (input text : List ℕ) : Type 0 where
@@ -77,31 +84,38 @@ pub record SpellsOther (bytes : List ℕ) : Type 0 where
   pub spelled : Spells bytes found
   pub other : (table : Delord) → ¬ (found ≡ message.Delord table)
 
--- why the bytes of a line are no DELORD
+-- a DELORD that is one part of several
+pub record SpellsPart (bytes : List ℕ) : Type 0 where
+  pub found : Delord
+  pub spelled : Spells bytes (message.Delord found)
+  pub several : found.parts ≢ 1
+
+-- why the bytes of a line are no whole DELORD
 abbrev pub IsLineFault : Line → List ℕ → Fault → Type 0
 IsLineFault line bytes (fault.Message at why) = (at ≡ line) × (decoded bytes ≡ Err why)
 IsLineFault line bytes (fault.WrongKind at) = (at ≡ line) × SpellsOther bytes
+IsLineFault line bytes (fault.Parts at) = (at ≡ line) × SpellsPart bytes
 IsLineFault line bytes fault.OutOfMemory = Unit {0}
 IsLineFault line bytes _ = ⊥
 
--- what is read on a line: the DELORD that it spells, which has no more rows than a processed table may have, or why it spells none
+-- what is read on a line: the whole DELORD that it spells, which has no more rows than a processed table may have, or why it spells none
 pub record IsTableOn (line : Line) (bytes : List ℕ) (result : Result Delord Fault) : Type 0 where
-  pub spelled : IfOk result (λ table. Spells bytes (message.Delord table))
+  pub spelled : IfOk result (SpellsWhole bytes)
   pub few_rows : IfOk result (λ table. length table.processed.rows ≤ most_processed_rows)
   pub refused : IfErr result (IsLineFault line bytes)
   pub too_large : most_bytes < length bytes → result ≡ Err (fault.Message line TooLarge)
 
--- the fault of two lines: the first one's, or where that spells a DELORD the second one's
+-- the fault of two lines: the first one's, or where that spells a whole DELORD the second one's
 abbrev pub IsFirstLineFault : List ℕ → List ℕ → Fault → Type 0
 IsFirstLineFault first second why =
-    IsLineFault Order first why ⊎ (((order : Delord) × Spells first (message.Delord order)) × IsLineFault Own second why)
+    IsLineFault Order first why ⊎ (((order : Delord) × SpellsWhole first order) × IsLineFault Own second why)
 
--- of two lines, the first is refused so, or the second is and the first spells a DELORD
+-- of two lines, the first is refused so, or the second is and the first spells a whole DELORD
 abbrev pub IsRefusedAt : Line → List ℕ → Fault → Type 0
 IsRefusedAt Order input why =
     (first second : List ℕ) × HasLines input first second × IsLineFault Order first why
 IsRefusedAt Own input why = (first second : List ℕ) × HasLines input first second
-    × ((order : Delord) × Spells first (message.Delord order)) × IsLineFault Own second why
+    × ((order : Delord) × SpellsWhole first order) × IsLineFault Own second why
 
 -- the two tables of the input are of different shapes
 pub record HasTwoShapes (input : List ℕ) : Type 0 where
@@ -115,6 +129,7 @@ abbrev pub IsRefused : List ℕ → Fault → Type 0
 IsRefused input fault.Lines = HasNoLines input
 IsRefused input (fault.Message line why) = IsRefusedAt line input (fault.Message line why)
 IsRefused input (fault.WrongKind line) = IsRefusedAt line input (fault.WrongKind line)
+IsRefused input (fault.Parts line) = IsRefusedAt line input (fault.Parts line)
 IsRefused input fault.ShapeDiffers = HasTwoShapes input
 IsRefused input fault.OutOfMemory = Unit {0}
 IsRefused input _ = ⊥

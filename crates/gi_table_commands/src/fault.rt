@@ -49,6 +49,9 @@ pub enum Fault {
     /// The line is a message of another kind than DELORD.
     #[error("{0}: WrongKind")]
     WrongKind(Line),
+    /// The line is a DELORD that is one part of several, and only whole ones are taken.
+    #[error("{0}: Parts")]
+    Parts(Line),
     /// The tables are for another point, day or cycle, or for other hours.
     #[error("ShapeDiffers")]
     ShapeDiffers,

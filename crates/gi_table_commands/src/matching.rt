@@ -1,12 +1,10 @@
-ghost use Rattle.std.specs.Prelude.{◌≡◌, ◌↔◌, ◌<◌, ◌≤◌, ◌∷◌, ◌++◌, [], ℕ, List, Err, IfOk, IfErr, IsTrue, length};
-ghost use Rattle.gi_messages.specs.Grammar.{Spells};
-ghost use Rattle.gi_messages.specs.declared.message.Message.TheVariants as message;
+ghost use Rattle.std.specs.Prelude.{◌≡◌, ◌≢◌, ◌↔◌, ◌<◌, ◌≤◌, ◌∷◌, ◌++◌, [], ℕ, List, Err, IfOk, IfErr, IsTrue, length};
 ghost use Rattle.gi_messages.specs.Limits.{most_bytes};
 ghost use Rattle.gi_messages.specs.Writing.{text_of};
 ghost use Rattle.gi_pairs.specs.Limits.{most_processed_rows};
 ghost use Rattle.gi_text.specs.Lines.{line_feed};
 ghost use Rattle.gi_table_commands.specs.Lines.{HasLines, HasNoLines};
-ghost use Rattle.gi_table_commands.specs.Match.{IsAnswer, IsFirstLineFault, IsLineFault, IsRefused, IsResponse, IsTableOn, IsUnanswered, SameShape};
+ghost use Rattle.gi_table_commands.specs.Match.{IsAnswer, IsFirstLineFault, IsLineFault, IsRefused, IsResponse, IsTableOn, IsUnanswered, SameShape, SpellsWhole};
 
 use crate::fault::{Fault, Line};
 use crate::lines::two_lines;
@@ -35,8 +33,20 @@ fn hold_memory(alloc: Global, line: &[u8]) {
     }
 }
 
+/// The table of a line, taken whole: `Parts` where it is one part of several.
+fn whole(line: Line, table: Delord) -> Result<Delord, Fault>
+    ensures taken { IfOk result (λ taken. (taken ≡ table) × (table.parts ≡ 1)) }
+    ensures refused { IfErr result (λ fault. (fault ≡ Fault.Parts line) × (table.parts ≢ 1)) }
+{
+    if table.parts == 1 {
+        return Ok(table);
+    }
+    drop(table);
+    Err(Fault::Parts(line))
+}
+
 fn table_on(alloc: Global, line: Line, bytes: &[u8]) -> Result<Delord, Fault>
-    ensures spelled { IfOk result (λ table. Spells bytes.now (message.Delord table)) }
+    ensures spelled { IfOk result (SpellsWhole bytes.now) }
     ensures few_rows { IfOk result (λ table. length table.processed.rows ≤ most_processed_rows) }
     ensures refused { IfErr result (IsLineFault line bytes.now) }
     ensures too_large { most_bytes < length bytes.now
@@ -44,7 +54,7 @@ fn table_on(alloc: Global, line: Line, bytes: &[u8]) -> Result<Delord, Fault>
 {
     hold_memory(alloc, bytes);
     match decode(alloc, bytes) {
-        Ok(Message::Delord(table)) => Ok(table),
+        Ok(Message::Delord(table)) => whole(line, table),
         Ok(Message::Nomint(_)) => Err(Fault::WrongKind(line)),
         Ok(Message::Acknow(_)) => Err(Fault::WrongKind(line)),
         Ok(Message::Nomres(_)) => Err(Fault::WrongKind(line)),
@@ -82,8 +92,8 @@ fn tables_on(
     order: &[u8],
     own: &[u8],
 ) -> Result<(Delord, Delord), Fault>
-    ensures order { IfOk result (λ tables. Spells order.now (message.Delord tables.0)) }
-    ensures own { IfOk result (λ tables. Spells own.now (message.Delord tables.1)) }
+    ensures order { IfOk result (λ tables. SpellsWhole order.now tables.0) }
+    ensures own { IfOk result (λ tables. SpellsWhole own.now tables.1) }
     ensures few_rows { IfOk result (λ tables. length tables.0.processed.rows ≤ most_processed_rows) }
     ensures few_own_rows { IfOk result (λ tables. length tables.1.processed.rows ≤ most_processed_rows) }
     ensures refused { IfErr result (IsFirstLineFault order.now own.now) }
@@ -134,6 +144,8 @@ fn response_to(
         point: own.point,
         day: own.day,
         cycle: own.cycle,
+        parts: 1,
+        part: 1,
         processed: own.processed,
         confirmed,
     }))

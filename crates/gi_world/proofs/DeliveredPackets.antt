@@ -73,23 +73,23 @@ saved_fact facts saved n fact is below =
 
 -- ---- what is written is read
 
-pub order_reads : (point : List ℕ) (cycle : FrozenCycle) → IsCode point → FitsFrozen cycle
+pub order_reads : {side : Side} (point : List ℕ) (cycle : FrozenCycle) → IsCode point → FitsFrozen side cycle
     → decoded (text_of (messages.Delord (order_of point cycle))) ≡ Ok (messages.Delord (order_of point cycle))
 order_reads point cycle code fits = read_back (messages.Delord (order_of point cycle)) (order-fits point cycle code fits) tt
 
-pub response_reads : (point : List ℕ) (cycle : MatchedCycle) → IsCode point → FitsMatched cycle
+pub response_reads : {side : Side} (point : List ℕ) (cycle : MatchedCycle) → IsCode point → FitsMatched side cycle
     → decoded (text_of (messages.Delres (response_of point cycle))) ≡ Ok (messages.Delres (response_of point cycle))
 response_reads point cycle code fits = read_back (messages.Delres (response_of point cycle)) (response-fits point cycle code fits) tt
 
 -- ---- the state of a closed cycle can be written
 
 pub closed_fits : (side : Side) (point : List ℕ) (facts : List Fact) (id : CycleId) → FitsDesk side point facts → is_closed id facts ≡ true
-    → FitsState (met_by (frozen_cycle side facts id) (peer_of id facts))
-closed_fits side point facts id fits closed = subst FitsState (state-closed side facts id closed) (state-fits side facts id fits.states closed)
+    → FitsState side (met_by (frozen_cycle side facts id) (peer_of id facts))
+closed_fits side point facts id fits closed = subst (FitsState side) (state-closed side facts id closed) (state-fits side facts id fits.states closed)
 
-pub frozen_fits : (cycle : FrozenCycle) (met : Option TableContents) → FitsState (met_by cycle met) → FitsFrozen cycle
-frozen_fits cycle None fits = fits
-frozen_fits cycle (Some peer) fits = record { id = fits.id; own = fits.own }
+pub frozen_fits : (side : Side) (cycle : FrozenCycle) (met : Option TableContents) → FitsState side (met_by cycle met) → FitsFrozen side cycle
+frozen_fits side cycle None fits = fits
+frozen_fits side cycle (Some peer) fits = record { id = fits.id; own = fits.own; few_of_each = fits.few_of_each }
 
 -- ---- what a closing and a meeting let out to the peer
 
@@ -151,7 +151,7 @@ order_of_fact w n (Closed id rule) packet legal fits below is there =
     let cycle = frozen_cycle I s.facts id in
     let message = messages.Delord (order_of s.point cycle) in
     let same = one_there (ToPeer I s n) (to_peer message) packet (closing_orders s.point s.facts n id rule is) there in
-    let frozen = frozen_fits cycle (peer_of id s.facts) (closed_fits I s.point s.facts id fits (fact_closes s.facts n id rule is)) in
+    let frozen = frozen_fits I cycle (peer_of id s.facts) (closed_fits I s.point s.facts id fits (fact_closes s.facts n id rule is)) in
     record {
       id = id;
       closed = fact_closes (saved_facts s) n id rule (saved_fact s.facts s.saved n (Closed id rule) is below);
@@ -176,7 +176,7 @@ response_of_fact w n (Met id peer) packet legal fits below is there =
     let message = messages.Delres (response_of s.point cycle) in
     let same = one_there (ToPeer M s n) (to_peer message) packet (meeting_writes M s.point s.facts n id peer legal.legal is) there in
     let all = fact_meets M s.point s.facts n id peer legal.legal is in
-    let matched = subst (λ (met : Option TableContents). FitsState (met_by (frozen_cycle M s.facts id) met)) all.1 (closed_fits M s.point s.facts id fits all.0) in
+    let matched = subst (λ (met : Option TableContents). FitsState M (met_by (frozen_cycle M s.facts id) met)) all.1 (closed_fits M s.point s.facts id fits all.0) in
     let saved =
     fact_meets M s.point (saved_facts s) n id peer (legal-front M s.point s.facts s.saved legal.legal) (saved_fact s.facts s.saved n (Met id peer) is below) in
     record {

@@ -17,7 +17,7 @@ same-hours side other facts others id = record { first = refl; last = refl }
 
 pub frozen-fits : (side : Side) (point : List ℕ) (facts : List Fact) (id : CycleId) → FitsDesk side point facts → is_closed id facts ≡ true
     → FitsProcessed (frozen_table side facts id)
-frozen-fits side point facts id fits closed = (frozen_fits (frozen_cycle side facts id) (peer_of id facts) (closed_fits side point facts id fits closed)).own
+frozen-fits side point facts id fits closed = (frozen_fits side (frozen_cycle side facts id) (peer_of id facts) (closed_fits side point facts id fits closed)).own
 
 pub frozen-is-table : (side : Side) (point : List ℕ) (facts : List Fact) (id : CycleId) → FitsDesk side point facts → is_closed id facts ≡ true
     → IsTable (frozen_table side facts id)

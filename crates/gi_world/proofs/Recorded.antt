@@ -1,5 +1,5 @@
 -- What a call records is the fact that it names.
-use Rattle.std.proofs.Common.{◌≡◌, ◌+◌, ℕ, List, length, slice_get, Bool, true, false, cond, not, nat_eq, nat_le, nat_lt, Option, Some, None, Result, Ok, Err, arith, refl}
+use Rattle.std.proofs.Common.{◌≡◌, ◌==◌, ◌+◌, ℕ, List, length, slice_get, Bool, true, false, cond, not, nat_eq, nat_le, nat_lt, Option, Some, None, Result, Ok, Err, arith, refl}
 use Rattle.std.proofs.lemmas.Bool.Decides.{nat_tests}
 use Rattle.std.specs.Str.{bytes_eq}
 use Rattle.gi_day.specs.Cycles.{cycle_count}
@@ -21,7 +21,7 @@ use Rattle.gi_processing.specs.declared.notice_fault.NoticeFault.TheVariants as 
 use Rattle.gi_processing.specs.declared.rule.Rule.{Rule}
 use Rattle.gi_cycles.specs.declared.cycle_state.CycleState.{CycleState}
 use Rattle.gi_cycles.specs.declared.cycle_state.CycleState.TheVariants.{Collecting, Frozen, Matched}
-use Rattle.gi_desk.specs.Deciding.{by_order, by_response, compared, cycle_of, difference, met_again, unless_differs}
+use Rattle.gi_desk.specs.Deciding.{by_order, by_response, compared, cycle_of, difference, if_whole, met_again, unless_differs}
 use Rattle.gi_desk.specs.History.{capacity_of, is_closed, is_closing, last_closed, number_of, state_of}
 use Rattle.gi_desk.specs.Judging.{by_decision, by_verdict, closed, delivered, if_same, submitted, unless_fault, unless_later, verdict_on}
 use Rattle.gi_desk.specs.Machine.{DeskState, comes_to, most_facts, outcome, unless_full}
@@ -120,6 +120,9 @@ response saved history id peer confirmed (Collecting other) = declines saved his
 response saved history id peer confirmed (Frozen cycle) = compares saved history id cycle.own peer confirmed (decisions.Meet peer) (records_it saved (Met id peer))
 response saved history id peer confirmed (Matched cycle) = compares saved history id cycle.own peer confirmed (met_again cycle.peer peer) (again saved history id cycle.peer peer)
 
+whole : (saved : ℕ) (history : List Fact) (id : CycleId) (peer : TableContents) (parts : ℕ) (d : Decision) → Meets saved history id peer d → Meets saved history id peer (if_whole parts d)
+whole saved history id peer parts d names = decides saved history id peer (parts == 1) d (decisions.Refused refusals.Parts) names (declines saved history id peer refusals.Parts)
+
 submission : (saved : ℕ) (point : List ℕ) (history : List Fact) (read : Result Message MessageFault) → Names (nomination_in read) saved (submitted point history read)
 submission saved point history (Err fault) = refuses None saved (refusals.Message fault)
 submission saved point history (Ok (Acknow message)) = refuses None saved refusals.WrongKind
@@ -142,13 +145,13 @@ delivery M saved point history (Ok (Delres message)) = refuses (meeting_in histo
 delivery M saved point history (Ok (Delord message)) =
     let id = cycle_of message.day message.cycle in
     let d = by_order message.processed (state_of M history id) in
-    either (Some (Met id message.processed)) saved (bytes_eq message.point point) (by_decision history id d) (Refuses refusals.WrongPoint)
-    (order saved history id message.processed (state_of M history id)) (refuses (Some (Met id message.processed)) saved refusals.WrongPoint)
+    either (Some (Met id message.processed)) saved (bytes_eq message.point point) (by_decision history id (if_whole message.parts d)) (Refuses refusals.WrongPoint)
+    (whole saved history id message.processed message.parts d (order saved history id message.processed (state_of M history id))) (refuses (Some (Met id message.processed)) saved refusals.WrongPoint)
 delivery I saved point history (Ok (Delres message)) =
     let id = cycle_of message.day message.cycle in
     let d = by_response message.processed message.confirmed (state_of I history id) in
-    either (Some (Met id message.processed)) saved (bytes_eq message.point point) (by_decision history id d) (Refuses refusals.WrongPoint)
-    (response saved history id message.processed message.confirmed (state_of I history id)) (refuses (Some (Met id message.processed)) saved refusals.WrongPoint)
+    either (Some (Met id message.processed)) saved (bytes_eq message.point point) (by_decision history id (if_whole message.parts d)) (Refuses refusals.WrongPoint)
+    (whole saved history id message.processed message.parts d (response saved history id message.processed message.confirmed (state_of I history id))) (refuses (Some (Met id message.processed)) saved refusals.WrongPoint)
 
 same_if : (saved n : ℕ) (fact : Fact) (next : Option Fact) → n ≡ saved + 1 → Names None saved (if_same n fact next)
 same_if saved n fact None is = refuses None saved refusals.OtherFact

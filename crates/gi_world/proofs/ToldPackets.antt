@@ -49,7 +49,7 @@ coded_among [] code all there = absurd there
 coded_among (first ∷ codes) code all (inl same) = subst IsCode same (All-head IsCode first codes all)
 coded_among (first ∷ codes) code all (inr later) = coded_among codes code (All-tail IsCode first codes all) later
 
-told_reads : (side : Side) (point : List ℕ) (cycle : MatchedCycle) (portfolio : List ℕ) → IsCode point → FitsMatched cycle → IsCode portfolio
+told_reads : (side : Side) (point : List ℕ) (cycle : MatchedCycle) (portfolio : List ℕ) → IsCode point → FitsMatched side cycle → IsCode portfolio
     → let message = messages.Nomres (told_of side point cycle portfolio) in decoded (to_user portfolio message).body ≡ Ok message
 told_reads side point cycle portfolio code fits own =
     read_back (messages.Nomres (told_of side point cycle portfolio)) (told-fits side point cycle portfolio code fits own) (told-few side point cycle portfolio fits)
@@ -117,12 +117,12 @@ closing_tells side s n id rule packet fits is there telling = by_side side fits 
         let cycle = frozen_cycle I s.facts id in
         let message = messages.Delord (order_of s.point cycle) in
         let same = one_there (let_out I s.point s.facts n) (to_peer message) packet (out I ∙ ordered_by s.point cycle (peer_of id s.facts)) there in
-        silent packet (to_peer message) message same (order_reads s.point cycle fits.point (frozen_fits cycle (peer_of id s.facts) (closed_fits I s.point s.facts id fits closed))) refl telling
+        silent packet (to_peer message) message same (order_reads s.point cycle fits.point (frozen_fits I cycle (peer_of id s.facts) (closed_fits I s.point s.facts id fits closed))) refl telling
     by_side M fits there =
         none_there (let_out M s.point s.facts n) packet (out M ∙ unanswered_by s.point (frozen_cycle M s.facts id) (peer_of id s.facts)) there
 
 -- what a role writes of a meeting to the peer tells nothing
-response_tells : (side : Side) (point : List ℕ) (cycle : MatchedCycle) (packet : Packet) → IsCode point → FitsMatched cycle → In packet (sent (on_met side point cycle)) → tells packet ≡ true → ⊥
+response_tells : (side : Side) (point : List ℕ) (cycle : MatchedCycle) (packet : Packet) → IsCode point → FitsMatched side cycle → In packet (sent (on_met side point cycle)) → tells packet ≡ true → ⊥
 response_tells I point cycle packet code fits there telling = there
 response_tells M point cycle packet code fits (inr none) telling = none
 response_tells M point cycle packet code fits (inl same) telling =
@@ -135,7 +135,7 @@ told_from side point cycle packet there =
     from_map (λ portfolio. to_user portfolio (messages.Nomres (told_of side point cycle portfolio))) packet (portfolios_in side cycle.confirmed.rows) there
 
 -- of a meeting's packets those that tell carry the portfolio's rows
-meeting_tells : (side : Side) (point : List ℕ) (cycle : MatchedCycle) (packet : Packet) → IsCode point → FitsMatched cycle
+meeting_tells : (side : Side) (point : List ℕ) (cycle : MatchedCycle) (packet : Packet) → IsCode point → FitsMatched side cycle
     → In packet (sent (on_met side point cycle)) ⊎ In packet (told_packets side point cycle) → tells packet ≡ true
     → (portfolio : List ℕ) × (decoded packet.body ≡ Ok (messages.Nomres (told_of side point cycle portfolio)))
 meeting_tells side point cycle packet code fits (inl there) telling = absurd (response_tells side point cycle packet code fits there telling)
@@ -160,7 +160,7 @@ telling_of_fact side s n (Met id peer) packet legal fits below is there telling 
     let cycle = matched_of (frozen_cycle side s.facts id) peer in
     let all = fact_meets side s.point s.facts n id peer legal.legal is in
     let state : state_of side s.facts id ≡ Matched cycle = state-closed side s.facts id all.0 ∙ ap (met_by (frozen_cycle side s.facts id)) all.1 in
-    let matched = subst (λ (met : Option TableContents). FitsState (met_by (frozen_cycle side s.facts id) met)) all.1 (closed_fits side s.point s.facts id fits all.0) in
+    let matched = subst (λ (met : Option TableContents). FitsState side (met_by (frozen_cycle side s.facts id) met)) all.1 (closed_fits side s.point s.facts id fits all.0) in
     let out = meeting_lets_out side s.point s.facts n id peer cycle legal.legal is (sym state) in
     let found = in_from_contains packet (sent (on_met side s.point cycle) ++ told_packets side s.point cycle) (subst (λ (packets : List Packet). Contains packets packet) (sym out) there) in
     let (portfolio, read) =
@@ -207,7 +207,7 @@ text_of_response I point cycle packet there outwards = there
 text_of_response M point cycle packet (inr none) outwards = none
 text_of_response M point cycle packet (inl same) outwards = not_for_peer packet (to_peer (messages.Delres (response_of point cycle))) same refl outwards
 
-text_on_meeting : (side : Side) (point : List ℕ) (cycle : MatchedCycle) (packet : Packet) → IsCode point → FitsMatched cycle
+text_on_meeting : (side : Side) (point : List ℕ) (cycle : MatchedCycle) (packet : Packet) → IsCode point → FitsMatched side cycle
     → In packet (sent (on_met side point cycle)) ⊎ In packet (told_packets side point cycle) → is_for_peer packet ≡ false → IsTextForPortfolio packet
 text_on_meeting side point cycle packet code fits (inl there) outwards = absurd (text_of_response side point cycle packet there outwards)
 text_on_meeting side point cycle packet code fits (inr there) outwards =
@@ -232,7 +232,7 @@ text_of_fact side s n (Met id peer) packet legal fits is there outwards =
     let cycle = matched_of (frozen_cycle side s.facts id) peer in
     let all = fact_meets side s.point s.facts n id peer legal.legal is in
     let state : state_of side s.facts id ≡ Matched cycle = state-closed side s.facts id all.0 ∙ ap (met_by (frozen_cycle side s.facts id)) all.1 in
-    let matched = subst (λ (met : Option TableContents). FitsState (met_by (frozen_cycle side s.facts id) met)) all.1 (closed_fits side s.point s.facts id fits all.0) in
+    let matched = subst (λ (met : Option TableContents). FitsState side (met_by (frozen_cycle side s.facts id) met)) all.1 (closed_fits side s.point s.facts id fits all.0) in
     let out = meeting_lets_out side s.point s.facts n id peer cycle legal.legal is (sym state) in
     let found = in_from_contains packet (sent (on_met side s.point cycle) ++ told_packets side s.point cycle) (subst (λ (packets : List Packet). Contains packets packet) (sym out) there) in
     text_on_meeting side s.point cycle packet fits.point matched (from_append packet (sent (on_met side s.point cycle)) (told_packets side s.point cycle) found) outwards

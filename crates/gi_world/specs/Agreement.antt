@@ -98,6 +98,7 @@ abbrev pub disagrees : Side → Refusal → Bool
 disagrees side (refusals.Message fault) = true
 disagrees side refusals.WrongKind = true
 disagrees side refusals.WrongPoint = true
+disagrees side refusals.Parts = true
 disagrees I refusals.NotClosed = true
 disagrees M refusals.NotClosed = false
 disagrees side refusals.ShapeDiffers = true

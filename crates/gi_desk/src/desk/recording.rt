@@ -5,7 +5,7 @@ ghost use Rattle.std.specs.Prelude.{◌≡◌, ◌<◌, ◌≤◌, ◌++◌, ◌
 ghost use Rattle.gi_day.specs.Cycles.{IsCycle};
 ghost use Rattle.gi_pairs.specs.Limits.{most_processed_rows};
 ghost use Rattle.gi_pairs.specs.Table.{IsTable};
-ghost use Rattle.gi_processing.specs.Processing.{processed as processed_of};
+ghost use Rattle.gi_processing.specs.Processing.{HasFewOfEach, processed as processed_of};
 ghost use Rattle.gi_desk.specs.History.{capacity_of, documents_of};
 ghost use Rattle.gi_desk.specs.Machine.{most_facts, would_record};
 ghost use Rattle.gi_facts.specs.Writable.{FitsFact};
@@ -28,6 +28,7 @@ impl<R: Role> Desk<R> {
         requires { IsCycle id.now.day id.now.cycle }
         ensures value { IfOk result (λ table. table ≡ processed_of (capacity_of self.now.facts) (documents_of self.now.facts) R.SIDE id.now.day id.now.cycle rule) }
         ensures few { IfOk result (λ table. length table.rows ≤ most_processed_rows) }
+        ensures few_of_each { IfOk result (HasFewOfEach R.SIDE) }
         ensures table { IfOk result IsTable }
     {
         let frame = self.calendar.frame(id.day).unwrap();

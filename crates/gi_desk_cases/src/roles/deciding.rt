@@ -31,8 +31,18 @@ fn id_of(state: &CycleState) -> CycleId {
     }
 }
 
+/// In how many parts the line's message comes, and the rest of the line: in two where it begins with
+/// `of 2`.
+fn parts_of(line: &str) -> (u8, &str) {
+    match line.strip_prefix("of 2 ") {
+        Some(rest) => (2, rest),
+        None => (1, line),
+    }
+}
+
 /// The order of the cycle with the table of the line.
 fn order_of(alloc: Global, id: CycleId, line: &str) -> Result<Option<Delord>, Fault> {
+    let (parts, line) = parts_of(line);
     let Some(processed) = table_of(alloc, line)? else {
         return Ok(None);
     };
@@ -46,12 +56,15 @@ fn order_of(alloc: Global, id: CycleId, line: &str) -> Result<Option<Delord>, Fa
         point,
         day: id.day,
         cycle: id.cycle,
+        parts,
+        part: 1,
         processed,
     }))
 }
 
 /// The response of the cycle with both tables of the line.
 fn response_of(alloc: Global, id: CycleId, line: &str) -> Result<Option<Delres>, Fault> {
+    let (parts, line) = parts_of(line);
     let Some((processed, confirmed)) = two_tables(alloc, line, " confirmed ")? else {
         return Ok(None);
     };
@@ -63,6 +76,8 @@ fn response_of(alloc: Global, id: CycleId, line: &str) -> Result<Option<Delres>,
         point,
         day: id.day,
         cycle: id.cycle,
+        parts,
+        part: 1,
         processed,
         confirmed,
     }))

@@ -99,10 +99,19 @@ fn add_nomres(message: &Nomres, text: &mut Answer) {
     add_lines(&message.lines, text);
 }
 
+/// Adds which part a message is, where it is one of several.
+fn add_part(parts: u8, part: u8, text: &mut Answer) {
+    if parts != 1 {
+        add_field("part", &part, text);
+        add_field("of", &parts, text);
+    }
+}
+
 /// Adds the fields of a DELORD.
 fn add_delord(message: &Delord, text: &mut Answer) {
     add_field("point", &message.point, text);
     add_cycle(message.day, message.cycle, text);
+    add_part(message.parts, message.part, text);
     text.end_line();
     add_table(&message.processed, text);
 }
@@ -111,6 +120,7 @@ fn add_delord(message: &Delord, text: &mut Answer) {
 fn add_delres(message: &Delres, text: &mut Answer) {
     add_field("point", &message.point, text);
     add_cycle(message.day, message.cycle, text);
+    add_part(message.parts, message.part, text);
     text.end_line();
     text.add("processed");
     add_table(&message.processed, text);

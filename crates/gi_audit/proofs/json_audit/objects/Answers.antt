@@ -7,12 +7,12 @@ loop-id-preserved c =
     let t = c.args.matching.now in
     record {
       text =
-          objects_more s t c.args.ids.now c.loop-id.id-index c.id-item.result c.in_ok-found.found c.in_ok-place.place c.loop-id.text.items c.in_ok-text.text.items
-          c.loop-id-test.true c.id-item.is c.loop-id.invariant.text c.in_ok-found.ensures c.in_ok-place.ensures c.in_ok-text.ensures;
+          objects_more s t c.args.ids.now c.loop-id.id-index c.id-item.result c.found_at-found.result c.place_found-place.result c.loop-id.text.items c.in_ok-text.text.items
+          c.loop-id-test.true c.id-item.is c.loop-id.invariant.text c.found_at-found.ensures c.place_found-place.ensures c.in_ok-text.ensures;
       first =
-          first_more s t c.args.ids.now c.loop-id.id-index c.id-item.result c.in_ok-found.found c.loop-id.first c.differing.result c.or-first.result
-          c.loop-id-test.true c.id-item.is c.loop-id.invariant.first c.in_ok-found.ensures c.differing.ensures c.or-first.ensures;
+          first_more s t c.args.ids.now c.loop-id.id-index c.id-item.result c.found_at-found.result c.loop-id.first c.differing.result c.or-first.result
+          c.loop-id-test.true c.id-item.is c.loop-id.invariant.first c.found_at-found.ensures c.differing.ensures c.or-first.ensures;
       agreed =
-          agreed_more s t c.args.ids.now c.loop-id.id-index c.id-item.result c.in_ok-found.found c.loop-id.agreed c.or_agreed-agreed.result
-          c.loop-id-test.true c.id-item.is c.loop-id.invariant.agreed c.in_ok-found.ensures c.or_agreed-agreed.ensures;
+          agreed_more s t c.args.ids.now c.loop-id.id-index c.id-item.result c.found_at-found.result c.loop-id.agreed c.or_agreed-agreed.result
+          c.loop-id-test.true c.id-item.is c.loop-id.invariant.agreed c.found_at-found.ensures c.or_agreed-agreed.ensures;
     }

@@ -13,12 +13,6 @@ use Rattle.gi_audit.proofs.running.audit_run.Goals as goal
 pub make_all-requires : goal.make_all-requires
 make_all-requires c = subst IsSound (sym c.requires) (new-sound c.args.world.now.initiating.desk.point)
 
-pub audit-requires-clause-initiating : goal.audit-requires-clause-initiating
-audit-requires-clause-initiating c = ap (λ (s : DeskState). s.halted) (c.initiating.ensures ∙ c.in_ok-start_both_again.ensures.initiating)
-
-pub audit-requires-clause-matching : goal.audit-requires-clause-matching
-audit-requires-clause-matching c = ap (λ (s : DeskState). s.halted) (c.matching.ensures ∙ c.in_ok-start_both_again.ensures.matching)
-
 pub returns-clause-books : goal.returns-clause-books
 returns-clause-books c =
     let w = run c.args.world.now c.args.steps.now in

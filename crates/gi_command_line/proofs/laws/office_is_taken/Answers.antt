@@ -1,4 +1,4 @@
-use Rattle.std.proofs.Common.{◌≡◌, ◌∙◌, ◌++◌, ap, codes, List, [], ◌∷◌, ℕ, Option, None, Some, true, refl}
+use Rattle.std.proofs.Common.{◌≡◌, ◌∙◌, ◌++◌, ap, codes, List, [], ◌∷◌, ℕ, Option, None, Some, true, false, refl}
 use Rattle.clap.proofs.OnLiterals.{clap_on_literals}
 use Rattle.clap.specs.declared.error.kind.ErrorKind.TheVariants.{MissingRequiredArgument}
 use Rattle.gi_pairs.specs.Side.{side_named}
@@ -48,10 +48,23 @@ unfolding clap_on_literals side_named
 no_objection_to_clock program file point I = refl
 no_objection_to_clock program file point M = refl
 
-asks_by_clock : (program file point : List ℕ) (side : Side) → asked (by_clock program file point side) ≡ runs_so true side file point 0
+asks_by_clock : (program file point : List ℕ) (side : Side) → asked (by_clock program file point side) ≡ runs_so true false side file point 0
 unfolding clap_on_literals side_named
 asks_by_clock program file point I = refl
 asks_by_clock program file point M = refl
+
+abbrev strictly : (program file point : List ℕ) → Side → List (List ℕ)
+strictly program file point side = words_of_office program side (codes "--strict" ∷ book_words file point)
+
+no_objection_to_strict : (program file point : List ℕ) (side : Side) → objections (strictly program file point side) ≡ []
+unfolding clap_on_literals side_named
+no_objection_to_strict program file point I = refl
+no_objection_to_strict program file point M = refl
+
+asks_strictly : (program file point : List ℕ) (side : Side) → asked (strictly program file point side) ≡ runs_so false true side file point 0
+unfolding clap_on_literals side_named
+asks_strictly program file point I = refl
+asks_strictly program file point M = refl
 
 no_objection_in_words : (program file point : List ℕ) (side : Side) → objections (words_of_office program side (book_in_words file point)) ≡ []
 unfolding clap_on_literals side_named
@@ -98,6 +111,9 @@ returns-clause-waits c = λ program file point wait side seconds named.
 
 pub returns-clause-by_clock : goal.returns-clause-by_clock
 returns-clause-by_clock c = λ program file point side. (no_objection_to_clock program file point side, asks_by_clock program file point side)
+
+pub returns-clause-strict : goal.returns-clause-strict
+returns-clause-strict c = λ program file point side. (no_objection_to_strict program file point side, asks_strictly program file point side)
 
 pub returns-clause-in_words : goal.returns-clause-in_words
 returns-clause-in_words c = λ program file point side. (no_objection_in_words program file point side, asks_in_words program file point side)

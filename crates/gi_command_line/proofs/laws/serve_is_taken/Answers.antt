@@ -1,8 +1,8 @@
 use Rattle.std.proofs.Common.{◌≡◌, ◌∙◌, ap, codes, decimal, arith, List, [], ◌∷◌, ℕ, Option, Some, None, true, false, refl}
 use Rattle.clap.proofs.OnLiterals.{clap_on_literals}
-use Rattle.gi_command_line.specs.Asked.{Wanted}
+use Rattle.gi_command_line.specs.Asked.{Wanted, at_once, mistaken}
 use Rattle.gi_command_line.specs.CommandLine.{asked, objections, service_of}
-use Rattle.gi_command_line.specs.Laws.{serve_words, serves, with_value}
+use Rattle.gi_command_line.specs.Laws.{serve_words, serves, serves_so, with_value}
 use Rattle.gi_command_line.specs.Wait.{IsWait, most_wait, wait_named}
 use Rattle.gi_command_line.proofs.Numerals.{number_is_its_text, number_is_named}
 use Rattle.gi_command_line.proofs.laws.serve_is_taken.Goals as goal
@@ -24,7 +24,7 @@ no_objection_to_wait program prefix wait = refl
 
 -- what is asked of a wait that is read so
 abbrev asked_by : List ℕ → Option ℕ → Wanted
-asked_by prefix wait = service_of (Some 2) wait (Some prefix) false
+asked_by prefix wait = service_of (Some 2) wait (Some prefix) false false false
 
 asks_to_wait : (program prefix wait : List ℕ) → asked (waiting program prefix wait) ≡ asked_by prefix (wait_named wait)
 unfolding clap_on_literals
@@ -45,6 +45,38 @@ no_objection_in_memory program = refl
 asks_in_memory : (program : List ℕ) → asked (serve_words program (codes "--old" ∷ [])) ≡ serves None 0 true
 unfolding clap_on_literals
 asks_in_memory program = refl
+
+no_objection_to_strict : (program : List ℕ) → objections (serve_words program (codes "--strict" ∷ [])) ≡ []
+unfolding clap_on_literals
+no_objection_to_strict program = refl
+
+asks_strictly : (program : List ℕ) → asked (serve_words program (codes "--strict" ∷ [])) ≡ serves_so None 0 false false true
+unfolding clap_on_literals
+asks_strictly program = refl
+
+no_objection_to_dry : (program prefix : List ℕ) → objections (serve_words program (with_value (codes "books") prefix ∷ codes "--dry-run" ∷ [])) ≡ []
+unfolding clap_on_literals
+no_objection_to_dry program prefix = refl
+
+asks_dry : (program prefix : List ℕ) → asked (serve_words program (with_value (codes "books") prefix ∷ codes "--dry-run" ∷ [])) ≡ serves_so (Some prefix) 0 false true false
+unfolding clap_on_literals
+asks_dry program prefix = refl
+
+no_objection_to_dry_of_old : (program prefix : List ℕ) → objections (serve_words program (codes "--old" ∷ codes "--dry-run" ∷ with_value (codes "books") prefix ∷ [])) ≡ []
+unfolding clap_on_literals
+no_objection_to_dry_of_old program prefix = refl
+
+asks_dry_of_old : (program prefix : List ℕ) → asked (serve_words program (codes "--old" ∷ codes "--dry-run" ∷ with_value (codes "books") prefix ∷ [])) ≡ serves_so (Some prefix) 0 true true false
+unfolding clap_on_literals
+asks_dry_of_old program prefix = refl
+
+no_objection_to_dry_of_none : (program : List ℕ) → objections (serve_words program (codes "--dry-run" ∷ [])) ≡ []
+unfolding clap_on_literals
+no_objection_to_dry_of_none program = refl
+
+asks_dry_of_none : (program : List ℕ) → asked (serve_words program (codes "--dry-run" ∷ [])) ≡ at_once mistaken
+unfolding clap_on_literals
+asks_dry_of_none program = refl
 
 wait_is_named : (seconds : ℕ) → IsWait seconds → wait_named (decimal seconds) ≡ Some seconds
 unfolding wait_named
@@ -70,6 +102,18 @@ returns-clause-old c = λ program prefix. (no_objection_to_old program prefix, a
 
 pub returns-clause-old_in_memory : goal.returns-clause-old_in_memory
 returns-clause-old_in_memory c = λ program. (no_objection_in_memory program, asks_in_memory program)
+
+pub returns-clause-dry : goal.returns-clause-dry
+returns-clause-dry c = λ program prefix. (no_objection_to_dry program prefix, asks_dry program prefix)
+
+pub returns-clause-dry_of_old : goal.returns-clause-dry_of_old
+returns-clause-dry_of_old c = λ program prefix. (no_objection_to_dry_of_old program prefix, asks_dry_of_old program prefix)
+
+pub returns-clause-dry_needs_books : goal.returns-clause-dry_needs_books
+returns-clause-dry_needs_books c = λ program. (no_objection_to_dry_of_none program, asks_dry_of_none program)
+
+pub returns-clause-strict : goal.returns-clause-strict
+returns-clause-strict c = λ program. (no_objection_to_strict program, asks_strictly program)
 
 pub returns-clause-named : goal.returns-clause-named
 returns-clause-named c = wait_is_named

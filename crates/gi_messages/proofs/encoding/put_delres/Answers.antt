@@ -1,5 +1,5 @@
 use Rattle.gi_messages.specs.Writing.{delres_data}
-use Rattle.gi_messages.proofs.WrittenTokens.{wrote, followed, ended}
+use Rattle.gi_messages.proofs.WrittenTokens.{wrote, followed, ended, with_part}
 use Rattle.gi_messages.proofs.encoding.put_delres.Goals as goal
 
 pub returns : goal.returns
@@ -10,6 +10,7 @@ returns c =
     followed r out _ (wrote c.in_ok-begin_object.ensures)
     (followed r out _ (rw c.rows.ensures.rows at c.in_ok-put_rows.ensures)
     (followed r out _ (rw (c.first.ensures, c.last.ensures.value) at c.in_ok-put_head.ensures)
+    (with_part r out _ _ _ c.in_ok-put_part.ensures
     (followed r out _ c.in_ok-put_code.ensures
     (followed r out _ (rw c.rows-2.ensures.rows at c.in_ok-put_rows-2.ensures)
-    (ended c.end_object.ensures)))))
+    (ended c.end_object.ensures))))))

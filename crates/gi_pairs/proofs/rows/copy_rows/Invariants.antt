@@ -2,4 +2,4 @@ use Rattle.std.proofs.Common.{◌≡◌, take}
 use Rattle.gi_pairs.proofs.rows.copy_rows.Given as goal
 
 abbrev pub invariant-loop-row : goal.invariant-loop-row
-invariant-loop-row l = l.copies.items ≡ take l.row-index l.row-items
+invariant-loop-row l = l.copies.items ≡ take l.row-index l.rows

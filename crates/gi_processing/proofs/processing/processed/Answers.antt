@@ -8,10 +8,11 @@ use Rattle.gi_pairs.specs.Table.{IsTable, TableContents}
 use Rattle.gi_pairs.specs.declared.side.Side.{Side}
 use Rattle.gi_messages.specs.declared.message.Nomint.{Nomint}
 use Rattle.gi_processing.specs.Capacity.{Capacity}
-use Rattle.gi_processing.specs.Processing.{AreSound, CanProcess, IsProcessed, processed, span_of, span_table}
+use Rattle.gi_processing.specs.Processing.{AreSound, CanProcess, HasFewOfEach, IsProcessed, processed, span_of, span_table}
 use Rattle.gi_processing.specs.declared.rule.Rule.{Rule}
 use Rattle.gi_processing.specs.declared.span.Span.{Span}
 use Rattle.gi_processing.proofs.ProcessingLaws.{is_processed}
+use Rattle.gi_processing.proofs.ProcessingRows.{table-few_of_each}
 use Rattle.gi_processing.proofs.processing.processed.Goals as goal
 
 pub table_of-requires-clause-sound : goal.table_of-requires-clause-sound
@@ -50,3 +51,14 @@ pub returns-clause-law : goal.returns-clause-law
 returns-clause-law c =
     made_so c.args.contracts.now c.args.book.now.documents c.args.side c.args.frame.now c.args.cycle c.args.rule (record { side = c.args.side; day = c.day.result; first = c.unwrap.result; last = c.hours.result; rule = c.args.rule })
     (span_is c) c.table_of.result c.table_of.ensures.value c.table_of.ensures.table c.table_of.ensures.known
+
+-- in a table that is made of the span each portfolio has few rows
+few_so : (capacity : Capacity) (documents : List Nomint) (span : Span) (r : Result TableContents AllocError) → IfOk r (λ table. table ≡ span_table capacity span documents)
+    → IfOk r (λ _. CanProcess capacity documents span) → IfOk r (HasFewOfEach span.side)
+few_so capacity documents span (Err e) value known = tt
+few_so capacity documents span (Ok t) value known = subst (HasFewOfEach span.side) (sym value) (table-few_of_each capacity documents span known)
+
+pub returns-clause-few_of_each : goal.returns-clause-few_of_each
+returns-clause-few_of_each c =
+    few_so c.args.contracts.now c.args.book.now.documents (record { side = c.args.side; day = c.day.result; first = c.unwrap.result; last = c.hours.result; rule = c.args.rule })
+    c.table_of.result c.table_of.ensures.value c.table_of.ensures.known

@@ -1,4 +1,5 @@
-use Rattle.std.proofs.Common.{inr, ◌∙◌}
+use Rattle.std.proofs.Common.{inr, ◌∙◌, ℕ, subst}
+use Rattle.gi_serving.specs.Ending.{Ends}
 use Rattle.gi_service.proofs.Agreed.{IsWhole, fault_of_facts, facts_agree}
 use Rattle.gi_service.proofs.stations.served.Goals as goal
 
@@ -34,3 +35,10 @@ returns-clause-agreed g c =
       theirs = record { book = c.in_ok-initiating.matching.1; opened = e.peer_opened; read = e.peer_facts };
       agree = facts_agree c.args.script.now.point c.in_ok-initiating.initiating.0 c.in_ok-initiating.matching.0 ours theirs c.in_default.ensures.agreed;
     }
+
+pub returns-clause-served : goal.returns-clause-served
+returns-clause-served g c =
+    let told = g.V.Watch.told c.serve.new.watch in
+    let from = g.O.Write.contents c.args.output.now in
+    let to = g.O.Write.contents c.serve.new.output in
+    (told, subst (λ (count : ℕ). Ends count c.args.script.now.lines told from to c.serve.result) c.count.ensures.value c.serve.ensures.ends)

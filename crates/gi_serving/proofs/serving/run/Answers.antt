@@ -1,10 +1,10 @@
-use Rattle.std.proofs.Common.{arith, rules, ◌≡◌, ◌≤◌, ◌+◌, ◌-◌, max, length, take, drop, string_bytes, ℕ, ap, refl, ◌∙◌, sym, subst}
+use Rattle.std.proofs.Common.{arith, rules, ◌≡◌, ◌≤◌, ◌+◌, ◌-◌, max, length, take, drop, ℕ, ap, refl, ◌∙◌, sym, subst}
 use Rattle.std.proofs.lemmas.List.{take_rest}
-use Rattle.gi_serving.specs.Making.{AddsFirst, offices_of}
+use Rattle.gi_serving.specs.Making.{WritesFirst, offices_of}
 use Rattle.gi_pairs.specs.declared.side.Side.TheVariants.{I, M}
 use Rattle.gi_serving.proofs.Faulting.{both_kept, both_then, tells_then}
 use Rattle.gi_serving.proofs.Places.{same_again, same_length}
-use Rattle.gi_serving.proofs.Walking.{begun, next_made, so_far, to_the_end}
+use Rattle.gi_serving.proofs.Walking.{all_made, begun, next_made, so_far}
 use Rattle.gi_serving.proofs.serving.run.Goals as goal
 
 pub loop-at-init : goal.loop-at-init
@@ -20,7 +20,7 @@ loop-at-init g c =
           c.args.both.now.matching.book c.args.both.now.matching.book refl refl;
       watched = c.requires.begun;
       counted = c.requires.counted;
-      made = begun c.args.both.now.sessions c.args.lines.now start (string_bytes c.args.text.now) c.requires.none;
+      written = begun c.args.both.now.sessions c.args.lines.now start (g.O.Write.contents c.args.output.now);
     }
 
 pub step-requires-clause-batch : goal.step-requires-clause-batch
@@ -41,12 +41,13 @@ step-requires-clause-theirs g c κs within =
     ∙ c.requires.theirs
     ∙ ap (λ (n : ℕ). n + 1) (sym c.loop-at.invariant.sessions)
 
-pub returns-in-Err-clause-told : goal.returns-in-Err-clause-told
-returns-in-Err-clause-told g c =
+pub returns-in-Err-clause-leaves : goal.returns-in-Err-clause-leaves
+returns-in-Err-clause-leaves g c =
     let start = offices_of c.args.both.now.initiating c.args.both.now.matching in
     let reached = offices_of c.loop-at.both.initiating c.loop-at.both.matching in
-    so_far c.args.both.now.sessions c.args.lines.now c.loop-at.at (g.V.Watch.told c.loop-at.watch) start reached (string_bytes c.loop-at.text) (string_bytes c.step.new.text)
-    c.loop-at.invariant.watched c.in-Err.ensures.unchanged c.loop-at.invariant.made
+    so_far c.args.both.now.sessions c.args.lines.now c.loop-at.at (g.V.Watch.told c.loop-at.watch) start reached
+    (g.O.Write.contents c.args.output.now) (g.O.Write.contents c.loop-at.output) (g.O.Write.contents c.step.new.output) c.in-Err.fault
+    c.loop-at.invariant.watched c.loop-at.invariant.written c.in-Err.ensures.leaves
 
 pub returns-in-Err-clause-tells : goal.returns-in-Err-clause-tells
 returns-in-Err-clause-tells g c =
@@ -56,8 +57,9 @@ returns-in-Err-clause-tells g c =
 pub loop-at-preserved : goal.loop-at-preserved
 loop-at-preserved g c =
     let sessions = c.args.both.now.sessions in
-    let old = string_bytes c.loop-at.text in
-    let new = string_bytes c.step.new.text in
+    let before = g.O.Write.contents c.args.output.now in
+    let between = g.O.Write.contents c.loop-at.output in
+    let after = g.O.Write.contents c.step.new.output in
     let lines = c.args.lines.now in
     let at = c.loop-at.at in
     let left = take (length lines - at) (drop at lines) in
@@ -66,7 +68,7 @@ loop-at-preserved g c =
     let next = offices_of c.step.new.both.initiating c.step.new.both.matching in
     let same : left ≡ drop at lines = take_rest lines at in
     let count : c.max-at.result ≡ max c.batch_length-batch.result 1 = search rules in
-    let adds : AddsFirst c.loop-at.both.sessions left (max c.batch_length-batch.result 1) now old new next = c.in_default.ensures.made in
+    let first : WritesFirst c.loop-at.both.sessions left (max c.batch_length-batch.result 1) now between after next = c.in_default.ensures.made in
     let within : c.loop-at.at + c.max-at.result ≤ length c.args.lines.now = search rules in
     let whole : g.V.Watch.whole c.made.new.self ≡ length c.args.lines.now = search rules in
     record {
@@ -79,24 +81,18 @@ loop-at-preserved g c =
           c.args.both.now.matching.book c.loop-at.both.matching.book c.step.new.both.matching.book c.loop-at.invariant.well c.in_default.ensures.well;
       watched = c.made.ensures.lines;
       counted = whole;
-      made =
-          next_made sessions lines left at c.max-at.result start now next old new same c.loop-at.invariant.made
-          (subst (λ (n : ℕ). AddsFirst sessions left n now old new next) (sym count)
-          (subst (λ (n : ℕ). AddsFirst n left (max c.batch_length-batch.result 1) now old new next) c.loop-at.invariant.sessions adds));
+      written =
+          next_made sessions lines left at c.max-at.result start now next before between after same c.loop-at.invariant.written
+          (subst (λ (n : ℕ). WritesFirst sessions left n now between after next) (sym count)
+          (subst (λ (n : ℕ). WritesFirst n left (max c.batch_length-batch.result 1) now between after next) c.loop-at.invariant.sessions first));
     }
-
-pub returns-clause-told : goal.returns-clause-told
-returns-clause-told g c =
-    let start = offices_of c.args.both.now.initiating c.args.both.now.matching in
-    let reached = offices_of c.loop-at.both.initiating c.loop-at.both.matching in
-    let text = string_bytes c.loop-at.text in
-    so_far c.args.both.now.sessions c.args.lines.now c.loop-at.at (g.V.Watch.told c.loop-at.watch) start reached text text c.loop-at.invariant.watched refl c.loop-at.invariant.made
 
 pub returns-clause-whole : goal.returns-clause-whole
 returns-clause-whole g c =
     let start = offices_of c.args.both.now.initiating c.args.both.now.matching in
     let reached = offices_of c.loop-at.both.initiating c.loop-at.both.matching in
-    to_the_end c.args.both.now.sessions c.args.lines.now c.loop-at.at start reached (string_bytes c.loop-at.text) (omega (arith, c.loop-at-test.false)) c.loop-at.invariant.made
+    let all : c.loop-at.at ≡ length c.args.lines.now = omega (arith, c.loop-at-test.false, c.loop-at.invariant.within) in
+    all_made c.args.both.now.sessions c.args.lines.now c.loop-at.at start reached (g.O.Write.contents c.args.output.now) (g.O.Write.contents c.loop-at.output) all c.loop-at.invariant.written
 
 pub returns-clause-over : goal.returns-clause-over
 returns-clause-over g c = omega (arith, c.loop-at-test.false, c.loop-at.invariant.within, c.loop-at.invariant.watched)

@@ -1,28 +1,21 @@
-use Rattle.std.proofs.Common.{IfErr, ℕ, refl, string_bytes, subst}
-use Rattle.gi_serving.specs.Ending.{IsCut, IsOver}
-use Rattle.gi_serving.specs.Making.{RunsSome, new_offices}
+use Rattle.std.proofs.Common.{IfErr, inl, ℕ, subst}
+use Rattle.gi_serving.specs.Ending.{Ends}
 use Rattle.gi_pairs.specs.declared.side.Side.TheVariants.{I, M}
 use Rattle.gi_serving.specs.Faulting.{IsOfTurns}
-use Rattle.gi_serving.proofs.Endings.{out_of_memory}
-use Rattle.gi_serving.proofs.Walking.{none_made}
+use Rattle.gi_serving.proofs.Endings.{none_ends}
 use Rattle.gi_serving.proofs.serving.serve_by.Goals as goal
 
-pub returns-in-Err-clause-over : goal.returns-in-Err-clause-over
-returns-in-Err-clause-over g c =
-    let sessions = c.args.sessions in
-    let text = string_bytes c.args.text.now in
-    out_of_memory sessions 0 c.args.lines.now text (none_made sessions c.args.lines.now 0 (new_offices sessions) text refl c.requires.none)
+pub returns-in-Err-clause-ends : goal.returns-in-Err-clause-ends
+returns-in-Err-clause-ends g c =
+    none_ends c.args.sessions (g.V.Watch.told c.args.watch.now) c.args.lines.now (g.O.Write.contents c.args.output.now) c.requires.begun
 
-pub returns-in-Ok-clause-over : goal.returns-in-Ok-clause-over
-returns-in-Ok-clause-over g c =
-    subst (λ (n : ℕ). IsOver n c.args.lines.now (string_bytes c.end_of.new.text) c.end_of.result) c.in-Ok.ensures.sessions c.end_of.ensures.over
-
-pub returns-in-Ok-clause-told : goal.returns-in-Ok-clause-told
-returns-in-Ok-clause-told g c =
-    subst (λ (n : ℕ). IsCut c.end_of.result → RunsSome n c.args.lines.now (g.V.Watch.told c.end_of.new.watch) (new_offices n) (string_bytes c.end_of.new.text)) c.in-Ok.ensures.sessions c.end_of.ensures.told
+pub returns-in-Ok-clause-ends : goal.returns-in-Ok-clause-ends
+returns-in-Ok-clause-ends g c =
+    subst (λ (n : ℕ). Ends n c.args.lines.now (g.V.Watch.told c.end_of.new.watch) (g.O.Write.contents c.args.output.now) (g.O.Write.contents c.end_of.new.output) c.end_of.result)
+    c.in-Ok.ensures.sessions c.end_of.ensures.ends
 
 pub returns-in-Err-clause-all : goal.returns-in-Err-clause-all
-returns-in-Err-clause-all g c = λ no. absurd (no tt)
+returns-in-Err-clause-all g c = λ no. absurd (no (inl tt))
 
 pub returns-in-Ok-clause-turn : goal.returns-in-Ok-clause-turn
 returns-in-Ok-clause-turn g c =

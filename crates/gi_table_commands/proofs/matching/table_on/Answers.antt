@@ -1,10 +1,27 @@
-use Rattle.std.proofs.Common.{refl}
+use Rattle.std.proofs.Common.{refl, sym, subst}
+use Rattle.std.proofs.lemmas.Result.{IfErr-weaker, IfOk-weaker}
+use Rattle.gi_table_commands.specs.Match.{IsLineFault, SpellsWhole}
 use Rattle.gi_table_commands.proofs.MatchLemmas.{few_rows}
 use Rattle.gi_table_commands.proofs.matching.table_on.Goals as goal
 
+pub returns-in-Ok-Delord-clause-spelled : goal.returns-in-Ok-Delord-clause-spelled
+returns-in-Ok-Delord-clause-spelled c =
+    let spelled = rw c.in-Ok-Delord.field-0-is at c.in-Ok-Delord.ensures.found in
+    IfOk-weaker c.whole.result _ _
+    (λ taken is. subst (SpellsWhole c.args.bytes.now) (sym is.0) (record { spelled = spelled; whole = is.1 }))
+    c.whole.ensures.taken
+
 pub returns-in-Ok-Delord-clause-few_rows : goal.returns-in-Ok-Delord-clause-few_rows
 returns-in-Ok-Delord-clause-few_rows c =
-    few_rows c.args.bytes.now c.in-Ok-Delord.table (rw c.in-Ok-Delord.field-0-is at c.in-Ok-Delord.ensures.found)
+    IfOk-weaker c.whole.result _ _ (few_rows c.args.bytes.now) (returns-in-Ok-Delord-clause-spelled c)
+
+pub returns-in-Ok-Delord-clause-refused : goal.returns-in-Ok-Delord-clause-refused
+returns-in-Ok-Delord-clause-refused c =
+    let spelled = rw c.in-Ok-Delord.field-0-is at c.in-Ok-Delord.ensures.found in
+    IfErr-weaker c.whole.result _ _
+    (λ fault is. subst (IsLineFault c.args.line c.args.bytes.now) (sym is.0)
+    (refl, record { found = c.in-Ok-Delord.table; spelled = spelled; several = is.1 }))
+    c.whole.ensures.refused
 
 pub returns-in-Ok-Nomint-clause-refused : goal.returns-in-Ok-Nomint-clause-refused
 returns-in-Ok-Nomint-clause-refused c = (

@@ -1,6 +1,6 @@
 use Rattle.std.proofs.Common.{ap, ◌∙◌}
 use Rattle.gi_desk.specs.Machine.{DeskState}
-use Rattle.gi_desk.proofs.Called.{delivered-addressed, delivered-elsewhere, delivered-from}
+use Rattle.gi_desk.proofs.Called.{delivered-addressed, delivered-from}
 use Rattle.gi_desk.proofs.desk.Desk.addressed.Goals as goal
 
 pub returns : goal.returns

@@ -1,6 +1,6 @@
 use Rattle.std.proofs.Common.{◌≡◌, ◌+◌, ◌++◌, ◌∷◌, [], sym, ap, ◌∙◌, subst, List, length}
 use Rattle.gi_pairs.specs.Table.{TableContents}
-use Rattle.gi_processing.specs.Processing.{processed as processed_of}
+use Rattle.gi_processing.specs.Processing.{HasFewOfEach, processed as processed_of}
 use Rattle.gi_desk.specs.History.{capacity_of, documents_of}
 use Rattle.gi_desk.specs.Machine.{DeskState}
 use Rattle.gi_facts.specs.Writable.{FitsProcessed}
@@ -26,5 +26,6 @@ invariant_of-self-2 g c =
     let own = c.in_ok-own.ensures.value ∙ ap (λ (fs : List Fact). processed_of (capacity_of fs) (documents_of fs) side id.day id.cycle c.args.rule) facts_is in
     let number : c.next_number-number.result ≡ length inside.facts.items + 1 = c.next_number-number.ensures ∙ ap (λ (fs : List Fact). length fs + 1) facts_is in
     kept-closed side inside.point inside.facts.items inside.kept inside.saved id c.args.rule c.push_reserved.new.self.items c.close.new.stages
-    c.self.invariant c.requires.fits (subst (λ (t : TableContents). FitsProcessed t) own (record { table = c.in_ok-own.ensures.table; few = c.in_ok-own.ensures.few })) facts
+    c.self.invariant c.requires.fits (subst (λ (t : TableContents). FitsProcessed t) own (record { table = c.in_ok-own.ensures.table; few = c.in_ok-own.ensures.few }))
+    (subst (HasFewOfEach side) own c.in_ok-own.ensures.few_of_each) facts
     (c.in_ok-close.ensures.closed side inside.point inside.facts.items c.args.rule c.self.invariant.keeps.stages legal own number)

@@ -1,4 +1,4 @@
-use Rattle.std.proofs.Common.{Ok, Option, ap, subst, sym, ◌∙◌}
+use Rattle.std.proofs.Common.{Ok, ap, subst, sym, ◌∙◌}
 use Rattle.std.specs.Prelude.{option_map}
 use Rattle.gi_messages.specs.declared.message.Message.{Message}
 use Rattle.gi_desk.specs.Deciding.{HasFewRows}

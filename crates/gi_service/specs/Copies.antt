@@ -1,0 +1,18 @@
+-- Copies of both books in memory, over which a dry run is made.
+use Rattle.std.specs.Prelude.{List, IsTrue}
+use Rattle.sqlite.specs.State.{State}
+use Rattle.gi_facts.specs.declared.fact.Fact.{Fact}
+use Rattle.gi_pairs.specs.declared.side.Side.{Side}
+use Rattle.gi_pairs.specs.declared.side.Side.TheVariants.{I, M}
+use Rattle.gi_store.specs.Facts.{AreFacts}
+use Rattle.gi_store.specs.Rows.{facts_in}
+
+-- the connection is open at rows that are these facts, and no others
+pub record IsCopy (facts : List Fact) (s : State) : Type 0 where
+  pub is_open : IsTrue s.is_open
+  pub rows : AreFacts (facts_in s.now) facts
+
+-- of both sides' facts those of this one
+abbrev pub facts_of : Side → (initiating matching : List Fact) → List Fact
+facts_of I initiating matching = initiating
+facts_of M initiating matching = matching
