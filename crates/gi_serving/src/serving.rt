@@ -1,9 +1,10 @@
 //! A script, served by both offices.
 
-ghost use Rattle.std.specs.Prelude.{◌≡◌, ◌≤◌, ◌<◌, ◌+◌, Err, IfErr, IfOk, OnOk, false, is_none, length, max, string_bytes};
+ghost use Rattle.std.specs.Prelude.{◌≡◌, ◌≤◌, ◌<◌, ◌+◌, Err, IfErr, IfOk, Ok, OnOk, false, is_none, length, max, string_bytes};
 ghost use Rattle.sqlite.specs.Held.{state};
 ghost use Rattle.gi_store.specs.Book.{IsRead, counted};
 ghost use Rattle.gi_store.specs.Clean.{IsClean};
+ghost use Rattle.gi_serving.specs.Asking.{EndsAtLast};
 ghost use Rattle.gi_serving.specs.Batches.{submission as submission_in};
 ghost use Rattle.gi_pairs.specs.declared.side.Side.TheVariants.{I, M};
 ghost use Rattle.gi_serving.specs.Ending.{AreSamePlaces, Closes, Ends, IsCut, IsEarly, IsTold, LeavesNothing, LeavesRun};
@@ -101,6 +102,10 @@ fn made_and_saved<
     ensures cut { IfErr result (λ fault. IsCut (Err fault)) }
     ensures well { OnOk result (BothGoWell (B.takes I) (C.takes M) both.old.initiating.book both.old.matching.book both.new.initiating.book both.new.matching.book) }
     ensures tells { IfErr result (TellsTurns (B.takes I) (C.takes M) both.old.initiating.book both.old.matching.book both.new.initiating.book both.new.matching.book) }
+
+    // Each office's turns ended with one that saved nothing: so all that the piece recorded is saved.
+    ensures ends { OnOk result (EndsAtLast (B.takes I) both.new.initiating.book (Ok tt) both.new.initiating.seats.items) }
+    ensures peer_ends { OnOk result (EndsAtLast (C.takes M) both.new.matching.book (Ok tt) both.new.matching.seats.items) }
 {
     let said = match made(rt, both, lines, batch) {
         Ok(said) => said,
@@ -141,6 +146,10 @@ fn step<
     ensures early { IfErr result (λ fault. IsEarly (Err fault)) }
     ensures well { OnOk result (BothGoWell (B.takes I) (C.takes M) both.old.initiating.book both.old.matching.book both.new.initiating.book both.new.matching.book) }
     ensures tells { IfErr result (TellsTurns (B.takes I) (C.takes M) both.old.initiating.book both.old.matching.book both.new.initiating.book both.new.matching.book) }
+
+    // Each office's turns ended with one that saved nothing: so all that the piece recorded is saved before it is told of.
+    ensures ends { OnOk result (EndsAtLast (B.takes I) both.new.initiating.book (Ok tt) both.new.initiating.seats.items) }
+    ensures peer_ends { OnOk result (EndsAtLast (C.takes M) both.new.matching.book (Ok tt) both.new.matching.seats.items) }
 {
     let said = match made_and_saved(rt, both, lines, batch) {
         Ok(said) => said,
