@@ -3,6 +3,7 @@
 use crate::lines::{line_at, parted};
 use crate::shown::Shown;
 use crate::wanted::Wanted;
+use gi_messages::{MOST_PART_ELEMENTS, MOST_PROCESSED_ELEMENTS};
 use gi_pairs::Quantity;
 use serde_json::Value;
 use std::alloc::Global;
@@ -108,8 +109,32 @@ fn wanted_at(key: &str) -> Wanted {
         "parts" | "part" => Wanted::Whole { least: 1, most: 66 },
         "priority" => Wanted::Whole { least: 1, most: 9 },
         "hours" => Wanted::Hours,
-        "processed" | "confirmed" | "lines" => Wanted::Rows,
+        "processed" | "confirmed" | "lines" => Wanted::Rows {
+            most: MOST_PROCESSED_ELEMENTS,
+        },
         _ => Wanted::Code,
+    }
+}
+
+/// A whole number of a message.
+fn number_at(message: &Value, key: &str) -> Option<u64> {
+    message.get(key)?.as_u64()
+}
+
+/// What a value of a message has to be at a key, by other values of that message: `last` is not before `first`, `part` not above `parts`,
+/// and one of several parts has fewer rows.
+fn wanted_in(message: &Value, key: &str) -> Wanted {
+    let parts = number_at(message, "parts").unwrap_or(1);
+    match (key, wanted_at(key)) {
+        ("last", Wanted::Whole { least, most }) => Wanted::Whole {
+            least: number_at(message, "first").unwrap_or(least),
+            most,
+        },
+        ("part", Wanted::Whole { least, .. }) => Wanted::Whole { least, most: parts },
+        (_, Wanted::Rows { .. }) if parts > 1 => Wanted::Rows {
+            most: MOST_PART_ELEMENTS,
+        },
+        (_, wanted) => wanted,
     }
 }
 
@@ -195,8 +220,8 @@ fn wrong_element<'a, 'v>(
     let wanted = wanted_at(key);
     match wanted {
         Wanted::Hours => return wrong_hours(array, at, element, count),
-        Wanted::Rows if fits(element, Wanted::Row) => return None,
-        Wanted::Rows => {
+        Wanted::Rows { .. } if fits(element, Wanted::Row) => return None,
+        Wanted::Rows { .. } => {
             return Some(Found {
                 spot: Spot::Element(array, at),
                 value: Some(element),
@@ -258,7 +283,7 @@ fn wrong_at<'a, 'v>(message: &'v Value, key: &'a str) -> Found<'a, 'v> {
     Found {
         spot: Spot::Key(key),
         value: message.get(key),
-        wanted: wanted_at(key),
+        wanted: wanted_in(message, key),
     }
 }
 

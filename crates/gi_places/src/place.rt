@@ -27,6 +27,8 @@ pub enum Place<'a> {
     Word(&'a str, Wanted),
     /// A file that is not there.
     NoFile(&'a str),
+    /// A book that may be none, or another file that is not there.
+    NoBook(&'a str, &'a str),
     Book(BookPlace<'a>),
     Message(MessagePlace<'a>),
 }
@@ -45,6 +47,10 @@ impl fmt::Display for Place<'_> {
             Place::Input(found) => write!(f, "standard input {found}"),
             Place::Word(word, wanted) => write!(f, "'{}' is no {wanted}", Shown { word }),
             Place::NoFile(file) => write!(f, "{file}: no such file"),
+            Place::NoBook(file, missing) => write!(
+                f,
+                "{file}: it cannot be read or written as a database; or {missing}: no such file"
+            ),
             Place::Book(place) => fmt::Display::fmt(place, f),
             Place::Message(place) => fmt::Display::fmt(place, f),
         }
@@ -105,6 +111,16 @@ pub struct Asked<'a> {
     pub input: Option<&'a [u8]>,
 }
 
+/// Where a book is not read, of files of which one is missing: that one, or one that was to be read before it.
+fn of_missing<'a>(files: Option<Files<'a>>, missing: &'a str) -> Place<'a> {
+    match files {
+        Some(Files::EitherOf(first, second)) if first != missing && second == missing => {
+            Place::NoBook(first, missing)
+        }
+        _ => Place::NoFile(missing),
+    }
+}
+
 /// Where the fault is, where that can be told; None too where memory runs out.
 pub fn place_of<'a>(alloc: Global, asked: &Asked<'a>) -> Option<Place<'a>> {
     let (name, values) = named(asked.fault);
@@ -119,7 +135,7 @@ pub fn place_of<'a>(alloc: Global, asked: &Asked<'a>) -> Option<Place<'a>> {
             Some(Place::Message(place))
         }
         _ => match asked.missing {
-            Some(file) if name == "Store" => Some(Place::NoFile(file)),
+            Some(file) if name == "Store" => Some(of_missing(asked.files, file)),
             _ => Some(Place::Book(book_place(asked, name, values)?)),
         },
     }

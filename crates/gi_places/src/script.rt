@@ -130,8 +130,6 @@ fn wrong_side(word: &str) -> Trouble<'_> {
         Trouble::SecondPoint
     } else if is_command(word) {
         Trouble::NoSide(word)
-    } else if word.starts_with('#') {
-        Trouble::Comment
     } else {
         Trouble::Wrong(word, Wanted::Side)
     }
@@ -168,6 +166,28 @@ fn has_lone_space(line: &str) -> bool {
     line.split(' ').any(|word| word.is_empty())
 }
 
+/// The same of the words of a line, but of those in a message, and of those behind a word that is no command.
+fn has_wrong_space(line: &str) -> bool {
+    let (first, behind) = parted(line);
+    let Some(text) = behind else {
+        return first.is_empty();
+    };
+    let (command, message) = parted(text);
+    match command {
+        "submit" => first.is_empty() || matches!(message, Some("")),
+        _ if first == "plan" || is_command(command) => has_lone_space(line),
+        _ => first.is_empty() || command.is_empty(),
+    }
+}
+
+/// Whether the first word of a line begins as those of comments do.
+fn is_comment(line: &str) -> bool {
+    match line.split(' ').find(|word| !word.is_empty()) {
+        Some(word) => word.starts_with('#'),
+        None => false,
+    }
+}
+
 /// What is wrong with the bytes of a line, whichever words it has.
 fn wrong_bytes(line: &[u8]) -> Option<Trouble<'static>> {
     if line.ends_with(b"\r") {
@@ -186,6 +206,9 @@ fn point_trouble(line: &[u8]) -> Option<Trouble<'_>> {
     let Ok(text) = str::from_utf8(line) else {
         return Some(Trouble::NotText);
     };
+    if is_comment(text) {
+        return Some(Trouble::Comment);
+    }
     if has_lone_space(text) {
         return Some(Trouble::Spaces);
     }
@@ -199,7 +222,10 @@ fn line_trouble(alloc: Global, is_served: bool, line: &[u8]) -> Option<Trouble<'
     let Ok(text) = str::from_utf8(line) else {
         return Some(Trouble::NotText);
     };
-    if has_lone_space(text) {
+    if is_comment(text) {
+        return Some(Trouble::Comment);
+    }
+    if has_wrong_space(text) {
         return Some(Trouble::Spaces);
     }
     wrong_words(alloc, is_served, text)

@@ -24,8 +24,8 @@ pub enum Wanted {
     Message,
     /// In a message, with these bounds.
     Whole { least: u64, most: u64 },
-    /// The rows of a table, or the lines of a nomination.
-    Rows,
+    /// The rows of a table, at most so many.
+    Rows { most: usize },
     Row,
     /// The quantities of a row.
     Hours,
@@ -62,7 +62,7 @@ impl Wanted {
             Wanted::Whole { least, most } => is_number(word, least, most),
             Wanted::Command
             | Wanted::Message
-            | Wanted::Rows
+            | Wanted::Rows { .. }
             | Wanted::Row
             | Wanted::Hours
             | Wanted::Kind
@@ -91,7 +91,12 @@ impl fmt::Display for Wanted {
             Wanted::Whole { least, most } => {
                 return write!(f, "whole number from {least} to {most}");
             }
-            Wanted::Rows => "JSON array of objects, one for each pair and direction",
+            Wanted::Rows { most } => {
+                return write!(
+                    f,
+                    "JSON array of at most {most} objects, one for each pair and direction"
+                );
+            }
             Wanted::Row => "JSON object",
             Wanted::Hours => "JSON array with one quantity for each hour from first to last",
             Wanted::Kind => "DELORD",
