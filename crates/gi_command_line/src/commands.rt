@@ -12,7 +12,8 @@ const PROGRAM_HELP: &str = "\
 With no command `match` is meant. A fault is one line on standard error,
 `gi_dispatch: ` and its name (a wrong command line is told in more words), and
 nothing on standard output, unless memory or a writer fails, an office that
-runs gives up, books differ or close no cycle, or a book is not as expected.
+runs gives up, offices or books do not agree, books close no cycle, or a book
+is not as expected.
 
 Exit status: 0 done, 1 refused input, a reader or writer that failed, offices
 or books that do not agree, books that close no cycle, a book that is not as
@@ -275,11 +276,12 @@ changed, and what is told is what would be without it. A book that is in use
 is then read as it stands, and --wait has no effect.
 
 Standard output gets a line for each step, with no numbers of facts: the number
-of the script's line, the side, and what came of it. Then come two lines with
-what each side holds, and three that tell whether each office's records agree
-with its desk, and the two offices with each other. With --strict, where no
-fault comes and a step was refused, the exit status is 1, and the last line on
-standard error tells how many were, as `3 refused`.
+of the script's line, the side, and what came of it. It is written once that is
+saved. Then come two lines with what each side holds, and three that tell
+whether each office's records agree with its desk, and the two offices with each
+other. With --strict, where no fault comes and a step was refused, the exit
+status is 1, and the last line on standard error tells how many were, as
+`3 refused`.
 
 Faults, the first of: Read, TooLarge, Point, `line N: Unreadable`, as for
 `simulate`; MissingBook I or M (it is not there, and the other side's has facts
@@ -287,9 +289,9 @@ or cannot be read, or --old is given); what is told of a copy of I's book as
 for `report`, and then of M's; TwoPasts DAY CYCLE (the books differ, as `audit`
 tells it: exit status 1). Up to here nothing is made or changed. Then, for the
 book of I and then for that of M, Busy (another process has it open), or what
-is told of it as it is opened; Write; what a running office could not do, told
-after the lines of what was done before; and Store, where a book could not be
-closed.";
+is told of it as it is opened; then Write or what a running office could not
+do, whichever comes first, told after the lines of what was done before; and
+Store, where a book could not be closed.";
 
 fn word<'a>(alloc: Global, name: &'a str, help: &'a str) -> Arg<'a>
     ensures rule { rule_of result ≡ word_rule name.entry.now }

@@ -74,7 +74,7 @@ pub enum Fault {
     #[error("Empty")]
     Empty,
     /// A writer failed. It comes after all other faults, but want of memory in a script's step,
-    /// `Differs` and `Empty`.
+    /// `Unexpected`, `Differs` and `Empty`; what writes as it goes ends by it where its writer fails.
     #[error("Write")]
     Write,
     /// An allocation was refused.

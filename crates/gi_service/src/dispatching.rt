@@ -123,7 +123,8 @@ fn dispatch_command<
 /// fault is one line on `errors` (a wrong command line has more words there). Where that is a terminal, and by `is_verbose`, a line behind
 /// it tells where the fault is, if that is known, and on a terminal more lines tell what its name means. It is
 /// nothing on `output`, unless memory runs out in a script's step, a running office gives up, books differ or
-/// close no cycle, a book is not as expected, or a writer fails: that is `Write`, after all other faults but those five.
+/// close no cycle, a book is not as expected, or a writer fails: that is `Write`, after all other faults but those five. `serve` and
+/// `office`, which write as they go, end by it where their writer fails.
 /// Behind all of these comes, of what is asked strictly, how many lines of the output tell a refusal, by a line of its own.
 pub fn dispatch<
     B: BookSource,

@@ -49,30 +49,22 @@ fn served_in_memory<T: Threads + Wait + Sync, V: Watch, O: Write>(
     }
 }
 
+/// Serves a script over copies: by what it is given no file is opened.
 fn served_in_copies<T: Threads + Wait + Sync, V: Watch, O: Write>(
-    rt: &HostRuntime,
     threads: &T,
     watch: &mut V,
+    alloc: Global,
     script: &Script,
-    service: &Service<'_>,
-    prefix: &str,
+    sessions: Sessions,
+    copies: &InCopies,
     output: &mut O,
 ) -> Result<Done, Fault>
-    ensures served { IfOk result (λ done. IsServedFrom service.now.sessions script.now (O.contents output.old) (O.contents output.new) done.0) }
+    ensures served { IfOk result (λ done. IsServedFrom sessions script.now (O.contents output.old) (O.contents output.new) done.0) }
     ensures none { IfOk result (λ done. done.1 ≡ Ok tt) }
     ensures unwritten { OnErr result (Keeps (O.contents output.old) (O.contents output.new)) }
     ensures fault { IfErr result (IsFilesFault script.now.point) }
 {
-    let place = InCopies::of(rt, prefix, script.point(), service.only_old)?;
-    match served(
-        threads,
-        watch,
-        rt.alloc(),
-        script,
-        service.sessions,
-        &place,
-        output,
-    ) {
+    match served(threads, watch, alloc, script, sessions, copies, output) {
         Ok(end) => Ok((end, Ok(()))),
         Err(fault) => Err(fault),
     }
@@ -127,7 +119,12 @@ fn served_over_books<T: Threads + Wait + Sync, V: Watch, O: Write>(
     match service.books {
         None => served_in_memory(threads, watch, rt.alloc(), script, service.sessions, output),
         Some(prefix) if service.dry_run => {
-            served_in_copies(rt, threads, watch, script, service, prefix, output)
+            let copies = InCopies::of(rt, prefix, script.point(), service.only_old)?;
+            let (alloc, sessions) = (rt.alloc(), service.sessions);
+            let done = served_in_copies(threads, watch, alloc, script, sessions, &copies, output);
+            // (handed to drop, by one call: going out of scope here would be checked field by field on each way out)
+            drop(copies);
+            done
         }
         Some(prefix) => served_in_files(rt, threads, watch, script, service, prefix, output),
     }
