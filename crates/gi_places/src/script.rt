@@ -172,9 +172,9 @@ fn has_wrong_space(line: &str) -> bool {
     let Some(text) = behind else {
         return first.is_empty();
     };
-    let (command, message) = parted(text);
+    let (command, _) = parted(text);
     match command {
-        "submit" => first.is_empty() || matches!(message, Some("")),
+        "submit" => first.is_empty(),
         _ if first == "plan" || is_command(command) => has_lone_space(line),
         _ => first.is_empty() || command.is_empty(),
     }
