@@ -17,6 +17,7 @@ use Rattle.gi_desk.specs.Machine.{started_again}
 use Rattle.gi_desk.proofs.HistoryLaws.{one_more}
 use Rattle.std.specs.Prelude.{IsTrue}
 use Rattle.gi_world.proofs.DeliveredPackets.{delivered-order, delivered-response}
+use Rattle.gi_world.proofs.KeptParts.{few-sound, kept-sound}
 use Rattle.gi_world.proofs.Meetings.{after-sound, met-sound}
 use Rattle.gi_audit.specs.LetOut.{HaveLetOut}
 use Rattle.gi_world.proofs.SentPackets.{legal-sound, point-sound, sent-sound, told-sound}
@@ -29,6 +30,8 @@ step_sound w step sound fits = record {
   told = told-sound w step sound;
   met = met-sound delivered-order delivered-response w step sound fits;
   after = after-sound delivered-order delivered-response w step sound fits;
+  few = few-sound w step sound;
+  kept = kept-sound delivered-order delivered-response w step sound fits;
 }
 
 pub fits_from : (w : WorldState) (s t : DeskState) → s ≡ w.initiating.desk → t ≡ w.matching.desk → FitsDesk I s.point s.facts → FitsDesk M t.point t.facts → FitsWorld w

@@ -126,11 +126,13 @@ order. Each line of standard input is answered, in their order:
   {\"answer\":\"refused\",\"line\":6,\"name\":\"Stale 2\",\"portfolio\":\"A\"}
 
 The answer of a call is `recorded` or `repeat`, with the number of the fact;
-`resent`; `stopped`; or `refused`, with the name of what is wrong, and with the
-portfolio where a submission could be read. A line that is no request, or is
-cut off before its line feed, is refused as Unreadable, and one of more than
-16,777,472 bytes as TooLarge; the office runs on. Each message that is let out
-is a packet, to a portfolio or to the other operator, `peer`:
+`kept`, for one of several parts of a message of the other operator, with how
+many are kept and how many there are; `resent`; `stopped`; or `refused`, with
+the name of what is wrong, and with the portfolio where a submission could be
+read. A line that is no request, or is cut off before its line feed, is refused
+as Unreadable, and one of more than 16,777,472 bytes as TooLarge; the office
+runs on. Each message that is let out is a packet, to a portfolio or to the
+other operator, `peer`:
 
   {\"fact\":2,\"message\":{..},\"to\":\"A\"}
 

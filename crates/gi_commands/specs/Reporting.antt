@@ -74,7 +74,7 @@ IsReport (Page asked) side s submissions text = IsPage side s asked.day text
 
 -- the desk of these facts, all saved
 abbrev pub desk_of : List ℕ → List Fact → DeskState
-desk_of point facts = record { point = point; facts = facts; saved = length facts; halted = false }
+desk_of point facts = record { point = point; facts = facts; saved = length facts; halted = false; kept = [] }
 
 -- The report of a book's facts, which make a desk. Refusals are no facts.
 pub record IsBookReport (kind : DeskReport) (side : Side) (point : List ℕ) (facts : List Fact) (text : List ℕ) : Type 0 where

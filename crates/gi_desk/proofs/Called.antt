@@ -11,11 +11,12 @@ use Rattle.gi_messages.specs.declared.message.Message.{Message}
 use Rattle.gi_messages.specs.declared.message.Message.TheVariants.{Nomint, Acknow, Nomres, Delord, Delres}
 use Rattle.gi_cycles.specs.declared.cycle_state.CycleState.{CycleState}
 use Rattle.gi_cycles.specs.declared.cycle_state.CycleState.TheVariants.{Collecting}
-use Rattle.gi_desk.specs.Deciding.{IsDecided, IsUnlessShort, address_of, by_order, decision, for_role, may_want_at}
+use Rattle.gi_parts.specs.declared.kept_parts.KeptPart.{KeptPart}
+use Rattle.gi_desk.specs.Deciding.{IsDecided, IsUnlessShort, address_of, decision, for_role, may_want_at, number_in}
 use Rattle.gi_desk.specs.History.{frozen_cycle, is_closed, met_by, peer_of, state_of}
 use Rattle.gi_desk.specs.Judging.{by_decision, delivered, if_addressed}
 use Rattle.gi_desk.specs.Caches.{closed_state}
-use Rattle.gi_desk.specs.Machine.{DeskState, comes_to, is_record, learns_with_memory, may_want_to_prepare, out_of, outcome, some_leave, unless_full}
+use Rattle.gi_desk.specs.Machine.{DeskState, can_meet, comes_to, learns_with_memory, may_want_to_prepare, out_of, outcome, some_leave, unless_full}
 use Rattle.gi_desk.specs.declared.call.Call.{Call}
 use Rattle.gi_desk.specs.declared.decision.Decision.{Decision}
 use Rattle.gi_desk.specs.declared.decision.Decision.TheVariants.{Refused}
@@ -51,10 +52,9 @@ untrue false is true_is = absurd cc
 unless_short : (wants short : Bool) (decided got : Decision) → IsUnlessShort wants decided got → (got ≡ Refused OutOfMemory → IsTrue short) → short ≡ false → got ≡ decided
 unless_short wants short decided got is here not_short = elim is [ inl e ↦ e | inr e ↦ absurd (untrue short not_short (here e.1)) ]
 
-pub role-decided : (side : Side) (state : CycleState) (message : Message) (short : Bool) (got : Decision) → IsDecided side state message got → (got ≡ Refused OutOfMemory → IsTrue short)
-    → short ≡ false → got ≡ decision side state message
-role-decided M state message short got is here not_short = is
-role-decided I state message short got is here not_short = unless_short (may_want_at state message) short (decision I state message) got is here not_short
+pub role-decided : (side : Side) (state : CycleState) (kept : List KeptPart) (message : Message) (short : Bool) (got : Decision) → IsDecided side state kept message got
+    → (got ≡ Refused OutOfMemory → IsTrue short) → short ≡ false → got ≡ decision side state kept message
+role-decided side state kept message short got is here not_short = unless_short (may_want_at state message) short (decision side state kept message) got is here not_short
 
 -- ---- the peer's message
 
@@ -63,11 +63,12 @@ taken true o e = refl
 taken false o e = absurd cc
 
 -- a message of the point, of the kind that is for the side
-pub delivered-addressed : (side : Side) (point kept own : List ℕ) (history : List Fact) (id : CycleId) (message : Message) → Some (point, id) ≡ address_of side message → false ≡ not (bytes_eq point kept) → kept ≡ own
-    → by_decision history id (decision side (state_of side history id) message) ≡ delivered side own history (Ok message)
-delivered-addressed side point kept own history id message addressed same is_own =
+pub delivered-addressed : (side : Side) (point held own : List ℕ) (history : List Fact) (kept : List KeptPart) (id : CycleId) (message : Message) → Some (point, id) ≡ address_of side message
+    → false ≡ not (bytes_eq point held) → held ≡ own
+    → by_decision history id (number_in message) (decision side (state_of side history id) kept message) ≡ delivered side own history kept (Ok message)
+delivered-addressed side point held own history kept id message addressed same is_own =
     let same_here : false ≡ not (bytes_eq point own) = same ∙ ap (λ (p : List ℕ). not (bytes_eq point p)) is_own in
-    sym (taken (bytes_eq point own) _ same_here) ∙ ap (if_addressed side own history message) addressed
+    sym (taken (bytes_eq point own) _ same_here) ∙ ap (if_addressed side own history kept message) addressed
 
 -- one of another kind
 unaddressed : (side : Side) (message : Message) → None ≡ for_role side message → None ≡ address_of side message
@@ -82,8 +83,9 @@ unaddressed M (Nomres message) e = refl
 unaddressed M (Delord message) e = absurd cc
 unaddressed M (Delres message) e = refl
 
-pub delivered-unaddressed : (side : Side) (own : List ℕ) (history : List Fact) (message : Message) → None ≡ for_role side message → Refuses WrongKind ≡ delivered side own history (Ok message)
-delivered-unaddressed side own history message other = ap (if_addressed side own history message) (unaddressed side message other)
+pub delivered-unaddressed : (side : Side) (own : List ℕ) (history : List Fact) (kept : List KeptPart) (message : Message) → None ≡ for_role side message
+    → Refuses WrongKind ≡ delivered side own history kept (Ok message)
+delivered-unaddressed side own history kept message other = ap (if_addressed side own history kept message) (unaddressed side message other)
 
 -- what a role receives is the message
 pub received-is : (side : Side) (message received : Message) → Some received ≡ for_role side message → received ≡ message
@@ -107,9 +109,8 @@ delivered-from (Err fault) read other is e = tt
 
 -- one that is not closed cannot
 pub unmet-unclosed : (side : Side) (facts : List Fact) (id : CycleId) (peer : TableContents) → None ≡ closed_state side facts id
-    → is_record (by_decision facts id (by_order peer (state_of side facts id))) ≡ false
-unmet-unclosed side facts id peer e =
-    ap (λ (state : CycleState). is_record (by_decision facts id (by_order peer state))) (sym (found-state side facts id None e))
+    → can_meet peer (state_of side facts id) ≡ false
+unmet-unclosed side facts id peer e = ap (can_meet peer) (sym (found-state side facts id None e))
 
 -- ---- want of memory
 

@@ -7,25 +7,23 @@ use Rattle.std.proofs.lemmas.List.Elements.{filter_map-append}
 use Rattle.std.proofs.lemmas.List.Folds.{list_any-append}
 use Rattle.gi_day.specs.Cycles.{cycle_count}
 use Rattle.gi_pairs.specs.Limits.{most_processed_rows}
-use Rattle.gi_pairs.specs.Table.{TableContents, same_hours, table_eq}
+use Rattle.gi_pairs.specs.Table.{TableContents}
 use Rattle.gi_pairs.specs.declared.cycle_id.CycleId.{CycleId}
 use Rattle.gi_pairs.specs.declared.side.Side.{Side}
 use Rattle.gi_lesser.specs.Lesser.{HasShapeOf}
 use Rattle.gi_cycles.specs.States.{FrozenCycle}
 use Rattle.gi_cycles.specs.declared.cycle_state.CycleState.{CycleState}
 use Rattle.gi_cycles.specs.declared.cycle_state.CycleState.TheVariants.{Collecting, Frozen, Matched}
-use Rattle.gi_desk.specs.Deciding.{by_order}
 use Rattle.gi_desk.specs.History.{frozen_cycle, frozen_table, is_closed, is_closing, last_closed, met_by, peer_in, peer_of, state_of}
-use Rattle.gi_desk.specs.Judging.{by_decision, unless_later}
-use Rattle.gi_desk.specs.Machine.{bad_fact, bad_from, is_record, most_facts, would_record}
+use Rattle.gi_desk.specs.Judging.{unless_later}
+use Rattle.gi_desk.specs.Machine.{bad_fact, bad_from, can_meet, is_record, most_facts, would_record}
 use Rattle.gi_facts.specs.Same.{same_cycle}
-use Rattle.gi_desk.specs.declared.decision.Decision.TheVariants.{Meet, Again, Refused}
 use Rattle.gi_facts.specs.declared.fact.Fact.{Fact}
 use Rattle.gi_facts.specs.declared.fact.Fact.TheVariants.{Contracted, Noticed, Nominated, Closed, Met}
 use Rattle.gi_facts.proofs.SameLemmas.{same_cycle-is, same_cycle-self}
 use Rattle.gi_desk.specs.declared.outcome.Outcome.{Outcome}
 use Rattle.gi_desk.specs.declared.outcome.Outcome.TheVariants.{Records, Refuses}
-use Rattle.gi_desk.specs.declared.refusal.Refusal.TheVariants.{AlreadyClosed, Conflict, NoSuchCycle, ShapeDiffers}
+use Rattle.gi_desk.specs.declared.refusal.Refusal.TheVariants.{AlreadyClosed, NoSuchCycle}
 use Rattle.gi_desk.proofs.Legality.{legal-first, legal-parts, legal-recorded}
 use Rattle.gi_desk.proofs.StateLaws.{is_closed-more, peer_of-more}
 use Rattle.gi_processing.specs.declared.rule.Rule.{Rule}
@@ -50,16 +48,10 @@ below_by false next e = absurd cc
 pub recorded-below : (side : Side) (point : List ℕ) (before : List Fact) (id : CycleId) (rule : Rule) → would_record side point before (Closed id rule) ≡ true → id.cycle < cycle_count id.day
 recorded-below side point before id rule e = ltb-true id.cycle (cycle_count id.day) (below_by (nat_lt id.cycle (cycle_count id.day)) _ e)
 
-meeting_hours : (before : List Fact) (id : CycleId) (own peer : TableContents) (first last : Bool) → nat_eq own.first peer.first ≡ first → nat_eq own.last peer.last ≡ last
-    → is_record (by_decision before id (cond (first && last) (Meet peer) (Refused ShapeDiffers))) ≡ true → HasShapeOf own peer
-meeting_hours before id own peer true true first last e = record { first = eqb-true own.first peer.first first; last = eqb-true own.last peer.last last }
-meeting_hours before id own peer true false first last e = absurd cc
-meeting_hours before id own peer false last' first last e = absurd cc
-
-meets_again : (before : List Fact) (id : CycleId) (same equal : Bool) → is_record (by_decision before id (cond same (cond equal Again (Refused Conflict)) (Refused ShapeDiffers))) ≡ true → ⊥
-meets_again before id true true e = absurd cc
-meets_again before id true false e = absurd cc
-meets_again before id false equal e = absurd cc
+meeting_hours : (own peer : TableContents) (first last : Bool) → nat_eq own.first peer.first ≡ first → nat_eq own.last peer.last ≡ last → (first && last) ≡ true → HasShapeOf own peer
+meeting_hours own peer true true first last e = record { first = eqb-true own.first peer.first first; last = eqb-true own.last peer.last last }
+meeting_hours own peer true false first last e = absurd cc
+meeting_hours own peer false last' first last e = absurd cc
 
 -- the state of a cycle that may meet the peer's table
 pub record MayMeet (state : CycleState) (peer : TableContents) : Type 0 where
@@ -67,14 +59,14 @@ pub record MayMeet (state : CycleState) (peer : TableContents) : Type 0 where
   pub frozen : state ≡ Frozen cycle
   pub same_hours : HasShapeOf cycle.own peer
 
-meeting_by : (before : List Fact) (id : CycleId) (peer : TableContents) (state : CycleState) → is_record (by_decision before id (by_order peer state)) ≡ true → MayMeet state peer
-meeting_by before id peer (Collecting other) e = absurd cc
-meeting_by before id peer (Frozen cycle) e = record {
+meeting_by : (peer : TableContents) (state : CycleState) → can_meet peer state ≡ true → MayMeet state peer
+meeting_by peer (Collecting other) e = absurd cc
+meeting_by peer (Frozen cycle) e = record {
   cycle = cycle;
   frozen = refl;
-  same_hours = meeting_hours before id cycle.own peer (nat_eq cycle.own.first peer.first) (nat_eq cycle.own.last peer.last) refl refl e;
+  same_hours = meeting_hours cycle.own peer (nat_eq cycle.own.first peer.first) (nat_eq cycle.own.last peer.last) refl refl e;
 }
-meeting_by before id peer (Matched cycle) e = absurd (meets_again before id (same_hours cycle.own peer) (table_eq cycle.peer peer) e)
+meeting_by peer (Matched cycle) e = absurd cc
 
 -- a meeting is of a cycle that is closed and has not met, for the same hours
 pub record IsMeeting (side : Side) (before : List Fact) (id : CycleId) (peer : TableContents) : Type 0 where
@@ -97,8 +89,8 @@ pub recorded-meeting : (side : Side) (point : List ℕ) (before : List Fact) (id
     → IsMeeting side before id peer
 unfolding state_of
 recorded-meeting side point before id peer e =
-    let parts = and_parts (is_record (by_decision before id (by_order peer (state_of side before id)))) (nat_le (length peer.rows) most_processed_rows) e in
-    let may = meeting_by before id peer (state_of side before id) parts.0 in
+    let parts = and_parts (can_meet peer (state_of side before id)) (nat_le (length peer.rows) most_processed_rows) e in
+    let may = meeting_by peer (state_of side before id) parts.0 in
     let frozen = frozen_by (is_closed id before) (peer_of id before) (frozen_cycle side before id) may.cycle id may.frozen in
     record {
       closed = frozen.closed;
@@ -126,7 +118,7 @@ first_recorded side point before fact later e =
     (and_parts (would_record side point before fact) (nat_lt (length before) most_facts) (legal-first side point before fact later e).0).0
 
 -- a closed cycle is not closed again
-not_again : (side : Side) (point : List ℕ) (before : List Fact) (fact : Fact) (id : CycleId) → would_record side point before fact ≡ true → is_closed id before ≡ true
+pub not_again : (side : Side) (point : List ℕ) (before : List Fact) (fact : Fact) (id : CycleId) → would_record side point before fact ≡ true → is_closed id before ≡ true
     → is_closing id fact ≡ false
 not_again side point before (Contracted contract) id e closed = refl
 not_again side point before (Noticed notice) id e closed = refl

@@ -1,5 +1,5 @@
 -- What is known of a message that was decoded, and of one that was not for want of memory.
-use Rattle.std.proofs.Common.{arith, ◌≡◌, ◌<◌, ◌≤◌, ◌==◌, ℕ, List, length, Bool, true, false, cond, nat_le, Option, Some, None, Result, Err, sym, ◌∙◌, refl}
+use Rattle.std.proofs.Common.{arith, ◌≡◌, ◌<◌, ◌≤◌, ℕ, List, length, Bool, true, false, cond, nat_le, Option, Some, None, Result, Err, sym, ◌∙◌, refl}
 use Rattle.std.specs.Str.{IsUtf8, is_utf8}
 use Rattle.std.proofs.lemmas.Bool.{and_from, both_ways}
 use Rattle.std.proofs.lemmas.Bool.Decides.{nat_tests}
@@ -10,26 +10,40 @@ use Rattle.gi_messages.specs.declared.message_fault.MessageFault.{MessageFault}
 use Rattle.gi_messages.specs.declared.message_fault.MessageFault.TheVariants as faults
 use Rattle.gi_messages.specs.Grammar.{Fits, Spells}
 use Rattle.gi_messages.specs.Json.{json_of}
-use Rattle.gi_messages.specs.Limits.{most_bytes, most_part_elements, most_processed_elements}
+use Rattle.gi_messages.specs.Limits.{elements_of, most_bytes, most_confirmed_elements}
 use Rattle.gi_messages.proofs.WritingLemmas.{fits_from_writable}
-use Rattle.gi_desk.specs.Deciding.{HasFewRows}
+use Rattle.gi_desk.specs.Deciding.{IsReceivable}
 use Rattle.gi_desk.specs.Machine.{can_be_read}
 
--- one of several parts has no more rows than a whole message
-few_by : (b : Bool) (rows : ℕ) → rows ≤ cond b most_processed_elements most_part_elements → rows ≤ most_processed_elements
-few_by true rows few = few
-few_by false rows few = omega (arith, few)
+-- no rows are few
+few_none : (most parts : ℕ) → 0 ≤ elements_of most parts
+few_none most parts = omega arith
 
-pub fits_few : (message : Message) → Fits message → HasFewRows message
-fits_few (Nomint message) fits = tt
-fits_few (Acknow message) fits = tt
-fits_few (Nomres message) fits = tt
-fits_few (Delord message) fits = few_by (message.parts == 1) (length message.processed.rows) fits.few
-fits_few (Delres message) fits = few_by (message.parts == 1) (length message.processed.rows) fits.few
+-- an order and a response that fit can be read
+pub fits_receivable : (message : Message) → Fits message → IsReceivable message
+fits_receivable (Nomint message) fits = tt
+fits_receivable (Acknow message) fits = tt
+fits_receivable (Nomres message) fits = tt
+fits_receivable (Delord message) fits = record {
+  from = fits.part_from;
+  to = fits.part_to;
+  few_parts = fits.few_parts;
+  few = fits.few;
+  few_confirmed = few_none most_confirmed_elements message.parts;
+  same_hours = tt;
+}
+fits_receivable (Delres message) fits = record {
+  from = fits.part_from;
+  to = fits.part_to;
+  few_parts = fits.few_parts;
+  few = fits.few;
+  few_confirmed = fits.few_confirmed;
+  same_hours = record { first = sym fits.begins; last = sym fits.ends };
+}
 
--- its processed table has few rows
-pub spelled-few : (bytes : List ℕ) (message : Message) → Spells bytes message → HasFewRows message
-spelled-few bytes message spells = fits_few message (fits_from_writable message (spells.value, spells.stands))
+-- and so what was decoded
+pub spelled-receivable : (bytes : List ℕ) (message : Message) → Spells bytes message → IsReceivable message
+spelled-receivable bytes message spells = fits_receivable message (fits_from_writable message (spells.value, spells.stands))
 
 -- and its bytes can be read
 json_text : {X : Type 0} (b : Bool) (found : Option X) (value : X) → cond b found None ≡ Some value → b ≡ true

@@ -6,11 +6,14 @@ pub mod Differing
 pub mod Fitting
 pub mod HistoryLaws
 mod CacheLaws
+pub mod Gatherings
+mod SureDecisions
 mod LastClosed
 mod Leaving
 pub mod Legality
 pub mod LettingOut
-mod Outcomes
+pub mod Outcomes
+pub mod PartsOfTables
 pub mod ReadableLaws
 mod RecordingCalls
 mod Replaying

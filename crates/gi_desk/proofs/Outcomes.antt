@@ -8,12 +8,9 @@ use Rattle.std.proofs.lemmas.Bool.Decides.{nat_tests}
 use Rattle.std.proofs.lemmas.List.Elements.{All-head, All-tail}
 use Rattle.std.proofs.lemmas.Option.{slice_get_within}
 use Rattle.gi_day.specs.Cycles.{cycle_count}
-use Rattle.gi_pairs.specs.Limits.{most_processed_rows}
-use Rattle.gi_pairs.specs.Table.{TableContents, same_hours, table_eq}
 use Rattle.gi_pairs.specs.declared.cycle_id.CycleId.{CycleId}
 use Rattle.gi_pairs.specs.declared.side.Side.{Side}
 use Rattle.gi_pairs.specs.declared.side.Side.TheVariants.{I, M}
-use Rattle.gi_lesser.specs.Lesser.{lesser_of}
 use Rattle.gi_messages.specs.Decoding.{decoded}
 use Rattle.gi_messages.specs.Grammar.{Fits, FitsNominationLine, Spells}
 use Rattle.gi_messages.specs.declared.message.Message.{Message}
@@ -29,11 +26,11 @@ use Rattle.gi_processing.specs.Recording.{is_refused, notice_refusal}
 use Rattle.gi_processing.specs.declared.notice_fault.NoticeFault.{NoticeFault}
 use Rattle.gi_processing.specs.declared.notice_fault.NoticeFault.TheVariants as notices
 use Rattle.gi_processing.specs.declared.rule.Rule.{Rule}
-use Rattle.gi_cycles.specs.declared.cycle_state.CycleState.{CycleState}
-use Rattle.gi_cycles.specs.declared.cycle_state.CycleState.TheVariants.{Collecting, Frozen, Matched}
-use Rattle.gi_desk.specs.Deciding.{by_order, by_response, cycle_of, difference, if_whole, met_again, unless_differs}
-use Rattle.gi_desk.specs.History.{capacity_of, is_closed, last_closed, number_of, state_of}
-use Rattle.gi_desk.specs.Judging.{by_decision, by_verdict, closed, contracted, delivered, if_same, noticed, of_point, submitted, unless_fault, unless_later, verdict_on}
+use Rattle.gi_parts.specs.Gathering.{CanKeep}
+use Rattle.gi_parts.specs.Parts.{part_of_order, part_of_response}
+use Rattle.gi_desk.specs.Deciding.{by_order, by_response, cycle_of}
+use Rattle.gi_desk.specs.History.{capacity_of, is_closed, is_meeting, last_closed, number_of, state_of}
+use Rattle.gi_desk.specs.Judging.{by_decision, by_verdict, closed, contracted, delivered, if_same, noticed, submitted, unless_fault, unless_later, verdict_on}
 use Rattle.gi_desk.specs.Caches.{CanFollow}
 use Rattle.gi_desk.specs.Machine.{DeskState, comes_to, has_priority, is_record, most_facts, outcome, unless_full, would_record}
 use Rattle.gi_facts.specs.Same.{same_fact}
@@ -44,26 +41,31 @@ use Rattle.gi_desk.specs.declared.decision.Decision.TheVariants as decisions
 use Rattle.gi_facts.specs.declared.fact.Fact.{Fact}
 use Rattle.gi_facts.specs.declared.fact.Fact.TheVariants as facts
 use Rattle.gi_desk.specs.declared.outcome.Outcome.{Outcome}
-use Rattle.gi_desk.specs.declared.outcome.Outcome.TheVariants.{Records, RepeatsNomination, RepeatsMeeting, Saves, Resends, Stops, Refuses}
+use Rattle.gi_desk.specs.declared.outcome.Outcome.TheVariants.{Records, RepeatsNomination, RepeatsMeeting, RepeatsPart, Keeps, Saves, Resends, Stops, Refuses}
 use Rattle.gi_desk.specs.declared.refusal.Refusal.TheVariants as refusals
-use Rattle.gi_desk.proofs.Decoded.{fits_few}
+use Rattle.gi_desk.proofs.Decoded.{fits_receivable}
 use Rattle.gi_desk.proofs.StateLaws.{number_of-from}
+use Rattle.gi_desk.proofs.SureDecisions.{IsSureDecision, sure_order, sure_response}
 
 -- what a call that comes to an outcome by itself can be sure of
 abbrev pub IsSure : Side → DeskState → Outcome → Type 0
 IsSure side s (Records fact) = would_record side s.point s.facts fact ≡ true
 IsSure side s (RepeatsNomination n) = 1 ≤ n
 IsSure side s (RepeatsMeeting n) = 1 ≤ n
+IsSure side s (RepeatsPart n) = 1 ≤ n
+IsSure side s (Keeps id part) = CanKeep id s.kept part
 IsSure side s (Saves n) = (n ≡ s.saved + 1) × (n ≤ length s.facts)
 IsSure side s (Resends id) = Unit {0}
 IsSure side s Stops = Unit {0}
 IsSure side s (Refuses refusal) = Unit {0}
 
--- the outcome saves nothing, and records no fact but this one
+-- the outcome saves nothing, keeps no part, and records no fact but this one
 abbrev pub IsOf : Fact → Outcome → Type 0
 IsOf own (Records fact) = own ≡ fact
 IsOf own (RepeatsNomination n) = 1 ≤ n
 IsOf own (RepeatsMeeting n) = 1 ≤ n
+IsOf own (RepeatsPart n) = ⊥
+IsOf own (Keeps id part) = ⊥
 IsOf own (Saves n) = ⊥
 IsOf own (Resends id) = Unit {0}
 IsOf own Stops = Unit {0}
@@ -73,6 +75,8 @@ sure : (side : Side) (s : DeskState) (own : Fact) (o : Outcome) → IsOf own o �
 sure side s own (Records fact) is recorded = subst (λ (f : Fact). would_record side s.point s.facts f ≡ true) is (recorded refl)
 sure side s own (RepeatsNomination n) is recorded = is
 sure side s own (RepeatsMeeting n) is recorded = is
+sure side s own (RepeatsPart n) is recorded = absurd is
+sure side s own (Keeps id part) is recorded = absurd is
 sure side s own (Saves n) is recorded = absurd is
 sure side s own (Resends id) is recorded = tt
 sure side s own Stops is recorded = tt
@@ -134,120 +138,37 @@ sure_submitted side s body (Ok (messages.Nomres message)) e = tt
 sure_submitted side s body (Ok (messages.Delord message)) e = tt
 sure_submitted side s body (Ok (messages.Delres message)) e = tt
 
--- ---- meetings
+-- ---- the peer's message
 
-abbrev pub OnlyMeets : TableContents → Decision → Type 0
-OnlyMeets peer (decisions.Meet table) = peer ≡ table
-OnlyMeets peer decisions.Again = Unit {0}
-OnlyMeets peer (decisions.Refused refusal) = Unit {0}
+sure_repeat : (side : Side) (s : DeskState) (n : ℕ) (b : Bool) → 1 ≤ n → IsSure side s (cond b (RepeatsMeeting n) (RepeatsPart n))
+sure_repeat side s n true from = from
+sure_repeat side s n false from = from
 
-meets_test : (peer : TableContents) (b : Bool) (d e : Decision) → OnlyMeets peer d → OnlyMeets peer e → OnlyMeets peer (cond b d e)
-meets_test peer true d e first second = first
-meets_test peer false d e first second = second
+sure_decision : (side : Side) (s : DeskState) (id : CycleId) (part : ℕ) (d : Decision) → IsSureDecision side s id d → IsSure side s (by_decision s.facts id part d)
+sure_decision side s id part (decisions.Meet peer) is = is
+sure_decision side s id part (decisions.Keep kept) is = is
+sure_decision side s id part decisions.Again is = sure_repeat side s (number_of (is_meeting id) s.facts) (part == 1) (number_of-from (is_meeting id) s.facts)
+sure_decision side s id part (decisions.Refused refusal) is = tt
 
-meets_again : (met peer : TableContents) → OnlyMeets peer (met_again met peer)
-meets_again met peer = meets_test peer (table_eq met peer) decisions.Again (decisions.Refused refusals.Conflict) tt tt
+sure_here : (side : Side) (s : DeskState) (b : Bool) (o : Outcome) → IsSure side s o → IsSure side s (cond b o (Refuses refusals.WrongPoint))
+sure_here side s true o is = is
+sure_here side s false o is = tt
 
-pub meets_order : (peer : TableContents) (state : CycleState) → OnlyMeets peer (by_order peer state)
-meets_order peer (Collecting id) = tt
-meets_order peer (Frozen cycle) = meets_test peer (same_hours cycle.own peer) (decisions.Meet peer) (decisions.Refused refusals.ShapeDiffers) refl tt
-meets_order peer (Matched cycle) =
-    meets_test peer (same_hours cycle.own peer) (met_again cycle.peer peer) (decisions.Refused refusals.ShapeDiffers) (meets_again cycle.peer peer) tt
-
-meets_unless : (peer : TableContents) (o : Option ℕ) (d : Decision) → OnlyMeets peer d → OnlyMeets peer (unless_differs o d)
-meets_unless peer None d is = is
-meets_unless peer (Some row) d is = tt
-
-meets_response : (peer confirmed : TableContents) (state : CycleState) → OnlyMeets peer (by_response peer confirmed state)
-meets_response peer confirmed (Collecting id) = tt
-meets_response peer confirmed (Frozen cycle) =
-    let differs = difference confirmed.rows (lesser_of cycle.own peer).rows in
-    meets_test peer (same_hours cycle.own peer) (unless_differs differs (decisions.Meet peer)) (decisions.Refused refusals.ShapeDiffers)
-    (meets_unless peer differs (decisions.Meet peer) refl) tt
-meets_response peer confirmed (Matched cycle) =
-    let differs = difference confirmed.rows (lesser_of cycle.own peer).rows in
-    let again = met_again cycle.peer peer in
-    meets_test peer (same_hours cycle.own peer) (unless_differs differs again) (decisions.Refused refusals.ShapeDiffers)
-    (meets_unless peer differs again (meets_again cycle.peer peer)) tt
-
-meets_whole : (peer : TableContents) (parts : ℕ) (d : Decision) → OnlyMeets peer d → OnlyMeets peer (if_whole parts d)
-meets_whole peer parts d is = meets_test peer (parts == 1) d (decisions.Refused refusals.Parts) is tt
-
-pub of_decision : (history : List Fact) (id : CycleId) (peer : TableContents) (d : Decision) → OnlyMeets peer d → IsOf (facts.Met id peer) (by_decision history id d)
-of_decision history id peer (decisions.Meet table) is = ap (facts.Met id) is
-of_decision history id peer decisions.Again is = number_of-from _ history
-of_decision history id peer (decisions.Refused refusal) is = tt
-
--- where a response meets, an order of the same table does
-again_never : (history : List Fact) (id : CycleId) (b : Bool) → is_record (by_decision history id (cond b decisions.Again (decisions.Refused refusals.Conflict))) ≡ true → ⊥
-again_never history id true e = cc
-again_never history id false e = cc
-
-never_unless : (history : List Fact) (id : CycleId) (o : Option ℕ) (d : Decision) → (is_record (by_decision history id d) ≡ true → ⊥)
-    → is_record (by_decision history id (unless_differs o d)) ≡ true → ⊥
-never_unless history id None d never e = never e
-never_unless history id (Some row) d never e = cc
-
-never_test : (history : List Fact) (id : CycleId) (b : Bool) (d : Decision) → (is_record (by_decision history id d) ≡ true → ⊥)
-    → is_record (by_decision history id (cond b d (decisions.Refused refusals.ShapeDiffers))) ≡ true → ⊥
-never_test history id true d never e = never e
-never_test history id false d never e = cc
-
-meets_too : (history : List Fact) (id : CycleId) (peer : TableContents) (b : Bool) (d : Decision) → is_record (by_decision history id (cond b d (decisions.Refused refusals.ShapeDiffers))) ≡ true
-    → is_record (by_decision history id (cond b (decisions.Meet peer) (decisions.Refused refusals.ShapeDiffers))) ≡ true
-meets_too history id peer true d e = refl
-meets_too history id peer false d e = absurd cc
-
-as_order : (history : List Fact) (id : CycleId) (peer confirmed : TableContents) (state : CycleState) → is_record (by_decision history id (by_response peer confirmed state)) ≡ true
-    → is_record (by_decision history id (by_order peer state)) ≡ true
-as_order history id peer confirmed (Collecting cycle) e = absurd cc
-as_order history id peer confirmed (Frozen cycle) e =
-    meets_too history id peer (same_hours cycle.own peer) (unless_differs (difference confirmed.rows (lesser_of cycle.own peer).rows) (decisions.Meet peer)) e
-as_order history id peer confirmed (Matched cycle) e =
-    let differs = difference confirmed.rows (lesser_of cycle.own peer).rows in
-    let again = met_again cycle.peer peer in
-    absurd
-    (never_test history id (same_hours cycle.own peer) (unless_differs differs again)
-    (never_unless history id differs again (again_never history id (table_eq cycle.peer peer))) e)
-
--- what records is whole
-recorded_whole : (history : List Fact) (id : CycleId) (b : Bool) (d : Decision) → is_record (by_decision history id (cond b d (decisions.Refused refusals.Parts))) ≡ true
-    → is_record (by_decision history id d) ≡ true
-recorded_whole history id true d e = e
-recorded_whole history id false d e = absurd cc
-
-recorded_here : (b : Bool) (o : Outcome) → is_record (cond b o (Refuses refusals.WrongPoint)) ≡ true → is_record o ≡ true
-recorded_here true o e = e
-recorded_here false o e = absurd cc
-
--- a decision that meets only where an order of a short table does
-sure_decision : (side : Side) (s : DeskState) (point : List ℕ) (id : CycleId) (peer : TableContents) (d : Decision) → OnlyMeets peer d
-    → (is_record (by_decision s.facts id d) ≡ true → is_record (by_decision s.facts id (by_order peer (state_of side s.facts id))) ≡ true)
-    → length peer.rows ≤ most_processed_rows → IsSure side s (of_point point s.point (by_decision s.facts id d))
-sure_decision side s point id peer d meets ordered few =
-    let here = by_decision s.facts id d in
-    sure side s (facts.Met id peer) (of_point point s.point here)
-    (of_test (facts.Met id peer) (bytes_eq point s.point) here (Refuses refusals.WrongPoint) (of_decision s.facts id peer d meets) tt)
-    (λ e. and_from _ _ (ordered (recorded_here (bytes_eq point s.point) here e)) (grind (arith, nat_tests)))
-
-sure_delivered : (side : Side) (s : DeskState) (body : List ℕ) (r : Result Message MessageFault) → decoded body ≡ r → IsSure side s (delivered side s.point s.facts r)
+sure_delivered : (side : Side) (s : DeskState) (body : List ℕ) (r : Result Message MessageFault) → decoded body ≡ r → IsSure side s (delivered side s.point s.facts s.kept r)
 sure_delivered I s body (Err fault) e = tt
 sure_delivered M s body (Err fault) e = tt
 sure_delivered M s body (Ok (messages.Delord message)) e =
-    let fits = fits_decoded body (messages.Delord message) e in
     let id = cycle_of message.day message.cycle in
-    let state = state_of M s.facts id in
-    let decided = by_order message.processed state in
-    sure_decision M s message.point id message.processed (if_whole message.parts decided) (meets_whole message.processed message.parts decided (meets_order message.processed state))
-    (λ is. recorded_whole s.facts id (message.parts == 1) decided is) (fits_few (messages.Delord message) fits)
+    let part = part_of_order message in
+    let decided = by_order s.kept part (state_of M s.facts id) in
+    sure_here M s (bytes_eq message.point s.point) (by_decision s.facts id message.part decided)
+    (sure_decision M s id message.part decided (sure_order M s id part (state_of M s.facts id) refl (fits_receivable (messages.Delord message) (fits_decoded body (messages.Delord message) e))))
 sure_delivered I s body (Ok (messages.Delres message)) e =
-    let fits = fits_decoded body (messages.Delres message) e in
     let id = cycle_of message.day message.cycle in
-    let state = state_of I s.facts id in
-    let decided = by_response message.processed message.confirmed state in
-    sure_decision I s message.point id message.processed (if_whole message.parts decided)
-    (meets_whole message.processed message.parts decided (meets_response message.processed message.confirmed state))
-    (λ is. as_order s.facts id message.processed message.confirmed state (recorded_whole s.facts id (message.parts == 1) decided is)) (fits_few (messages.Delres message) fits)
+    let part = part_of_response message in
+    let decided = by_response s.kept part (state_of I s.facts id) in
+    sure_here I s (bytes_eq message.point s.point) (by_decision s.facts id message.part decided)
+    (sure_decision I s id message.part decided (sure_response I s id part (state_of I s.facts id) refl (fits_receivable (messages.Delres message) (fits_decoded body (messages.Delres message) e))))
 sure_delivered I s body (Ok (messages.Delord message)) e = tt
 sure_delivered M s body (Ok (messages.Delres message)) e = tt
 sure_delivered I s body (Ok (messages.Nomint message)) e = tt
@@ -301,6 +222,8 @@ follows_unless : (side : Side) (s : DeskState) (o : Outcome) → IsSure side s o
 follows_unless side s (Records fact) is = room side s fact (nat_le most_facts (length s.facts)) refl is
 follows_unless side s (RepeatsNomination n) is = is
 follows_unless side s (RepeatsMeeting n) is = is
+follows_unless side s (RepeatsPart n) is = is
+follows_unless side s (Keeps id part) is = is
 follows_unless side s (Saves n) is = is
 follows_unless side s (Resends id) is = tt
 follows_unless side s Stops is = tt

@@ -1,6 +1,8 @@
 -- What a desk lets out can be written and read.
 use Rattle.std.proofs.Common.{arith, ◌≡◌, ◌<◌, ◌≤◌, ◌-◌, ℕ, List, [], ◌∷◌, length, take, filter, map, Bool, true, false, cond, All, Option, Some, None, Ok, refl, sym, ap, ◌∙◌, subst}
-use Rattle.std.specs.Prelude.{is_some, slice_get}
+use Rattle.std.specs.Int.{IsInRange}
+use Rattle.std.specs.List.{range_with_len}
+use Rattle.std.specs.Prelude.{◌*◌, ◌==◌, is_some, min, slice_get}
 use Rattle.std.specs.Ordering.{is_lt}
 use Rattle.std.specs.Str.{bytes_eq}
 use Rattle.std.proofs.lemmas.List.{get_or-take, length-map, length-take}
@@ -16,8 +18,10 @@ use Rattle.gi_pairs.specs.declared.cycle_id.CycleId.{CycleId}
 use Rattle.gi_pairs.specs.declared.row.Row.{Row}
 use Rattle.gi_pairs.specs.declared.side.Side.{Side}
 use Rattle.gi_pairs.specs.declared.side.Side.TheVariants.{I, M}
+use Rattle.gi_pairs.proofs.Slices.{length-slice, slice-is_table}
 use Rattle.gi_messages.specs.Decoding.{decoded}
 use Rattle.gi_messages.specs.Grammar.{Fits, FitsAcknow, FitsDelord, FitsDelres, FitsLine, FitsNomint, FitsNomres, HasFewLines}
+use Rattle.gi_messages.specs.Limits.{elements_of, most_confirmed_elements, most_part_elements, most_processed_elements}
 use Rattle.gi_messages.specs.Writing.{text_of}
 use Rattle.gi_messages.specs.declared.line.Line.{Line}
 use Rattle.gi_messages.specs.declared.message.Message.{Message}
@@ -31,7 +35,7 @@ use Rattle.gi_cycles.specs.declared.cycle_state.CycleState.TheVariants.{Collecti
 use Rattle.gi_desk.specs.History.{state_of}
 use Rattle.gi_desk.specs.LetOut.{IsFact, frozen_of, if_fact, let_out, let_out_on_closing, sent}
 use Rattle.gi_desk.specs.Machine.{bad_fact}
-use Rattle.gi_desk.specs.Messages.{acknow_of, is_row_of, line_of, on_closed, on_met, order_of, portfolios_in, response_of, to_peer, to_user, told_of, told_packets, with_code}
+use Rattle.gi_desk.specs.Messages.{acknow_of, is_row_of, line_of, on_closed, on_met, order_of, order_part, portfolios_in, response_of, response_part, to_peer, to_user, told_of, told_packets, with_code}
 use Rattle.gi_desk.specs.Writable.{FitsDesk, FitsFrozen, FitsMatched, FitsState, IsReadable}
 use Rattle.gi_facts.specs.Writable.{FitsFact}
 use Rattle.gi_facts.specs.declared.fact.Fact.{Fact}
@@ -41,6 +45,9 @@ use Rattle.gi_desk.specs.declared.packet.Recipient.{Recipient}
 use Rattle.gi_desk.specs.declared.packet.Recipient.TheVariants.{Peer, User}
 use Rattle.gi_desk.proofs.Fitting.{state-fits}
 use Rattle.gi_desk.proofs.LettingOut.{closing_lets_out, fact_closes, fact_meets, is_matched, let_out-is, meeting_lets_out}
+use Rattle.gi_parts.specs.Splitting.{part_of_table, parts_of_whole}
+use Rattle.gi_parts.proofs.Splits.{few-parts}
+use Rattle.gi_desk.proofs.PartsOfTables.{each-part}
 use Rattle.gi_processing.specs.declared.rule.Rule.{Rule}
 
 -- ---- texts
@@ -57,24 +64,52 @@ readable m fits few to = let writable = writable_from_fits m fits in (m, writabl
 pub acknow-fits : (document : NomintOf) → FitsNomint document → FitsAcknow (acknow_of document)
 acknow-fits document fits = record { point = fits.point; portfolio = fits.portfolio; day = fits.day; from = fits.from; to = fits.to }
 
-pub order-fits : {side : Side} (point : List ℕ) (cycle : FrozenCycle) → IsCode point → FitsFrozen side cycle → FitsDelord (order_of point cycle)
-order-fits point cycle code fits = record { point = code; day = fits.id.day; cycle = fits.id.cycle; few_parts = omega arith; part_from = omega arith; part_to = omega arith; processed = fits.own.table; few = fits.own.few }
+-- a part has few rows, in however many parts the table goes out
+few_in_part : (number parts most : ℕ) (table : TableContents) → most_part_elements ≤ most → length (part_of_table number table).rows ≤ elements_of most parts
+few_in_part number parts most table more =
+    let few = length-slice (most_part_elements * (number - 1)) most_part_elements table in
+    by_parts (parts == 1) few
+  where
+    by_parts : (b : Bool) → length (part_of_table number table).rows ≡ min most_part_elements (length table.rows - most_part_elements * (number - 1))
+        → length (part_of_table number table).rows ≤ cond b most most_part_elements
+    by_parts true few = omega (arith, few, more)
+    by_parts false few = omega (arith, few)
 
-pub response-fits : {side : Side} (point : List ℕ) (cycle : MatchedCycle) → IsCode point → FitsMatched side cycle → FitsDelres (response_of point cycle)
-response-fits point cycle code fits = record {
-  point = code;
-  day = fits.id.day;
-  cycle = fits.id.cycle;
-  few_parts = omega arith;
-  part_from = omega arith;
-  part_to = omega arith;
-  processed = fits.own.table;
-  few = fits.own.few;
-  confirmed = fits.confirmed;
-  few_confirmed = fits.confirmed.few;
-  begins = fits.begins;
-  ends = fits.ends;
-}
+-- each part of an order
+pub order-fits : {side : Side} (point : List ℕ) (cycle : FrozenCycle) (number : ℕ) → IsCode point → FitsFrozen side cycle → IsInRange 1 (parts_of_whole (order_of cycle)) number
+    → FitsDelord (order_part point cycle number)
+order-fits point cycle number code fits within =
+    let parts = parts_of_whole (order_of cycle) in
+    record {
+      point = code;
+      day = fits.id.day;
+      cycle = fits.id.cycle;
+      few_parts = few-parts (length cycle.own.rows) (omega (arith, fits.own.few));
+      part_from = within.0;
+      part_to = within.1;
+      processed = slice-is_table (most_part_elements * (number - 1)) most_part_elements cycle.own fits.own.table;
+      few = few_in_part number parts most_processed_elements cycle.own (omega arith);
+    }
+
+-- and each part of a response
+pub response-fits : {side : Side} (point : List ℕ) (cycle : MatchedCycle) (number : ℕ) → IsCode point → FitsMatched side cycle → IsInRange 1 (parts_of_whole (response_of cycle)) number
+    → FitsDelres (response_part point cycle number)
+response-fits point cycle number code fits within =
+    let parts = parts_of_whole (response_of cycle) in
+    record {
+      point = code;
+      day = fits.id.day;
+      cycle = fits.id.cycle;
+      few_parts = few-parts (length cycle.confirmed.rows) (omega (arith, fits.confirmed.few));
+      part_from = within.0;
+      part_to = within.1;
+      processed = slice-is_table (most_part_elements * (number - 1)) most_part_elements cycle.own fits.own.table;
+      few = few_in_part number parts most_processed_elements cycle.own (omega arith);
+      confirmed = slice-is_table (most_part_elements * (number - 1)) most_part_elements cycle.confirmed fits.confirmed;
+      few_confirmed = few_in_part number parts most_confirmed_elements cycle.confirmed (omega arith);
+      begins = fits.begins;
+      ends = fits.ends;
+    }
 
 line-fits : (side : Side) (row : Row) → IsRow row → FitsLine (line_of side row)
 line-fits I row is = record { counterparty = is.key.matching; quantities = is.quantities }
@@ -112,17 +147,25 @@ told-few side point cycle portfolio fits =
 
 -- ---- packets
 
+-- each of so many messages can be read
+each-readable : (message : ℕ → Message) (parts : ℕ) → ((number : ℕ) → IsInRange 1 parts number → Fits (message number) × HasFewLines (message number))
+    → All IsReadable (sent (map message (range_with_len 1 parts)))
+each-readable message parts fits =
+    let numbers = range_with_len 1 parts in
+    let is : (number : ℕ) → IsInRange 1 parts number → IsReadable (to_peer (message number)) =
+    λ number within. let each = fits number within in readable (message number) each.0 each.1 Peer in
+    All-map IsReadable to_peer (map message numbers)
+    (All-map (λ (m : Message). IsReadable (to_peer m)) message numbers (each-part (λ number. IsReadable (to_peer (message number))) parts is))
+
 closed-readable : (side : Side) (point : List ℕ) (cycle : FrozenCycle) → IsCode point → FitsFrozen side cycle → All IsReadable (sent (on_closed side point cycle))
 closed-readable I point cycle code fits =
-    let message = Delord (order_of point cycle) in
-    All-cons IsReadable (to_peer message) [] (readable message (order-fits point cycle code fits) tt Peer) (All-nil IsReadable)
+    each-readable (λ number. Delord (order_part point cycle number)) (parts_of_whole (order_of cycle)) (λ number within. (order-fits point cycle number code fits within, tt))
 closed-readable M point cycle code fits = All-nil IsReadable
 
 met-readable : (side : Side) (point : List ℕ) (cycle : MatchedCycle) → IsCode point → FitsMatched side cycle → All IsReadable (sent (on_met side point cycle))
 met-readable I point cycle code fits = All-nil IsReadable
 met-readable M point cycle code fits =
-    let message = Delres (response_of point cycle) in
-    All-cons IsReadable (to_peer message) [] (readable message (response-fits point cycle code fits) tt Peer) (All-nil IsReadable)
+    each-readable (λ number. Delres (response_part point cycle number)) (parts_of_whole (response_of cycle)) (λ number within. (response-fits point cycle number code fits within, tt))
 
 -- the portfolios in rows are codes
 coded_by : (b c : Bool) (code x : List ℕ) (xs later : List (List ℕ)) → IsCode code → IsCode x → All IsCode xs → All IsCode later

@@ -1,5 +1,5 @@
 -- Each fact that may come next is recorded by a call, which the fact names.
-use Rattle.std.proofs.Common.{arith, ◌≡◌, ◌≤◌, ℕ, List, [], ◌∷◌, length, All, Bool, true, cond, nat_eq, Some, None, eq-eqb, refl, sym, ap, ◌∙◌, subst}
+use Rattle.std.proofs.Common.{arith, ◌≡◌, ◌≤◌, ℕ, List, [], ◌∷◌, length, All, Bool, true, cond, nat_eq, Option, Some, None, eq-eqb, refl, sym, ap, ◌∙◌, subst}
 use Rattle.std.specs.Str.{bytes_eq}
 use Rattle.std.proofs.lemmas.Bool.{and_from, and_parts}
 use Rattle.std.proofs.lemmas.Bool.Decides.{Decides-eqb}
@@ -9,7 +9,7 @@ use Rattle.gi_day.specs.Cycles.{hour_count}
 use Rattle.gi_day.proofs.DayFacts.{day_facts}
 use Rattle.gi_pairs.specs.Code.{IsCode}
 use Rattle.gi_pairs.specs.Limits.{last_hour}
-use Rattle.gi_pairs.specs.Table.{TableContents}
+use Rattle.gi_pairs.specs.Table.{TableContents, same_hours}
 use Rattle.gi_pairs.specs.declared.cycle_id.CycleId.{CycleId}
 use Rattle.gi_pairs.specs.declared.side.Side.{Side}
 use Rattle.gi_pairs.specs.declared.side.Side.TheVariants.{I, M}
@@ -27,12 +27,15 @@ use Rattle.gi_nominations.specs.Lines.{has_hours}
 use Rattle.gi_nominations.specs.declared.verdict.Verdict.{Verdict}
 use Rattle.gi_nominations.specs.declared.verdict.Verdict.TheVariants as verdicts
 use Rattle.gi_nominations.proofs.LinesLaws.{without_fault}
+use Rattle.gi_cycles.specs.States.{FrozenCycle}
 use Rattle.gi_cycles.specs.declared.cycle_state.CycleState.TheVariants.{Frozen}
 use Rattle.gi_processing.specs.Recording.{is_refused, notice_refusal}
 use Rattle.gi_processing.specs.declared.contract.Contract.{Contract}
 use Rattle.gi_processing.specs.declared.notice.Notice.{Notice}
 use Rattle.gi_processing.specs.declared.rule.Rule.{Rule}
-use Rattle.gi_desk.specs.Deciding.{by_order, by_response, compared}
+use Rattle.gi_parts.specs.Parts.{part_of_order, part_of_response}
+use Rattle.gi_parts.specs.declared.kept_parts.KeptPart.{KeptPart}
+use Rattle.gi_desk.specs.Deciding.{by_order, by_response, difference, unless_differs}
 use Rattle.gi_desk.specs.History.{capacity_of, frozen_cycle, frozen_table, state_of}
 use Rattle.gi_desk.specs.Judging.{by_decision, by_verdict, closed, contracted, delivered, noticed, submitted, verdict_on}
 use Rattle.gi_desk.specs.Caches.{is_state_of, states_of}
@@ -45,12 +48,12 @@ use Rattle.gi_desk.specs.declared.decision.Decision.TheVariants as decisions
 use Rattle.gi_facts.specs.declared.fact.Fact.{Fact}
 use Rattle.gi_facts.specs.declared.fact.Fact.TheVariants.{Contracted, Noticed, Nominated, Closed, Met}
 use Rattle.gi_desk.specs.declared.outcome.Outcome.{Outcome}
-use Rattle.gi_desk.specs.declared.outcome.Outcome.TheVariants.{Records, RepeatsNomination, RepeatsMeeting, Saves, Resends, Stops, Refuses}
+use Rattle.gi_desk.specs.declared.outcome.Outcome.TheVariants.{Records, RepeatsNomination, RepeatsMeeting, RepeatsPart, Keeps, Saves, Resends, Stops, Refuses}
 use Rattle.gi_desk.specs.declared.refusal.Refusal.TheVariants as refusals
 use Rattle.gi_desk.proofs.CycleLaws.{IsMeeting, recorded-meeting}
 use Rattle.gi_desk.proofs.Differing.{difference-self}
 use Rattle.gi_desk.proofs.Legality.{recorded-nomination}
-use Rattle.gi_desk.proofs.Outcomes.{IsOf, IsSure, meets_order, of_closing, of_decision, of_fault, of_test, sure_comes}
+use Rattle.gi_desk.proofs.Outcomes.{IsOf, IsSure, of_closing, of_fault, of_test, sure_comes}
 use Rattle.gi_desk.proofs.ReadableLaws.{read_back}
 use Rattle.gi_desk.proofs.StageLaws.{found, state-meeting}
 
@@ -61,6 +64,8 @@ record_of : (own : Fact) (o : Outcome) → IsOf own o → is_record o ≡ true �
 record_of own (Records fact) is e = ap Records (sym is)
 record_of own (RepeatsNomination n) is e = absurd cc
 record_of own (RepeatsMeeting n) is e = absurd cc
+record_of own (RepeatsPart n) is e = absurd cc
+record_of own (Keeps id part) is e = absurd cc
 record_of own (Saves n) is e = absurd cc
 record_of own (Resends id) is e = absurd cc
 record_of own Stops is e = absurd cc
@@ -122,24 +127,29 @@ bytes_self text = (bytes_eq-Decides text text).1 refl
 at_point : (point : List ℕ) (o : Outcome) → cond (bytes_eq point point) o (Refuses refusals.WrongPoint) ≡ o
 at_point point o = ap (λ (b : Bool). cond b o (Refuses refusals.WrongPoint)) (bytes_self point)
 
--- where a table would be met, an order of it records the meeting
-meeting_records : (side : Side) (s : DeskState) (id : CycleId) (peer : TableContents) → would_record side s.point s.facts (Met id peer) ≡ true
-    → by_decision s.facts id (by_order peer (state_of side s.facts id)) ≡ Records (Met id peer)
-meeting_records side s id peer e =
-    let state = state_of side s.facts id in
-    record_of (Met id peer) (by_decision s.facts id (by_order peer state)) (of_decision s.facts id peer (by_order peer state) (meets_order peer state)) (and_parts _ _ e).0
+same_from : (own peer : TableContents) → HasShapeOf own peer → same_hours own peer ≡ true
+same_from own peer shape = and_from (nat_eq own.first peer.first) (nat_eq own.last peer.last) (eq-eqb own.first peer.first shape.first) (eq-eqb own.last peer.last shape.last)
 
 -- the order of the peer's table
 abbrev order : List ℕ → CycleId → TableContents → Delord
 order point id peer = record { point = point; day = id.day; cycle = id.cycle; parts = 1; part = 1; processed = peer }
 
+-- it is whole, so it meets the table, whatever is kept
+meets_order : (kept : List KeptPart) (cycle : FrozenCycle) (point : List ℕ) (id : CycleId) (peer : TableContents) → HasShapeOf cycle.own peer
+    → by_order kept (part_of_order (order point id peer)) (Frozen cycle) ≡ decisions.Meet peer
+meets_order kept cycle point id peer shape = ap (λ (b : Bool). cond b (decisions.Meet peer) (decisions.Refused refusals.ShapeDiffers)) (same_from cycle.own peer shape)
+
 order_called : (s : DeskState) (id : CycleId) (peer : TableContents) → FitsDesk M s.point s.facts → FitsCycle id → FitsProcessed peer
     → would_record M s.point s.facts (Met id peer) ≡ true → IsRecorded M s (Met id peer)
 order_called s id peer desk cycle fits e =
+    let is = recorded-meeting M s.point s.facts id peer e in
     let message = messages.Delord (order s.point id peer) in
-    let back = read_back message (record { point = desk.point; day = cycle.day; cycle = cycle.cycle; few_parts = omega arith; part_from = omega arith; part_to = omega arith; processed = fits.table; few = fits.few }) tt in (
+    let part = part_of_order (order s.point id peer) in
+    let back = read_back message (record { point = desk.point; day = cycle.day; cycle = cycle.cycle; few_parts = omega arith; part_from = omega arith; part_to = omega arith; processed = fits.table; few = fits.few }) tt in
+    let decision = by_order s.kept part (state_of M s.facts id) in
+    let meets : decision ≡ decisions.Meet peer = ap (by_order s.kept part) (state-meeting M s.facts id peer is) ∙ meets_order s.kept (frozen_cycle M s.facts id) s.point id peer is.same_hours in (
       calls.Deliver (text_of message),
-      ap (delivered M s.point s.facts) back ∙ at_point s.point (by_decision s.facts id (by_order peer (state_of M s.facts id))) ∙ meeting_records M s id peer e,
+      ap (delivered M s.point s.facts s.kept) back ∙ at_point s.point (by_decision s.facts id 1 decision) ∙ ap (by_decision s.facts id 1) meets,
     )
 
 -- the frozen table of a cycle that may meet a table
@@ -175,10 +185,12 @@ response_fits point id own peer code cycle own_fits fits shape =
     }
 
 -- it meets the table, as the order does
-meets_lesser : (own peer : TableContents) → HasShapeOf own peer → compared own peer (lesser_of own peer) (decisions.Meet peer) ≡ decisions.Meet peer
-meets_lesser own peer shape =
-    let hours = and_from (nat_eq own.first peer.first) (nat_eq own.last peer.last) (eq-eqb own.first peer.first shape.first) (eq-eqb own.last peer.last shape.last) in
-    rw (hours, difference-self (lesser_of own peer).rows) refl
+meets_response : (kept : List KeptPart) (cycle : FrozenCycle) (point : List ℕ) (id : CycleId) (peer : TableContents) → HasShapeOf cycle.own peer
+    → by_response kept (part_of_response (response point id cycle.own peer)) (Frozen cycle) ≡ decisions.Meet peer
+meets_response kept cycle point id peer shape =
+    let lesser = (lesser_of cycle.own peer).rows in
+    ap (λ (b : Bool). cond b (unless_differs (difference lesser lesser) (decisions.Meet peer)) (decisions.Refused refusals.ShapeDiffers)) (same_from cycle.own peer shape)
+    ∙ ap (λ (o : Option ℕ). unless_differs o (decisions.Meet peer)) (difference-self lesser)
 
 response_called : (s : DeskState) (id : CycleId) (peer : TableContents) → FitsDesk I s.point s.facts → FitsCycle id → FitsProcessed peer
     → would_record I s.point s.facts (Met id peer) ≡ true → IsRecorded I s (Met id peer)
@@ -186,11 +198,12 @@ response_called s id peer desk cycle fits e =
     let is = recorded-meeting I s.point s.facts id peer e in
     let own = frozen_table I s.facts id in
     let message = messages.Delres (response s.point id own peer) in
+    let part = part_of_response (response s.point id own peer) in
     let back = read_back message (response_fits s.point id own peer desk.point cycle (frozen_fits I s.point s.facts id peer desk is) fits is.same_hours) tt in
-    let decision = by_response peer (lesser_of own peer) (state_of I s.facts id) in
-    let meets : decision ≡ decisions.Meet peer = ap (by_response peer (lesser_of own peer)) (state-meeting I s.facts id peer is) ∙ meets_lesser own peer is.same_hours in (
+    let decision = by_response s.kept part (state_of I s.facts id) in
+    let meets : decision ≡ decisions.Meet peer = ap (by_response s.kept part) (state-meeting I s.facts id peer is) ∙ meets_response s.kept (frozen_cycle I s.facts id) s.point id peer is.same_hours in (
       calls.Deliver (text_of message),
-      ap (delivered I s.point s.facts) back ∙ at_point s.point (by_decision s.facts id decision) ∙ ap (by_decision s.facts id) meets,
+      ap (delivered I s.point s.facts s.kept) back ∙ at_point s.point (by_decision s.facts id 1 decision) ∙ ap (by_decision s.facts id 1) meets,
     )
 
 -- ---- all facts

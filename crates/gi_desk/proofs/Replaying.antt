@@ -2,10 +2,11 @@
 use Rattle.std.proofs.Common.{◌≡◌, ◌+◌, ℕ, List, [], ◌∷◌, ◌++◌, length, append-nil, Bool, true, false, cond, Option, Some, None, Result, Err, refl, sym, ap, subst, ◌∙◌, arith}
 use Rattle.std.proofs.lemmas.List.{append_assoc}
 use Rattle.gi_pairs.specs.declared.side.Side.{Side}
-use Rattle.gi_desk.specs.Machine.{BeginsWell, DeskState, IsReplayed, bad_fact, bad_from, may_follow}
+use Rattle.gi_desk.specs.Machine.{BeginsWell, DeskState, IsReplayed, bad_fact, bad_from, kept_after, may_follow}
 use Rattle.gi_desk.specs.declared.replay_fault.ReplayFault.{ReplayFault}
 use Rattle.gi_desk.specs.declared.replay_fault.ReplayFault.TheVariants.{BadFact, OutOfMemory}
 use Rattle.gi_facts.specs.declared.fact.Fact.{Fact}
+use Rattle.gi_facts.specs.declared.fact.Fact.TheVariants.{Closed, Contracted, Met, Nominated, Noticed}
 use Rattle.gi_desk.proofs.Legality.{legal-first, legal-joined, legal-next}
 
 -- one more that may follow
@@ -70,3 +71,11 @@ begins_so side point facts s fact later all legal point_is facts_is may all_is =
 pub nothing_left : (facts : List Fact) → length facts ≡ 0 → facts ≡ []
 nothing_left [] e = refl
 nothing_left (fact ∷ facts) e = absurd (omega arith)
+
+-- where no part is kept, none is kept after a fact
+pub kept_none : (fact : Fact) → kept_after fact [] ≡ []
+kept_none (Contracted contract) = refl
+kept_none (Noticed notice) = refl
+kept_none (Nominated document) = refl
+kept_none (Closed id rule) = refl
+kept_none (Met id peer) = refl

@@ -33,7 +33,7 @@ id_of-met : (cycle : FrozenCycle) (peer : Option TableContents) → id_of (met_b
 id_of-met cycle None = refl
 id_of-met cycle (Some peer) = refl
 
-id_of-state : (side : Side) (facts : List Fact) (id : CycleId) → id_of (state_of side facts id) ≡ id
+pub id_of-state : (side : Side) (facts : List Fact) (id : CycleId) → id_of (state_of side facts id) ≡ id
 unfolding state_of
 id_of-state side facts id = by_closed (is_closed id facts) refl
   where

@@ -21,7 +21,7 @@ use Rattle.gi_desk.specs.declared.call.Call.{Call}
 use Rattle.gi_facts.specs.declared.fact.Fact.{Fact}
 use Rattle.gi_facts.specs.declared.fact.Fact.TheVariants as facts
 use Rattle.gi_desk.specs.declared.outcome.Outcome.{Outcome}
-use Rattle.gi_desk.specs.declared.outcome.Outcome.TheVariants.{Records, RepeatsNomination, RepeatsMeeting, Saves, Resends, Stops, Refuses}
+use Rattle.gi_desk.specs.declared.outcome.Outcome.TheVariants.{Records, RepeatsNomination, RepeatsMeeting, RepeatsPart, Keeps, Saves, Resends, Stops, Refuses}
 use Rattle.gi_desk.specs.declared.packet.Packet.{Packet}
 use Rattle.gi_desk.specs.declared.refusal.Refusal.{Refusal}
 use Rattle.gi_desk.proofs.Confirmed.{met_closed}
@@ -35,6 +35,8 @@ grown_by : (s : DeskState) (o : Outcome) → HasOneMoreAtMost s.facts (next_of s
 grown_by s (Records fact) = inr (fact, refl)
 grown_by s (RepeatsNomination n) = inl refl
 grown_by s (RepeatsMeeting n) = inl refl
+grown_by s (RepeatsPart n) = inl refl
+grown_by s (Keeps id part) = inl refl
 grown_by s (Saves n) = inl refl
 grown_by s (Resends id) = inl refl
 grown_by s Stops = inl refl
@@ -44,6 +46,8 @@ saved_by : (side : Side) (s : DeskState) (o : Outcome) → CanFollow side s o �
 saved_by side s (Records fact) follows = (omega arith, omega arith)
 saved_by side s (RepeatsNomination n) follows = (omega arith, omega arith)
 saved_by side s (RepeatsMeeting n) follows = (omega arith, omega arith)
+saved_by side s (RepeatsPart n) follows = (omega arith, omega arith)
+saved_by side s (Keeps id part) follows = (omega arith, omega arith)
 saved_by side s (Saves n) follows = let next = follows.0 in (omega (arith, next), omega (arith, next))
 saved_by side s (Resends id) follows = (omega arith, omega arith)
 saved_by side s Stops follows = (omega arith, omega arith)
@@ -62,6 +66,8 @@ refused_by : (side : Side) (s : DeskState) (o : Outcome) (refusal : Refusal) →
 refused_by side s (Records fact) refusal e = absurd cc
 refused_by side s (RepeatsNomination n) refusal e = absurd cc
 refused_by side s (RepeatsMeeting n) refusal e = absurd cc
+refused_by side s (RepeatsPart n) refusal e = absurd cc
+refused_by side s (Keeps id part) refusal e = absurd cc
 refused_by side s (Saves n) refusal e = absurd cc
 refused_by side s (Resends id) refusal e = absurd cc
 refused_by side s Stops refusal e = absurd cc
@@ -97,6 +103,8 @@ said_by : (side : Side) (s : DeskState) (o : Outcome) (packet : Packet) → CanF
 said_by side s (Records fact) packet follows there = absurd (in_none packet there)
 said_by side s (RepeatsNomination n) packet follows there = saved_one side s n packet follows there
 said_by side s (RepeatsMeeting n) packet follows there = saved_one side s n packet follows (filtered is_for_peer (saved_out side s n) packet there)
+said_by side s (RepeatsPart n) packet follows there = absurd (in_none packet there)
+said_by side s (Keeps id part) packet follows there = absurd (in_none packet there)
 said_by side s (Saves n) packet follows there = let next = follows.0 in (n, omega (arith, next), omega arith, there)
 said_by side s (Resends id) packet follows there =
     let closing = number_of (is_closing id) s.facts in
@@ -135,6 +143,8 @@ legal_by : (side : Side) (s : DeskState) (o : Outcome) → CanFollow side s o �
 legal_by side s (Records fact) follows legal = legal-more side s.point s.facts fact legal follows.0 follows.1
 legal_by side s (RepeatsNomination n) follows legal = legal
 legal_by side s (RepeatsMeeting n) follows legal = legal
+legal_by side s (RepeatsPart n) follows legal = legal
+legal_by side s (Keeps id part) follows legal = legal
 legal_by side s (Saves n) follows legal = legal
 legal_by side s (Resends id) follows legal = legal
 legal_by side s Stops follows legal = legal
@@ -144,6 +154,8 @@ within_by : (side : Side) (s : DeskState) (o : Outcome) → CanFollow side s o �
 within_by side s (Records fact) follows within = let longer = length-append s.facts (fact ∷ []) in omega (arith, longer, within)
 within_by side s (RepeatsNomination n) follows within = within
 within_by side s (RepeatsMeeting n) follows within = within
+within_by side s (RepeatsPart n) follows within = within
+within_by side s (Keeps id part) follows within = within
 within_by side s (Saves n) follows within = follows.1
 within_by side s (Resends id) follows within = within
 within_by side s Stops follows within = within
@@ -219,7 +231,7 @@ frozen_front side facts m n id below closed =
 
 -- what is confirmed stays so where the saved facts are among the first ones that are kept
 pub confirms-through-restarts : (side : Side) (s : DeskState) (n : ℕ) (id : CycleId) (table : TableContents) → bad_fact side s.point s.facts ≡ None → s.saved ≤ n
-    → confirmed side s id ≡ Some table → confirmed side (record { point = s.point; facts = take n s.facts; saved = n; halted = false }) id ≡ Some table
+    → confirmed side s id ≡ Some table → confirmed side (record { point = s.point; facts = take n s.facts; saved = n; halted = false; kept = [] }) id ≡ Some table
 unfolding confirmed
 confirms-through-restarts side s n id table legal below told =
     let peer = told_by (frozen_table side s.facts id) (peer_of id (take s.saved s.facts)) table told in

@@ -1,9 +1,9 @@
--- When a step may want memory: where packets leave, and where it records a fact.
+-- When a step may want memory: where packets leave, and where the desk grows.
 use Rattle.std.proofs.Common.{◌≡◌, ◌||◌, Bool, true, false, not, cond, refl, sym, ap, ◌∙◌, subst}
 use Rattle.std.specs.Prelude.{IsTrue}
 use Rattle.std.proofs.lemmas.Bool.{and_from}
 use Rattle.gi_pairs.specs.declared.side.Side.{Side}
-use Rattle.gi_desk.specs.Machine.{DeskState, comes_to, is_record, learns_with_memory, may_want, may_want_to_prepare, out_of, outcome, prepared, some_leave, unless_full}
+use Rattle.gi_desk.specs.Machine.{DeskState, comes_to, grows, learns_with_memory, may_want, may_want_to_prepare, out_of, outcome, prepared, some_leave, unless_full}
 use Rattle.gi_desk.specs.declared.call.Call.{Call}
 use Rattle.gi_desk.specs.declared.outcome.Outcome.{Outcome}
 use Rattle.gi_desk.specs.declared.outcome.Outcome.TheVariants.{Refuses}
@@ -34,10 +34,10 @@ leaving-wants side s call o is some =
 -- a step wants what is wanted before it
 pub prepared-wants : (side : Side) (s : DeskState) (call : Call) → IsTrue (may_want_to_prepare side s call) → IsTrue (may_want side s call)
 unfolding may_want
-prepared-wants side s call wants = ap (λ (b : Bool). b || is_record (outcome side s call)) wants
+prepared-wants side s call wants = ap (λ (b : Bool). b || grows (outcome side s call)) wants
 
--- and where it records a fact
-pub made-wants : (side : Side) (s : DeskState) (call : Call) (p : Prepared) → p ≡ prepared side s call → IsTrue (is_record p.outcome) → IsTrue (may_want side s call)
+-- and where the desk grows
+pub made-wants : (side : Side) (s : DeskState) (call : Call) (p : Prepared) → p ≡ prepared side s call → IsTrue (grows p.outcome) → IsTrue (may_want side s call)
 unfolding may_want
 made-wants side s call p is records =
-    or_second (may_want_to_prepare side s call) (is_record (outcome side s call)) (sym (ap (λ (p : Prepared). is_record p.outcome) is) ∙ records)
+    or_second (may_want_to_prepare side s call) (grows (outcome side s call)) (sym (ap (λ (p : Prepared). grows p.outcome) is) ∙ records)

@@ -7,13 +7,14 @@ use Rattle.gi_messages.specs.declared.message.Nomint.{Nomint}
 use Rattle.gi_nominations.specs.Book.{in_force}
 use Rattle.gi_cycles.specs.declared.cycle_state.CycleState.{CycleState}
 use Rattle.gi_cycles.specs.declared.cycle_state.CycleState.TheVariants.{Collecting, Frozen, Matched}
+use Rattle.gi_parts.specs.Gathering.{CanKeep}
 use Rattle.gi_desk.specs.History.{closings, is_closed, state_of}
 use Rattle.gi_desk.specs.Machine.{DeskState, most_facts, would_record}
 use Rattle.gi_facts.specs.Same.{same_cycle}
 use Rattle.gi_facts.specs.declared.fact.Fact.{Fact}
 use Rattle.gi_facts.specs.declared.fact.Fact.TheVariants.{Contracted, Noticed, Nominated, Closed, Met}
 use Rattle.gi_desk.specs.declared.outcome.Outcome.{Outcome}
-use Rattle.gi_desk.specs.declared.outcome.Outcome.TheVariants.{Records, RepeatsNomination, RepeatsMeeting, Saves, Resends, Stops, Refuses}
+use Rattle.gi_desk.specs.declared.outcome.Outcome.TheVariants.{Records, RepeatsNomination, RepeatsMeeting, RepeatsPart, Keeps, Saves, Resends, Stops, Refuses}
 
 -- of the nominations that are kept the same one is in force for each portfolio and gas day as of those that were taken
 abbrev pub HasInForce : List Nomint → List Nomint → Type 0
@@ -41,6 +42,8 @@ abbrev pub CanFollow : Side → DeskState → Outcome → Type 0
 CanFollow side s (Records fact) = (would_record side s.point s.facts fact ≡ true) × (length s.facts < most_facts)
 CanFollow side s (RepeatsNomination n) = 1 ≤ n
 CanFollow side s (RepeatsMeeting n) = 1 ≤ n
+CanFollow side s (RepeatsPart n) = 1 ≤ n
+CanFollow side s (Keeps id part) = CanKeep id s.kept part
 CanFollow side s (Saves n) = (n ≡ s.saved + 1) × (n ≤ length s.facts)
 CanFollow side s (Resends id) = Unit {0}
 CanFollow side s Stops = Unit {0}

@@ -1,5 +1,6 @@
--- What a desk makes of its peer's message, by the state of the cycle.
-use Rattle.std.specs.Prelude.{◌≡◌, ◌≤◌, ◌⊎◌, ℕ, ◌+◌, ◌==◌, ◌&&◌, List, [], ◌∷◌, length, Bool, false, if◌then◌else◌, Option, Some, None, IsTrue}
+-- What a desk makes of its peer's order or response, by the state of the cycle and the parts that are kept.
+use Rattle.std.specs.Prelude.{◌≡◌, ◌⊎◌, ℕ, ◌+◌, List, [], ◌∷◌, Bool, false, not, ◌&&◌, if◌then◌else◌, Option, Some, None, IsTrue}
+use Rattle.std.specs.List.{list_all, list_any}
 use Rattle.jiff_core.specs.declared.civil.date.Date.{Date}
 use Rattle.gi_pairs.specs.Row.{row_eq}
 use Rattle.gi_pairs.specs.Table.{TableContents, same_hours, table_eq}
@@ -7,15 +8,24 @@ use Rattle.gi_pairs.specs.declared.cycle_id.CycleId.{CycleId}
 use Rattle.gi_pairs.specs.declared.row.Row.{Row}
 use Rattle.gi_pairs.specs.declared.side.Side.{Side}
 use Rattle.gi_pairs.specs.declared.side.Side.TheVariants.{I, M}
-use Rattle.gi_messages.specs.Limits.{most_processed_elements}
 use Rattle.gi_messages.specs.declared.message.Message.{Message}
 use Rattle.gi_messages.specs.declared.message.Message.TheVariants.{Nomint, Acknow, Nomres, Delord, Delres}
 use Rattle.gi_lesser.specs.Lesser.{lesser_of}
+use Rattle.gi_cycles.specs.States.{MatchedCycle}
 use Rattle.gi_cycles.specs.declared.cycle_state.CycleState.{CycleState}
 use Rattle.gi_cycles.specs.declared.cycle_state.CycleState.TheVariants.{Collecting, Frozen, Matched}
+use Rattle.gi_parts.specs.Gathering.{gathered, is_whole}
+use Rattle.gi_parts.specs.Parts.{IsSent, part_of_order, part_of_response, rows_of}
+use Rattle.gi_parts.specs.declared.gathered.Gathered.{Gathered}
+use Rattle.gi_parts.specs.declared.gathered.Gathered.TheVariants as gathers
+use Rattle.gi_parts.specs.declared.gathered.PartFault.{PartFault}
+use Rattle.gi_parts.specs.declared.gathered.PartFault.TheVariants as faults
+use Rattle.gi_parts.specs.declared.kept_parts.KeptPart.{KeptPart}
+use Rattle.gi_parts.specs.declared.part.Part.{Part}
 use Rattle.gi_desk.specs.declared.decision.Decision.{Decision}
-use Rattle.gi_desk.specs.declared.decision.Decision.TheVariants.{Meet, Again, Refused}
-use Rattle.gi_desk.specs.declared.refusal.Refusal.TheVariants.{OutOfMemory, WrongKind, Parts, NotClosed, ShapeDiffers, NotTheLesser, Conflict}
+use Rattle.gi_desk.specs.declared.decision.Decision.TheVariants.{Meet, Keep, Again, Refused}
+use Rattle.gi_desk.specs.declared.refusal.Refusal.{Refusal}
+use Rattle.gi_desk.specs.declared.refusal.Refusal.TheVariants.{OutOfMemory, WrongKind, NotClosed, ShapeDiffers, PartDiffers, PartsOverlap, TooManyRows, NotTheLesser, Conflict}
 
 -- the least place, from 1, at which rows differ; a row that one list lacks differs
 abbrev pub one_later : Option ℕ → Option ℕ
@@ -28,39 +38,65 @@ difference [] (y ∷ ys) = Some 1
 difference (x ∷ xs) [] = Some 1
 difference (x ∷ xs) (y ∷ ys) = if row_eq x y then one_later (difference xs ys) else Some 1
 
--- a cycle that met a table meets the same one again, and refuses another
+-- each row stands among others
+abbrev pub are_among : List Row → List Row → Bool
+are_among rows others = list_all (λ row. list_any (λ other. row_eq other row) others) rows
+
+-- A cycle that met a table meets the same one again, and refuses another. So it does a part of the same one: each row of it is one of the peer's, and
+-- each that it confirms one of the confirmed table's.
 abbrev pub met_again : TableContents → TableContents → Decision
 met_again met peer = if table_eq met peer then Again else Refused Conflict
 
--- the matching side: the order's table, once the cycle is closed
-abbrev pub by_order : TableContents → CycleState → Decision
-by_order peer (Collecting id) = Refused NotClosed
-by_order peer (Frozen cycle) = if same_hours cycle.own peer then Meet peer else Refused ShapeDiffers
-by_order peer (Matched cycle) = if same_hours cycle.own peer then met_again cycle.peer peer else Refused ShapeDiffers
+abbrev pub part_again : MatchedCycle → Part → Decision
+part_again cycle part = if are_among part.processed.rows cycle.peer.rows && are_among (rows_of part.confirmed) cycle.confirmed.rows then Again else Refused Conflict
+
+-- why parts are not taken
+abbrev pub refusal_of : PartFault → Refusal
+refusal_of (faults.PartDiffers part) = PartDiffers part
+refusal_of faults.PartsOverlap = PartsOverlap
+refusal_of faults.TooManyRows = TooManyRows
+refusal_of faults.OutOfMemory = OutOfMemory
+
+-- only for the hours of the frozen table
+abbrev pub if_same_hours : TableContents → Part → Decision → Decision
+if_same_hours own part decision = if same_hours own part.processed then decision else Refused ShapeDiffers
+
+-- the matching side: the order's table meets, once the cycle is closed and no part is missing
+abbrev pub ordered : Gathered → Decision
+ordered (gathers.Complete whole) = Meet whole.processed
+ordered (gathers.Keep part) = Keep part
+ordered (gathers.Refused fault) = Refused (refusal_of fault)
+
+abbrev pub by_order : List KeptPart → Part → CycleState → Decision
+by_order kept part (Collecting id) = Refused NotClosed
+by_order kept part (Frozen cycle) = if_same_hours cycle.own part (ordered (gathered cycle.id kept part))
+by_order kept part (Matched cycle) = if_same_hours cycle.own part (if is_whole part then met_again cycle.peer part.processed else part_again cycle part)
 
 -- the initiating side, besides: what the response confirms is the lesser of its own table and the response's
 abbrev pub unless_differs : Option ℕ → Decision → Decision
 unless_differs None decision = decision
 unless_differs (Some row) decision = Refused (NotTheLesser row)
 
-abbrev pub compared : TableContents → TableContents → TableContents → Decision → Decision
-compared own peer confirmed decision =
-    if same_hours own peer then unless_differs (difference confirmed.rows (lesser_of own peer).rows) decision else Refused ShapeDiffers
+abbrev pub compared : TableContents → TableContents → List Row → Decision → Decision
+compared own peer confirmed decision = unless_differs (difference confirmed (lesser_of own peer).rows) decision
 
-abbrev pub by_response : TableContents → TableContents → CycleState → Decision
-by_response peer confirmed (Collecting id) = Refused NotClosed
-by_response peer confirmed (Frozen cycle) = compared cycle.own peer confirmed (Meet peer)
-by_response peer confirmed (Matched cycle) = compared cycle.own peer confirmed (met_again cycle.peer peer)
+abbrev pub responded : TableContents → Gathered → Decision
+responded own (gathers.Complete whole) = compared own whole.processed (rows_of whole.confirmed) (Meet whole.processed)
+responded own (gathers.Keep part) = Keep part
+responded own (gathers.Refused fault) = Refused (refusal_of fault)
 
--- only what comes whole is decided on: one part of several is refused
-abbrev pub if_whole : ℕ → Decision → Decision
-if_whole parts decision = if parts == 1 then decision else Refused Parts
+abbrev pub by_response : List KeptPart → Part → CycleState → Decision
+by_response kept part (Collecting id) = Refused NotClosed
+by_response kept part (Frozen cycle) = if_same_hours cycle.own part (responded cycle.own (gathered cycle.id kept part))
+by_response kept part (Matched cycle) =
+    if_same_hours cycle.own part
+    (if is_whole part then compared cycle.own part.processed (rows_of part.confirmed) (met_again cycle.peer part.processed) else part_again cycle part)
 
 -- the matching side decides by orders, and the initiating side by responses
-abbrev pub decision : Side → CycleState → Message → Decision
-decision M state (Delord message) = if_whole message.parts (by_order message.processed state)
-decision I state (Delres message) = if_whole message.parts (by_response message.processed message.confirmed state)
-decision side state message = Refused WrongKind
+abbrev pub decision : Side → CycleState → List KeptPart → Message → Decision
+decision M state kept (Delord message) = by_order kept (part_of_order message) state
+decision I state kept (Delres message) = by_response kept (part_of_response message) state
+decision side state kept message = Refused WrongKind
 
 -- a message, where it is of the kind that is for the side
 abbrev pub for_role : Side → Message → Option Message
@@ -77,23 +113,35 @@ address_of M (Delord message) = Some (message.point, cycle_of message.day messag
 address_of I (Delres message) = Some (message.point, cycle_of message.day message.cycle)
 address_of side message = None
 
--- the processed table of an order or a response has as few rows as a message may carry
-abbrev pub HasFewRows : Message → Type 0
-HasFewRows (Delord message) = length message.processed.rows ≤ most_processed_elements
-HasFewRows (Delres message) = length message.processed.rows ≤ most_processed_elements
-HasFewRows (Nomint message) = Unit {0}
-HasFewRows (Acknow message) = Unit {0}
-HasFewRows (Nomres message) = Unit {0}
+-- the number of the part that a message is
+abbrev pub number_in : Message → ℕ
+number_in (Delord message) = message.part
+number_in (Delres message) = message.part
+number_in message = 1
 
--- To decide on a response may want memory only where it is whole, once the cycle is closed, and for a table of its hours, whose lesser is taken.
-abbrev pub response_may_want : TableContents → CycleState → Bool
-response_may_want peer (Collecting id) = false
-response_may_want peer (Frozen cycle) = same_hours cycle.own peer
-response_may_want peer (Matched cycle) = same_hours cycle.own peer
+-- an order or a response that can be read
+abbrev pub IsReceivable : Message → Type 0
+IsReceivable (Delord message) = IsSent (part_of_order message)
+IsReceivable (Delres message) = IsSent (part_of_response message)
+IsReceivable (Nomint message) = Unit {0}
+IsReceivable (Acknow message) = Unit {0}
+IsReceivable (Nomres message) = Unit {0}
+
+-- To decide may want memory only for the hours of the frozen table: until the cycle has met for the rows of several parts, and for the lesser that
+-- what a response confirms is compared with.
+abbrev pub order_may_want : Part → CycleState → Bool
+order_may_want part (Collecting id) = false
+order_may_want part (Frozen cycle) = not (is_whole part) && same_hours cycle.own part.processed
+order_may_want part (Matched cycle) = false
+
+abbrev pub response_may_want : Part → CycleState → Bool
+response_may_want part (Collecting id) = false
+response_may_want part (Frozen cycle) = same_hours cycle.own part.processed
+response_may_want part (Matched cycle) = is_whole part && same_hours cycle.own part.processed
 
 abbrev pub may_want_at : CycleState → Message → Bool
-may_want_at state (Delres message) = (message.parts == 1) && response_may_want message.processed state
-may_want_at state (Delord message) = false
+may_want_at state (Delord message) = order_may_want (part_of_order message) state
+may_want_at state (Delres message) = response_may_want (part_of_response message) state
 may_want_at state (Nomint message) = false
 may_want_at state (Acknow message) = false
 may_want_at state (Nomres message) = false
@@ -102,7 +150,6 @@ may_want_at state (Nomres message) = false
 abbrev pub IsUnlessShort : Bool → Decision → Decision → Type 0
 IsUnlessShort wants decided got = (got ≡ decided) ⊎ (IsTrue wants × (got ≡ Refused OutOfMemory))
 
--- what a role decides: the matching side wants no memory for it
-abbrev pub IsDecided : Side → CycleState → Message → Decision → Type 0
-IsDecided M state message got = got ≡ decision M state message
-IsDecided I state message got = IsUnlessShort (may_want_at state message) (decision I state message) got
+-- what a role decides
+abbrev pub IsDecided : Side → CycleState → List KeptPart → Message → Decision → Type 0
+IsDecided side state kept message got = IsUnlessShort (may_want_at state message) (decision side state kept message) got

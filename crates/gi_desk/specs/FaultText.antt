@@ -5,7 +5,7 @@ use Rattle.gi_day.specs.CalendarText.{fault_text as calendar_text}
 use Rattle.gi_messages.specs.Fault.{fault_text as message_text}
 use Rattle.gi_nominations.specs.FaultText.{fault_text as nomination_text}
 use Rattle.gi_desk.specs.declared.refusal.Refusal.{Refusal}
-use Rattle.gi_desk.specs.declared.refusal.Refusal.TheVariants.{Halted, TooManyPortfolios, Calendar, NoticeRange, PermilleRange, Message, WrongKind, Nomination, NoSuchCycle, AlreadyClosed, OutOfOrder, WrongPoint, Parts, NotClosed, ShapeDiffers, NotTheLesser, Conflict, NotNext, OtherFact, Full}
+use Rattle.gi_desk.specs.declared.refusal.Refusal.TheVariants.{Halted, TooManyPortfolios, Calendar, NoticeRange, PermilleRange, Message, WrongKind, Nomination, NoSuchCycle, AlreadyClosed, OutOfOrder, WrongPoint, NotClosed, ShapeDiffers, PartDiffers, PartsOverlap, TooManyRows, NotTheLesser, Conflict, NotNext, OtherFact, Full}
 use Rattle.gi_desk.specs.declared.refusal.Refusal.TheVariants as refusals
 use Rattle.gi_desk.specs.declared.replay_fault.ReplayFault.{ReplayFault}
 use Rattle.gi_desk.specs.declared.replay_fault.ReplayFault.TheVariants.{BadFact, OutOfMemory}
@@ -28,9 +28,11 @@ refusal_text NoSuchCycle = codes "NoSuchCycle"
 refusal_text AlreadyClosed = codes "AlreadyClosed"
 refusal_text (OutOfOrder last) = codes "OutOfOrder " ++ decimal last
 refusal_text WrongPoint = codes "WrongPoint"
-refusal_text Parts = codes "Parts"
 refusal_text NotClosed = codes "NotClosed"
 refusal_text ShapeDiffers = codes "ShapeDiffers"
+refusal_text (PartDiffers part) = codes "PartDiffers " ++ decimal part
+refusal_text PartsOverlap = codes "PartsOverlap"
+refusal_text TooManyRows = codes "TooManyRows"
 refusal_text (NotTheLesser row) = codes "NotTheLesser " ++ decimal row
 refusal_text Conflict = codes "Conflict"
 refusal_text (NotNext expected) = codes "NotNext " ++ decimal expected

@@ -1,5 +1,5 @@
 -- What each call comes to, by the facts of a desk.
-use Rattle.std.specs.Prelude.{ℕ, ◌+◌, List, slice_get, not, nat_eq, nat_le, nat_lt, if◌then◌else◌, Option, Some, None, Result, Ok, Err}
+use Rattle.std.specs.Prelude.{ℕ, ◌+◌, ◌==◌, List, slice_get, not, nat_eq, nat_le, nat_lt, if◌then◌else◌, Option, Some, None, Result, Ok, Err}
 use Rattle.std.specs.Str.{bytes_eq}
 use Rattle.gi_day.specs.Cycles.{cycle_count}
 use Rattle.gi_pairs.specs.declared.cycle_id.CycleId.{CycleId}
@@ -19,13 +19,14 @@ use Rattle.gi_processing.specs.declared.notice.Notice.{Notice}
 use Rattle.gi_processing.specs.declared.notice_fault.NoticeFault.{NoticeFault}
 use Rattle.gi_processing.specs.declared.notice_fault.NoticeFault.TheVariants as notices
 use Rattle.gi_processing.specs.declared.rule.Rule.{Rule}
-use Rattle.gi_desk.specs.Deciding.{address_of, decision}
+use Rattle.gi_parts.specs.declared.kept_parts.KeptPart.{KeptPart}
+use Rattle.gi_desk.specs.Deciding.{address_of, decision, number_in}
 use Rattle.gi_desk.specs.History.{capacity_of, documents_of, is_closed, is_closing, is_meeting, is_taking, last_closed, number_of, state_of}
 use Rattle.gi_facts.specs.Same.{same_fact}
 use Rattle.gi_desk.specs.declared.decision.Decision.{Decision}
 use Rattle.gi_desk.specs.declared.decision.Decision.TheVariants as decisions
 use Rattle.gi_desk.specs.declared.outcome.Outcome.{Outcome}
-use Rattle.gi_desk.specs.declared.outcome.Outcome.TheVariants.{Records, RepeatsNomination, RepeatsMeeting, Saves, Resends, Refuses}
+use Rattle.gi_desk.specs.declared.outcome.Outcome.TheVariants.{Records, RepeatsNomination, RepeatsMeeting, RepeatsPart, Keeps, Saves, Resends, Refuses}
 use Rattle.gi_facts.specs.declared.fact.Fact.{Fact}
 use Rattle.gi_facts.specs.declared.fact.Fact.TheVariants as facts
 use Rattle.gi_desk.specs.declared.refusal.Refusal.TheVariants.{TooManyPortfolios, NoticeRange, PermilleRange, OutOfMemory, Message as MessageRefused, WrongKind, Nomination, NoSuchCycle, AlreadyClosed, OutOfOrder, WrongPoint, NotClosed, NotNext, OtherFact}
@@ -80,23 +81,28 @@ closed history id rule =
     else (if is_closed id history then Refuses AlreadyClosed
     else unless_later id.cycle (last_closed id.day history) (Records (facts.Closed id rule)))
 
+-- a meeting that is repeated lets the response out only for part 1, or for all of the order
+abbrev pub repeated : ℕ → ℕ → Outcome
+repeated part n = if part == 1 then RepeatsMeeting n else RepeatsPart n
+
 -- the peer's message, of a kind that is for the side and for the desk's own point
-abbrev pub by_decision : List Fact → CycleId → Decision → Outcome
-by_decision history id (decisions.Meet peer) = Records (facts.Met id peer)
-by_decision history id decisions.Again = RepeatsMeeting (number_of (is_meeting id) history)
-by_decision history id (decisions.Refused refusal) = Refuses refusal
+abbrev pub by_decision : List Fact → CycleId → ℕ → Decision → Outcome
+by_decision history id part (decisions.Meet peer) = Records (facts.Met id peer)
+by_decision history id part (decisions.Keep kept) = Keeps id kept
+by_decision history id part decisions.Again = repeated part (number_of (is_meeting id) history)
+by_decision history id part (decisions.Refused refusal) = Refuses refusal
 
 abbrev pub of_point : List ℕ → List ℕ → Outcome → Outcome
 of_point point own outcome = if bytes_eq point own then outcome else Refuses WrongPoint
 
-abbrev pub if_addressed : Side → List ℕ → List Fact → Message → Option (List ℕ × CycleId) → Outcome
-if_addressed side point history message None = Refuses WrongKind
-if_addressed side point history message (Some address) =
-    of_point address.0 point (by_decision history address.1 (decision side (state_of side history address.1) message))
+abbrev pub if_addressed : Side → List ℕ → List Fact → List KeptPart → Message → Option (List ℕ × CycleId) → Outcome
+if_addressed side point history kept message None = Refuses WrongKind
+if_addressed side point history kept message (Some address) =
+    of_point address.0 point (by_decision history address.1 (number_in message) (decision side (state_of side history address.1) kept message))
 
-abbrev pub delivered : Side → List ℕ → List Fact → Result Message MessageFault → Outcome
-delivered side point history (Err fault) = Refuses (MessageRefused fault)
-delivered side point history (Ok message) = if_addressed side point history message (address_of side message)
+abbrev pub delivered : Side → List ℕ → List Fact → List KeptPart → Result Message MessageFault → Outcome
+delivered side point history kept (Err fault) = Refuses (MessageRefused fault)
+delivered side point history kept (Ok message) = if_addressed side point history kept message (address_of side message)
 
 -- a cycle's packets again: its closing is saved
 abbrev pub resent : List Fact → ℕ → CycleId → Outcome

@@ -1,8 +1,13 @@
 -- What holds of all histories of a desk.
+use Rattle.std.specs.List.{flat_map}
 use Rattle.std.specs.Prelude.{◌≡◌, ℕ, ◌+◌, ◌<◌, ◌≤◌, List, [], ◌∷◌, ◌++◌, length, take, All, Contains, ◌⊎◌, Some, None, true, false}
 use Rattle.gi_pairs.specs.Table.{TableContents}
 use Rattle.gi_pairs.specs.declared.cycle_id.CycleId.{CycleId}
+use Rattle.gi_pairs.specs.declared.row.Row.{Row}
 use Rattle.gi_pairs.specs.declared.side.Side.{Side}
+use Rattle.gi_cycles.specs.States.{FrozenCycle, matched_of}
+use Rattle.gi_messages.specs.declared.message.Message.{Message}
+use Rattle.gi_messages.specs.declared.message.Message.TheVariants as messages
 use Rattle.gi_messages.specs.declared.message.Nomint.{Nomint}
 use Rattle.gi_processing.specs.declared.rule.Rule.{Rule}
 use Rattle.gi_nominations.specs.Book.{in_force, is_of}
@@ -10,6 +15,7 @@ use Rattle.gi_desk.specs.History.{documents_of, frozen_table, is_closed, peer_of
 use Rattle.gi_desk.specs.Caches.{changes_cycle}
 use Rattle.gi_desk.specs.LetOut.{let_out, packets_of}
 use Rattle.gi_desk.specs.Machine.{DeskState, after as state_after, bad_fact, comes_to, is_for_peer, reply, started_again, would_record}
+use Rattle.gi_desk.specs.Messages.{orders_of, responses_of}
 use Rattle.gi_desk.specs.Queries.{confirmed}
 use Rattle.gi_desk.specs.Writable.{FitsDesk, IsReadable}
 use Rattle.gi_facts.specs.Writable.{FitsFact}
@@ -127,3 +133,22 @@ abbrev pub WritesMessages : Type 0
 WritesMessages =
     (side : Side) (point : List ℕ) (facts : List Fact) (n : ℕ) → bad_fact side point facts ≡ None → FitsDesk side point facts
     → All IsReadable (let_out side point facts n)
+
+-- the rows that an order or a response carries of the sender's table, and of the confirmed one
+abbrev pub processed_in : Message → List Row
+processed_in (messages.Delord m) = m.processed.rows
+processed_in (messages.Delres m) = m.processed.rows
+processed_in message = []
+
+abbrev pub confirmed_in : Message → List Row
+confirmed_in (messages.Delres m) = m.confirmed.rows
+confirmed_in message = []
+
+-- What a role writes of a cycle carries its tables whole: one message after the other has all rows, and no row twice.
+abbrev pub SendsWholeTables : Type 0
+SendsWholeTables =
+    (point : List ℕ) (cycle : FrozenCycle) (peer : TableContents)
+    → let matched = matched_of cycle peer in
+    (flat_map processed_in (orders_of point cycle) ≡ cycle.own.rows)
+    × (flat_map processed_in (responses_of point matched) ≡ cycle.own.rows)
+    × (flat_map confirmed_in (responses_of point matched) ≡ matched.confirmed.rows)

@@ -1,16 +1,20 @@
--- The desk as a machine: its state is a list of facts, how many of them are saved, and whether it is halted. Every
--- answer, every packet and the next state are functions of the state and the call.
+-- The desk as a machine: its state is a list of facts, how many of them are saved, whether it is halted, and the parts of messages that it keeps.
+-- Every answer, every packet and the next state are functions of the state and the call.
 use Rattle.std.specs.Prelude.{◌≡◌, ℕ, ◌+◌, List, [], ◌∷◌, ◌++◌, length, take, filter, Bool, true, false, not, ◌&&◌, ◌||◌, nat_le, nat_lt, IsTrue, ◌⊎◌, if◌then◌else◌, Option, Some, None, Result, Ok, Err}
 use Rattle.std.specs.List.{list_all}
 use Rattle.std.specs.Str.{is_utf8}
 use Rattle.gi_pairs.specs.Limits.{most_processed_rows}
+use Rattle.gi_pairs.specs.Table.{TableContents, same_hours}
 use Rattle.gi_pairs.specs.declared.side.Side.{Side}
 use Rattle.gi_messages.specs.Decoding.{decoded}
 use Rattle.gi_messages.specs.Limits.{last_priority, last_version, most_bytes}
 use Rattle.gi_messages.specs.declared.nomination_line.NominationLine.{NominationLine}
-use Rattle.gi_desk.specs.Deciding.{by_order}
+use Rattle.gi_cycles.specs.declared.cycle_state.CycleState.{CycleState}
+use Rattle.gi_cycles.specs.declared.cycle_state.CycleState.TheVariants as states
+use Rattle.gi_parts.specs.Parts.{count_of, with_kept, without}
+use Rattle.gi_parts.specs.declared.kept_parts.KeptPart.{KeptPart}
 use Rattle.gi_desk.specs.History.{is_closing, is_meeting, number_of, state_of}
-use Rattle.gi_desk.specs.Judging.{by_decision, closed, contracted, delivered, marked, nominated, noticed, resent, submitted}
+use Rattle.gi_desk.specs.Judging.{closed, contracted, delivered, marked, nominated, noticed, resent, submitted}
 use Rattle.gi_desk.specs.LetOut.{let_out}
 use Rattle.gi_desk.specs.declared.reply.Answer.{Answer}
 use Rattle.gi_desk.specs.declared.reply.Answer.TheVariants as answers
@@ -19,7 +23,7 @@ use Rattle.gi_desk.specs.declared.call.Call.TheVariants.{Contract, Notice, Submi
 use Rattle.gi_facts.specs.declared.fact.Fact.{Fact}
 use Rattle.gi_facts.specs.declared.fact.Fact.TheVariants as facts
 use Rattle.gi_desk.specs.declared.outcome.Outcome.{Outcome}
-use Rattle.gi_desk.specs.declared.outcome.Outcome.TheVariants.{Records, RepeatsNomination, RepeatsMeeting, Saves, Resends, Stops, Refuses}
+use Rattle.gi_desk.specs.declared.outcome.Outcome.TheVariants.{Records, RepeatsNomination, RepeatsMeeting, RepeatsPart, Keeps, Saves, Resends, Stops, Refuses}
 use Rattle.gi_desk.specs.declared.packet.Packet.{Packet}
 use Rattle.gi_desk.specs.declared.packet.Recipient.{Recipient}
 use Rattle.gi_desk.specs.declared.packet.Recipient.TheVariants.{Peer, User}
@@ -38,10 +42,11 @@ pub record DeskState : Type 0 where
   pub facts : List Fact
   pub saved : ℕ
   pub halted : Bool
+  pub kept : List KeptPart
 
--- a desk that starts again from its first facts, which are then saved
+-- a desk that starts again from its first facts, which are then saved; it keeps no part
 abbrev pub started_again : DeskState → ℕ → DeskState
-started_again s keep = record { point = s.point; facts = take keep s.facts; saved = keep; halted = false }
+started_again s keep = record { point = s.point; facts = take keep s.facts; saved = keep; halted = false; kept = [] }
 
 -- what a call comes to by itself
 abbrev pub comes_to : Side → DeskState → Call → Outcome
@@ -49,7 +54,7 @@ comes_to side s (Contract contract) = contracted s.facts contract
 comes_to side s (Notice notice) = noticed notice
 comes_to side s (Submit body) = submitted s.point s.facts (decoded body)
 comes_to side s (Close id rule) = closed s.facts id rule
-comes_to side s (Deliver body) = delivered side s.point s.facts (decoded body)
+comes_to side s (Deliver body) = delivered side s.point s.facts s.kept (decoded body)
 comes_to side s (Resend id) = resent s.facts s.saved id
 comes_to side s (MarkSaved n fact) = marked s.facts s.saved n fact
 comes_to side s Halt = Stops
@@ -67,6 +72,8 @@ abbrev pub answer_of : DeskState → Outcome → Answer
 answer_of s (Records fact) = answers.Recorded (length s.facts + 1)
 answer_of s (RepeatsNomination n) = answers.Repeat n
 answer_of s (RepeatsMeeting n) = answers.Repeat n
+answer_of s (RepeatsPart n) = answers.Repeat n
+answer_of s (Keeps id part) = answers.Kept (count_of id (with_kept id part s.kept)) part.parts
 answer_of s (Saves n) = answers.Saved n
 answer_of s (Resends id) = answers.Resent
 answer_of s Stops = answers.Stopped
@@ -89,16 +96,25 @@ abbrev pub out_of : Side → DeskState → Outcome → List Packet
 out_of side s (Records fact) = []
 out_of side s (RepeatsNomination n) = saved_out side s n
 out_of side s (RepeatsMeeting n) = filter is_for_peer (saved_out side s n)
+out_of side s (RepeatsPart n) = []
+out_of side s (Keeps id part) = []
 out_of side s (Saves n) = let_out side s.point s.facts n
 out_of side s (Resends id) = saved_out side s (number_of (is_closing id) s.facts) ++ saved_out side s (number_of (is_meeting id) s.facts)
 out_of side s Stops = []
 out_of side s (Refuses refusal) = []
 
+-- what is kept once a fact is recorded: a meeting drops the parts of its cycle
+abbrev pub kept_after : Fact → List KeptPart → List KeptPart
+kept_after (facts.Met id peer) kept = without id kept
+kept_after fact kept = kept
+
 -- the state that follows
 abbrev pub next_of : DeskState → Outcome → DeskState
-next_of s (Records fact) = record s { facts = s.facts ++ fact ∷ [] }
+next_of s (Records fact) = record s { facts = s.facts ++ fact ∷ []; kept = kept_after fact s.kept }
 next_of s (RepeatsNomination n) = s
 next_of s (RepeatsMeeting n) = s
+next_of s (RepeatsPart n) = s
+next_of s (Keeps id part) = record s { kept = with_kept id part s.kept }
 next_of s (Saves n) = record s { saved = n }
 next_of s (Resends id) = s
 next_of s Stops = record s { halted = true }
@@ -147,10 +163,16 @@ is_record other = false
 unfoldable pub may_want_to_prepare : Side → DeskState → Call → Bool
 may_want_to_prepare side s call = not s.halted && (learns_with_memory call || some_leave (out_of side s (outcome side s call)))
 
--- A step may want memory besides where it records a fact: so never on a halted desk, for a halt, for a message that is too
+-- whether the desk grows: by a fact, or by a part of a message, which can be read
+abbrev pub grows : Outcome → Bool
+grows (Records fact) = true
+grows (Keeps id part) = true
+grows other = false
+
+-- A step may want memory besides where the desk grows: so never on a halted desk, for a halt, for a message that is too
 -- large or no text, for another call that is refused, or for a mark or a resending that lets nothing out.
 unfoldable pub may_want : Side → DeskState → Call → Bool
-may_want side s call = may_want_to_prepare side s call || is_record (outcome side s call)
+may_want side s call = may_want_to_prepare side s call || grows (outcome side s call)
 
 abbrev pub out_of_memory : Reply
 out_of_memory = record { answer = answers.Refused refusals.OutOfMemory; out = [] }
@@ -168,7 +190,13 @@ IsForeseen side s call r = (r ≡ reply side s call) ⊎ ((r ≡ out_of_memory) 
 abbrev pub has_priority : NominationLine → Bool
 has_priority line = nat_le 1 line.priority && nat_le line.priority last_priority
 
--- whether a desk with these facts would record the fact for some call
+-- whether a cycle can meet the table: it is frozen, for the same hours; whole, or in parts of which all but the last are kept
+abbrev pub can_meet : TableContents → CycleState → Bool
+can_meet peer (states.Collecting id) = false
+can_meet peer (states.Frozen cycle) = same_hours cycle.own peer
+can_meet peer (states.Matched cycle) = false
+
+-- whether a desk with these facts would record the fact for some call, with some parts kept
 abbrev pub would_record : Side → List ℕ → List Fact → Fact → Bool
 would_record side point history (facts.Contracted contract) = is_record (contracted history contract)
 would_record side point history (facts.Noticed notice) = is_record (noticed notice)
@@ -176,7 +204,7 @@ would_record side point history (facts.Nominated document) =
     is_record (nominated point history document) && nat_le 1 document.version && nat_le document.version last_version && list_all has_priority document.lines
 would_record side point history (facts.Closed id rule) = is_record (closed history id rule)
 would_record side point history (facts.Met id peer) =
-    is_record (by_decision history id (by_order peer (state_of side history id))) && nat_le (length peer.rows) most_processed_rows
+    can_meet peer (state_of side history id) && nat_le (length peer.rows) most_processed_rows
 
 -- the fact may come after those before it: some call would record it, and there is room
 abbrev pub may_follow : Side → List ℕ → List Fact → Fact → Bool
@@ -200,6 +228,6 @@ BeginsWell side point (first ∷ later) = may_follow side point [] first ≡ tru
 -- A desk of given facts: all of them are saved, and it is not halted. It refuses the first bad one. Memory is wanted once
 -- the first fact is recorded: so none for no facts, or where the first one is bad.
 abbrev pub IsReplayed : Side → List ℕ → List Fact → Result DeskState ReplayFault → Type 0
-IsReplayed side point facts (Ok s) = (bad_fact side point facts ≡ None) × (s ≡ record { point = point; facts = facts; saved = length facts; halted = false })
+IsReplayed side point facts (Ok s) = (bad_fact side point facts ≡ None) × (s ≡ record { point = point; facts = facts; saved = length facts; halted = false; kept = [] })
 IsReplayed side point facts (Err (BadFact n)) = bad_fact side point facts ≡ Some n
 IsReplayed side point facts (Err OutOfMemory) = BeginsWell side point facts

@@ -1,5 +1,6 @@
 -- The messages that a desk writes, and the packets that carry them.
-use Rattle.std.specs.Prelude.{ℕ, List, [], ◌∷◌, map, filter, if◌then◌else◌}
+use Rattle.std.specs.Prelude.{ℕ, List, [], ◌∷◌, map, filter, if◌then◌else◌, Some, None}
+use Rattle.std.specs.List.{range_with_len}
 use Rattle.std.specs.Ordering.{is_lt}
 use Rattle.std.specs.Str.{bytes_eq}
 use Rattle.gi_pairs.specs.Key.{code_cmp}
@@ -19,6 +20,8 @@ use Rattle.gi_messages.specs.declared.message.Nomint.{Nomint}
 use Rattle.gi_messages.specs.declared.message.Nomres.{Nomres}
 pub use Rattle.gi_processing.specs.Processing.{is_row_of}
 use Rattle.gi_cycles.specs.States.{FrozenCycle, MatchedCycle}
+use Rattle.gi_parts.specs.Splitting.{part_of_table, parts_of_whole}
+use Rattle.gi_parts.specs.declared.part.Whole.{Whole}
 use Rattle.gi_desk.specs.declared.packet.Packet.{Packet}
 use Rattle.gi_desk.specs.declared.packet.Recipient.TheVariants.{Peer, User}
 
@@ -32,21 +35,41 @@ to_user portfolio message = record { to = User portfolio; body = text_of message
 abbrev pub acknow_of : Nomint → Acknow
 acknow_of document = record { point = document.point; portfolio = document.portfolio; day = document.day; version = document.version }
 
--- the initiating operator's order: its frozen table, whole
-abbrev pub order_of : List ℕ → FrozenCycle → Delord
-order_of point cycle = record { point = point; day = cycle.id.day; cycle = cycle.id.cycle; parts = 1; part = 1; processed = cycle.own }
+-- what an order of a cycle carries, its frozen table; and a response: its frozen table, and the confirmed one, which has no fewer rows
+abbrev pub order_of : FrozenCycle → Whole
+order_of cycle = record { processed = cycle.own; confirmed = None }
 
--- the messages that carry it, in order
+abbrev pub response_of : MatchedCycle → Whole
+response_of cycle = record { processed = cycle.own; confirmed = Some cycle.confirmed }
+
+-- The initiating operator's order: the part of this number of it, and the messages that carry all of it, in order.
+abbrev pub order_part : List ℕ → FrozenCycle → ℕ → Delord
+order_part point cycle number = record {
+  point = point;
+  day = cycle.id.day;
+  cycle = cycle.id.cycle;
+  parts = parts_of_whole (order_of cycle);
+  part = number;
+  processed = part_of_table number cycle.own;
+}
+
 abbrev pub orders_of : List ℕ → FrozenCycle → List Message
-orders_of point cycle = messages.Delord (order_of point cycle) ∷ []
+orders_of point cycle = map (λ number. messages.Delord (order_part point cycle number)) (range_with_len 1 (parts_of_whole (order_of cycle)))
 
--- the matching operator's response: its frozen table, and the confirmed one, whole
-abbrev pub response_of : List ℕ → MatchedCycle → Delres
-response_of point cycle = record { point = point; day = cycle.id.day; cycle = cycle.id.cycle; parts = 1; part = 1; processed = cycle.own; confirmed = cycle.confirmed }
+-- The matching operator's response, likewise.
+abbrev pub response_part : List ℕ → MatchedCycle → ℕ → Delres
+response_part point cycle number = record {
+  point = point;
+  day = cycle.id.day;
+  cycle = cycle.id.cycle;
+  parts = parts_of_whole (response_of cycle);
+  part = number;
+  processed = part_of_table number cycle.own;
+  confirmed = part_of_table number cycle.confirmed;
+}
 
--- the messages that carry it, in order
 abbrev pub responses_of : List ℕ → MatchedCycle → List Message
-responses_of point cycle = messages.Delres (response_of point cycle) ∷ []
+responses_of point cycle = map (λ number. messages.Delres (response_part point cycle number)) (range_with_len 1 (parts_of_whole (response_of cycle)))
 
 -- the side's portfolios that stand in rows, each once, by code
 abbrev pub with_code : List ℕ → List (List ℕ) → List (List ℕ)

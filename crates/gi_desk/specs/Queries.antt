@@ -10,6 +10,7 @@ use Rattle.gi_messages.specs.declared.message.Nomres.{Nomres}
 use Rattle.gi_cycles.specs.States.{MatchedCycle, matched_of}
 use Rattle.gi_cycles.specs.declared.cycle_state.CycleState.{CycleState}
 use Rattle.gi_cycles.specs.declared.cycle_state.CycleState.TheVariants as states
+use Rattle.gi_parts.specs.Parts.{count_of}
 use Rattle.gi_desk.specs.History.{frozen_cycle, frozen_table, is_closed, is_closing, is_meeting, number_of, peer_of}
 use Rattle.gi_desk.specs.LetOut.{let_out}
 use Rattle.gi_desk.specs.Machine.{DeskState}
@@ -56,6 +57,10 @@ peer_in state = None
 
 unfoldable pub meeting : List Fact → CycleId → Option (ℕ × TableContents)
 meeting facts id = option_map (λ peer. (number_of (is_meeting id) facts, peer)) (peer_of id facts)
+
+-- how many parts of the peer's order or response are kept of a cycle
+abbrev pub kept : DeskState → CycleId → ℕ
+kept s id = count_of id s.kept
 
 -- how far a cycle is
 abbrev pub stage_of : CycleState → StageName

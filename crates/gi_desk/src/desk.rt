@@ -1,4 +1,5 @@
 ghost use Rattle.std.specs.Prelude.{◌≡◌, ◌≤◌, None, length};
+ghost use Rattle.gi_parts.specs.Parts.{AreKept};
 ghost use Rattle.gi_desk.specs.Machine.{bad_fact};
 ghost use Rattle.gi_desk.specs.Writable.{FitsDesk};
 
@@ -15,6 +16,7 @@ use crate::role::Role;
 use gi_day::Calendar;
 use gi_facts::Fact;
 use gi_pairs::Code;
+use gi_parts::KeptParts;
 use std::alloc::Global;
 use std::marker::{Model, PhantomData};
 
@@ -27,6 +29,8 @@ pub struct Desk<R: Role> {
     facts: Vec<Fact>,
     /// What they come to.
     kept: Kept,
+    /// The parts of orders or responses that are kept while others are missing.
+    parts: KeptParts,
     /// How many facts stand on the store.
     saved: u32,
     halted: bool,
@@ -39,7 +43,7 @@ impl<R: Role> Model for Desk<R> {
 
     ghost Value = { DeskState };
 
-    ghost view = { λ d. record { point = d.point; facts = d.facts.items; saved = d.saved; halted = d.halted } };
+    ghost view = { λ d. record { point = d.point; facts = d.facts.items; saved = d.saved; halted = d.halted; kept = d.parts } };
 
     ghost invariant = { λ d. DeskInvariant R.SIDE d.point d.facts.items d.kept d.saved };
 }
@@ -66,12 +70,13 @@ impl<R: Role> Desk<R> {
 
     /// Each fact is one that the desk would record after those before it. The point, the facts and
     /// how far each closed cycle is can be written: their codes, gas days, numbers and tables are in
-    /// their ranges.
+    /// their ranges. The parts that it keeps can be read, and of each cycle at least one is missing.
     pub fn reveal_invariant(&self)
         ensures legal { bad_fact R.SIDE self.now.point self.now.facts ≡ None }
         ensures fits { FitsDesk R.SIDE self.now.point self.now.facts }
+        ensures parts { AreKept self.now.kept }
     {
-        let _ = self.facts.len();
+        self.parts.reveal_invariant();
     }
 
     /// How many of them are saved.

@@ -3,15 +3,13 @@
 ghost use Rattle.std.specs.Prelude.{◌≡◌, ◌≤◌, ◌&&◌, ◌↔◌, IsTrue, List, Some, length, nat_le};
 ghost use Rattle.std.specs.List.{list_all};
 ghost use Rattle.gi_desk.specs.History.{capacity_of};
-ghost use Rattle.gi_desk.specs.Judging.{by_decision, contracted as contracted_of, if_same as if_same_fact, marked as marked_of, noticed as noticed_of};
+ghost use Rattle.gi_desk.specs.Judging.{contracted as contracted_of, if_same as if_same_fact, marked as marked_of, noticed as noticed_of};
 ghost use Rattle.gi_processing.specs.Readings.{ReadsAs};
 ghost use Rattle.gi_pairs.specs.Limits.{most_processed_rows};
-ghost use Rattle.gi_pairs.specs.declared.cycle_id.CycleId.{CycleId};
-ghost use Rattle.gi_desk.specs.Deciding.{by_order};
 ghost use Rattle.gi_facts.specs.declared.fact.Fact.{Fact};
 ghost use Rattle.gi_desk.specs.declared.decision.Decision.TheVariants.{Refused};
 ghost use Rattle.gi_desk.specs.declared.refusal.Refusal.TheVariants.{OutOfMemory};
-ghost use Rattle.gi_desk.specs.Machine.{has_priority, is_record as is_record_of, most_facts, unless_full as unless_full_of};
+ghost use Rattle.gi_desk.specs.Machine.{can_meet as can_meet_of, has_priority, is_record as is_record_of, most_facts, unless_full as unless_full_of};
 
 use crate::decision::Decision;
 use crate::outcome::Outcome;
@@ -54,7 +52,7 @@ pub(crate) fn is_short(decision: &Decision) -> bool
 }
 
 pub(crate) fn can_meet(state: &CycleState, peer: &Table) -> bool
-    ensures { (facts : List Fact) (id : CycleId) → result ≡ (is_record_of (by_decision facts id (by_order peer.now state.now)) && nat_le (length peer.now.rows) most_processed_rows) }
+    ensures { result ≡ (can_meet_of peer.now state.now && nat_le (length peer.now.rows) most_processed_rows) }
 {
     match state {
         CycleState::Collecting(_) => false,

@@ -1,6 +1,6 @@
 //! What holds of all histories of a desk. These functions do nothing; their clauses are the laws.
 
-ghost use Rattle.gi_desk.specs.Laws.{ClosesOnce, ConfirmsForGood, ConfirmsThroughRestarts, FreezesForGood, FrontsAreLegal, KeepsTheHighestVersion, LetsOutForGood, MatchesForGood, MeetsOnce, OnlyAppends, OrdersOnlyOfCycles, RecordsWhatCallsRecord, RefusalsChangeNothing, SaysOnlyWhatIsSaved, StaysLegal, VersionsRise, WritesMessages};
+ghost use Rattle.gi_desk.specs.Laws.{ClosesOnce, ConfirmsForGood, ConfirmsThroughRestarts, FreezesForGood, FrontsAreLegal, KeepsTheHighestVersion, LetsOutForGood, MatchesForGood, MeetsOnce, OnlyAppends, OrdersOnlyOfCycles, RecordsWhatCallsRecord, RefusalsChangeNothing, SaysOnlyWhatIsSaved, SendsWholeTables, StaysLegal, VersionsRise, WritesMessages};
 
 /// No later fact changes what a fact lets out.
 pub fn lets_out_for_good()
@@ -88,4 +88,10 @@ pub fn records_what_calls_record()
 /// Every packet that a fact lets out is the text of a message that can be written, in at most 16 MiB.
 pub fn writes_messages()
     ensures { WritesMessages }
+{}
+
+/// The orders of a cycle carry its frozen table, and its responses that and the confirmed one, each
+/// message with the rows that follow those of the one before.
+pub fn sends_whole_tables()
+    ensures { SendsWholeTables }
 {}

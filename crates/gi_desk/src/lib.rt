@@ -40,6 +40,11 @@
 //! Who keeps more of a step than the desk does makes it in two: [`Desk::prepare`], its own copies
 //! and places, then [`Desk::make`].
 //!
+//! A table of more than 1,000 rows goes out in parts, and comes so. One that comes is kept beside the
+//! facts until it is the last one missing of its cycle; then all together are decided on as a whole
+//! message is ([`Answer::Kept`], `gi_parts`). No fact says what is kept: a meeting drops it, and so
+//! does a start.
+//!
 //! A desk that starts again is made of its saved facts ([`Desk::replay`]). Packets may be lost or
 //! come twice, so what saved facts let out can be let out again ([`Call::Resend`]).
 //!
@@ -71,7 +76,7 @@ mod stages;
 mod telling;
 
 pub use call::Call;
-pub use deciding::{difference, met_again};
+pub use deciding::{difference, met_again, part_again, refusal_of};
 pub use decision::Decision;
 pub use desk::Desk;
 pub use gi_facts::{Fact, FactFault, decode_fact, encode_fact};
@@ -80,7 +85,7 @@ pub use laws::{
     closes_once, confirms_for_good, confirms_through_restarts, freezes_for_good, fronts_are_legal,
     keeps_the_highest_version, lets_out_for_good, matches_for_good, meets_once, only_appends,
     orders_only_of_cycles, records_what_calls_record, refusals_change_nothing,
-    says_only_what_is_saved, stays_legal, versions_rise, writes_messages,
+    says_only_what_is_saved, sends_whole_tables, stays_legal, versions_rise, writes_messages,
 };
 pub use outcome::Outcome;
 pub use packet::{Body, Packet, Packets, Recipient};

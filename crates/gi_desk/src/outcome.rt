@@ -1,6 +1,7 @@
 use crate::refusal::Refusal;
 use gi_facts::Fact;
 use gi_pairs::CycleId;
+use gi_parts::Part;
 
 /// What a call comes to.
 #[derive(Drop)]
@@ -11,6 +12,10 @@ pub enum Outcome {
     RepeatsNomination { n: u32 },
     /// It repeats the meeting that fact number `n` records.
     RepeatsMeeting { n: u32 },
+    /// It repeats that meeting by a part that is not the first, so nothing is let out.
+    RepeatsPart { n: u32 },
+    /// A part of the peer's order or response is kept, unless it is kept already.
+    Keeps { id: CycleId, part: Part },
     /// Fact number `n` is saved.
     Saves { n: u32 },
     /// What the cycle let out is let out again.

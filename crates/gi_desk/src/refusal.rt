@@ -31,12 +31,18 @@ pub enum Refusal {
     OutOfOrder { last: u8 },
     /// The message is for another interconnection point.
     WrongPoint,
-    /// The order or the response is one part of several, and only whole ones are taken.
-    Parts,
     /// The cycle is not closed here; for a resending, its closing is not saved.
     NotClosed,
     /// The table is for other hours than the frozen one.
     ShapeDiffers,
+    /// This part does not go with one that is kept of the cycle: that is one of another number of parts,
+    /// or the same part with other rows.
+    PartDiffers { part: u8 },
+    /// The last part that was missing: all together have a pair and direction twice, in either array.
+    PartsOverlap,
+    /// The last part that was missing: all together have more than 4,096 processed rows, or 8,192
+    /// confirmed ones.
+    TooManyRows,
     /// The confirmed table is not the lesser of the two: they differ first at this row, from 1.
     NotTheLesser { row: u32 },
     /// The cycle met another table.
@@ -71,9 +77,11 @@ impl fmt::Display for Refusal {
             Refusal::AlreadyClosed => "AlreadyClosed",
             Refusal::OutOfOrder { last } => return write!(f, "OutOfOrder {last}"),
             Refusal::WrongPoint => "WrongPoint",
-            Refusal::Parts => "Parts",
             Refusal::NotClosed => "NotClosed",
             Refusal::ShapeDiffers => "ShapeDiffers",
+            Refusal::PartDiffers { part } => return write!(f, "PartDiffers {part}"),
+            Refusal::PartsOverlap => "PartsOverlap",
+            Refusal::TooManyRows => "TooManyRows",
             Refusal::NotTheLesser { row } => return write!(f, "NotTheLesser {row}"),
             Refusal::Conflict => "Conflict",
             Refusal::NotNext { expected } => return write!(f, "NotNext {expected}"),

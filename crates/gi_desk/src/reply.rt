@@ -8,6 +8,8 @@ pub enum Answer {
     Recorded { n: u32 },
     /// The call repeats what fact number `n` says.
     Repeat { n: u32 },
+    /// Of `parts` parts of the peer's order or response `have` are kept.
+    Kept { have: u8, parts: u8 },
     /// Fact number `n` is saved.
     Saved { n: u32 },
     /// All that the cycle's saved closing and meeting let out is let out again.

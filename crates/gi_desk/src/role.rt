@@ -1,12 +1,13 @@
 ghost use Rattle.std.specs.Prelude.{◌≡◌, ◌≢◌, [], IfErr, IfOk, Some};
 ghost use Rattle.std.specs.Option.{option_map};
-ghost use Rattle.gi_desk.specs.Deciding.{HasFewRows, IsDecided, address_of, for_role};
+ghost use Rattle.gi_desk.specs.Deciding.{IsDecided, IsReceivable, address_of, for_role, number_in};
 ghost use Rattle.gi_desk.specs.Messages.{on_closed as orders_on_closing, on_met as responses_on_meeting};
 
 use crate::decision::Decision;
 use gi_cycles::{CycleState, Frozen, Matched};
 use gi_messages::Message;
 use gi_pairs::{Code, CycleId, Side};
+use gi_parts::KeptParts;
 use std::alloc::{AllocError, Global};
 
 /// An operator's part in the exchange of a cycle's tables.
@@ -33,15 +34,26 @@ pub trait Role {
     fn address(received: &Self::Received) -> (Code, CycleId)
         ensures { Some result ≡ address_of SIDE (as_message received.now) };
 
-    /// What comes of the peer's order or response, with at most 4,096 processed rows, in a state of
-    /// its cycle: `Parts` where it is one part of several, `NotClosed` while nominations are
-    /// collected, then `ShapeDiffers`, then at the initiating side `NotTheLesser`. A frozen cycle meets the table, which is moved out of
-    /// the order or the response; a matched one has met it already or answers `Conflict`. `OutOfMemory` comes only at the
-    /// initiating side, and only where the response is whole, the cycle is closed and the hours are
-    /// the same.
-    fn decide(alloc: Global, state: &CycleState, received: Self::Received) -> Decision
-        requires few { HasFewRows (as_message received) }
-        ensures { IsDecided SIDE state.now (as_message received) result };
+    /// Which part of several it is, from 1: 1 where it comes whole.
+    fn part(received: &Self::Received) -> u8
+        ensures { result ≡ number_in (as_message received.now) };
+
+    /// What comes of the peer's order or response, one that can be read, in a state of its cycle and
+    /// with the parts that are kept: `NotClosed` while nominations are collected, then `ShapeDiffers`.
+    /// A frozen cycle: one part of several is `PartDiffers`, or to be kept until it is the last one
+    /// missing; then all together are `PartsOverlap`, `TooManyRows`, or the tables. These, or those of
+    /// a whole message, are at the initiating side `NotTheLesser`, and else meet. A matched cycle has
+    /// met it already or answers `Conflict`, after `NotTheLesser` of a whole response. `OutOfMemory`
+    /// comes only for the hours of the frozen table: of a frozen cycle at the matching side only for
+    /// one part of several, and of a matched one only for a whole response.
+    fn decide(
+        alloc: Global,
+        state: &CycleState,
+        kept: &KeptParts,
+        received: Self::Received,
+    ) -> Decision
+        requires { IsReceivable (as_message received) }
+        ensures { IsDecided SIDE state.now kept.now (as_message received) result };
 
     /// What the peer is sent when the cycle is closed, at the interconnection point, in order.
     fn on_closed(alloc: Global, point: Code, cycle: &Frozen) -> Result<Vec<Message>, AllocError>

@@ -159,9 +159,13 @@ fn confirmed(plain: &Plain, random: &mut Random, id: &CycleId, processed: &Table
     processed.copy().ok()
 }
 
-/// In how many parts a message of the peer comes: at times it is the first of two.
-fn drawn_parts(random: &mut Random) -> u8 {
-    if random.below(16) == 0 { 2 } else { 1 }
+/// Which part of how many a message of the peer is: at times one of two, and seldom of three.
+fn drawn_part(random: &mut Random) -> (u8, u8) {
+    match random.below(32) {
+        0..=5 => (random.below(2).wrapping_add(1), 2),
+        6 => (random.below(3).wrapping_add(1), 3),
+        _ => (1, 1),
+    }
 }
 
 /// The peer's response with its table.
@@ -173,12 +177,13 @@ fn response(
     processed: Table,
 ) -> Option<Message> {
     let confirmed = confirmed(plain, random, id, &processed)?;
+    let (part, parts) = drawn_part(random);
     Some(Message::Delres(Delres {
         point: names.drawn_point(random),
         day: id.day,
         cycle: id.cycle,
-        parts: drawn_parts(random),
-        part: 1,
+        parts,
+        part,
         processed,
         confirmed,
     }))
@@ -186,12 +191,13 @@ fn response(
 
 /// The peer's order with its table.
 fn order(names: &Names, random: &mut Random, id: &CycleId, processed: Table) -> Message {
+    let (part, parts) = drawn_part(random);
     Message::Delord(Delord {
         point: names.drawn_point(random),
         day: id.day,
         cycle: id.cycle,
-        parts: drawn_parts(random),
-        part: 1,
+        parts,
+        part,
         processed,
     })
 }

@@ -11,7 +11,8 @@ use gi_day::{Calendar, GasDay};
 use gi_desk::{Answer, Body, Call, Fact, Outcome, Packet, Refusal, StageName};
 use gi_messages::{Delord, Delres, Message, NominationLine, Nomint, decode};
 use gi_nominations::NominationFault;
-use gi_pairs::{Code, CycleId, Row, Side, Table};
+use gi_pairs::{Code, CycleId, MOST_PROCESSED_ROWS, MOST_ROWS, Row, Side, Table};
+use gi_parts::{KeptPart, Part};
 use gi_processing::{Notice, Rule};
 use std::alloc::Global;
 
@@ -27,6 +28,8 @@ pub struct Plain {
     pub facts: Vec<Fact>,
     pub saved: usize,
     pub halted: bool,
+    /// The parts of messages that are kept.
+    pub kept: Vec<KeptPart>,
 }
 
 /// The number as the answers have it.
@@ -107,6 +110,51 @@ fn not_the_lesser(confirmed: Option<&Table>, lesser: &Table) -> Option<Refusal> 
     Some(Refusal::NotTheLesser { row })
 }
 
+/// Whether each row stands among others.
+fn are_among(rows: &[Row], others: &[Row]) -> bool {
+    for row in rows {
+        if !others.contains(row) {
+            return false;
+        }
+    }
+    true
+}
+
+/// Whether a part may stand beside another one of its cycle.
+fn goes_with(one: &Part, part: &Part) -> bool {
+    one.parts == part.parts
+        && (one.number != part.number
+            || one.processed == part.processed && one.confirmed_rows() == part.confirmed_rows())
+}
+
+/// Adds copies of rows.
+fn add_rows(rows: &mut Vec<Row>, more: &[Row]) {
+    for row in more {
+        if let Ok(row) = row.copy() {
+            put(rows, row);
+        }
+    }
+}
+
+/// Copies of rows.
+fn rows_of(alloc: Global, more: &[Row]) -> Vec<Row> {
+    let mut rows = Vec::new(alloc);
+    add_rows(&mut rows, more);
+    rows
+}
+
+/// Whether two rows are of one pair and direction.
+fn has_twins(rows: &[Row]) -> bool {
+    for place in 0..rows.len() {
+        for other in 0..place {
+            if rows[place].key() == rows[other].key() {
+                return true;
+            }
+        }
+    }
+    false
+}
+
 /// A message of another kind is refused.
 fn wrong_kind(message: Message) -> Outcome {
     drop(message);
@@ -124,6 +172,7 @@ impl Plain {
             facts: Vec::new(alloc),
             saved: 0,
             halted: false,
+            kept: Vec::new(alloc),
         })
     }
 
@@ -132,6 +181,7 @@ impl Plain {
         self.facts.truncate(keep);
         self.saved = self.facts.len();
         self.halted = false;
+        self.kept.clear();
     }
 
     /// The frozen table of the cycle, once it is closed: that of the facts before its closing, by its
@@ -221,96 +271,151 @@ impl Plain {
         }
     }
 
-    /// What stands against a meeting at that side: at the initiating one also that something else is
-    /// confirmed.
-    fn meeting_fault(
-        &self,
-        side: Side,
-        point: Code,
-        id: &CycleId,
-        parts: u8,
-        peer: &Table,
-        confirmed: Option<&Table>,
-    ) -> Option<Refusal> {
+    /// What stands against a message of the peer to that side, whatever its rows are.
+    fn message_fault(&self, side: Side, point: Code, id: &CycleId, part: &Part) -> Option<Refusal> {
         if side != self.side {
             return Some(Refusal::WrongKind);
         }
         if point != self.point {
             return Some(Refusal::WrongPoint);
         }
-        if parts != 1 {
-            return Some(Refusal::Parts);
+        match self.frozen(id) {
+            None => Some(Refusal::NotClosed),
+            Some(own) if !own.covers_same_hours(&part.processed) => Some(Refusal::ShapeDiffers),
+            Some(_) => None,
         }
-        if number_of_closing(&self.facts, id).is_none() {
-            return Some(Refusal::NotClosed);
-        }
-        match self.lesser(id, peer) {
-            Some(lesser) => not_the_lesser(confirmed, &lesser),
+    }
+
+    /// What a whole message comes to that nothing else stands against: at the initiating side also that
+    /// something else is confirmed.
+    fn met(&self, id: CycleId, part: Part) -> Outcome {
+        let Part {
+            processed,
+            confirmed,
+            ..
+        } = part;
+        let refusal = match self.lesser(&id, &processed) {
+            Some(lesser) => not_the_lesser(confirmed.as_ref(), &lesser),
             None => Some(Refusal::ShapeDiffers),
+        };
+        drop(confirmed);
+        if let Some(refusal) = refusal {
+            drop(processed);
+            return Outcome::Refuses(refusal);
         }
-    }
-
-    /// What a meeting comes to that nothing stands against.
-    fn met(&self, id: CycleId, peer: Table) -> Outcome {
         match meeting(&self.facts, &id) {
-            Some((n, met)) if *met == peer => Outcome::RepeatsMeeting { n: number(n) },
+            Some((n, met)) if *met == processed => Outcome::RepeatsMeeting { n: number(n) },
             Some(_) => Outcome::Refuses(Refusal::Conflict),
-            None => Outcome::Records(Fact::Met { id, peer }),
+            None => Outcome::Records(Fact::Met {
+                id,
+                peer: processed,
+            }),
         }
     }
 
-    /// What the peer's message to that side comes to, with this table of its own.
-    fn met_by(
-        &self,
-        side: Side,
-        point: Code,
-        id: CycleId,
-        parts: u8,
-        peer: Table,
-        confirmed: Option<&Table>,
-    ) -> Outcome {
-        match self.meeting_fault(side, point, &id, parts, &peer, confirmed) {
-            Some(refusal) => {
-                drop(peer);
-                Outcome::Refuses(refusal)
+    /// What one of several parts comes to where the cycle met that table by that fact.
+    fn part_again(&self, id: &CycleId, n: usize, met: &Table, part: &Part) -> Outcome {
+        let are_known = match self.lesser(id, met) {
+            Some(lesser) => {
+                are_among(part.processed.rows(), met.rows())
+                    && are_among(part.confirmed_rows(), lesser.rows())
             }
-            None => self.met(id, peer),
+            None => false,
+        };
+        match (are_known, part.number) {
+            (false, _) => Outcome::Refuses(Refusal::Conflict),
+            (true, 1) => Outcome::RepeatsMeeting { n: number(n) },
+            (true, _) => Outcome::RepeatsPart { n: number(n) },
+        }
+    }
+
+    /// What one of several parts comes to at a frozen cycle.
+    fn part_met(&self, id: CycleId, part: Part) -> Outcome {
+        let mut have = 0usize;
+        let mut is_there = false;
+        for one in &self.kept {
+            if one.id == id {
+                have = have.wrapping_add(1);
+                is_there = is_there || one.part.number == part.number;
+                if !goes_with(&one.part, &part) {
+                    return Outcome::Refuses(Refusal::PartDiffers { part: part.number });
+                }
+            }
+        }
+        if is_there || have.wrapping_add(1) < usize::from(part.parts) {
+            return Outcome::Keeps { id, part };
+        }
+        self.all_met(id, part)
+    }
+
+    /// What all parts come to.
+    fn all_met(&self, id: CycleId, part: Part) -> Outcome {
+        let mut processed = rows_of(self.alloc, part.processed.rows());
+        let mut confirmed = rows_of(self.alloc, part.confirmed_rows());
+        for one in &self.kept {
+            if one.id == id {
+                add_rows(&mut processed, one.part.processed.rows());
+                add_rows(&mut confirmed, one.part.confirmed_rows());
+            }
+        }
+        if has_twins(&processed) || has_twins(&confirmed) {
+            return Outcome::Refuses(Refusal::PartsOverlap);
+        }
+        if processed.len() > MOST_PROCESSED_ROWS || confirmed.len() > MOST_ROWS {
+            return Outcome::Refuses(Refusal::TooManyRows);
+        }
+        let (first, last) = (part.processed.first(), part.processed.last());
+        let is_confirmed = part.confirmed.is_some();
+        let (Ok(processed), Ok(confirmed)) = (
+            Table::build(first, last, processed),
+            Table::build(first, last, confirmed),
+        ) else {
+            return Outcome::Refuses(Refusal::OutOfMemory);
+        };
+        self.met(
+            id,
+            Part {
+                number: 1,
+                parts: 1,
+                processed,
+                confirmed: is_confirmed.then_some(confirmed),
+            },
+        )
+    }
+
+    /// What the peer's message to that side comes to.
+    fn met_by(&self, side: Side, point: Code, id: CycleId, part: Part) -> Outcome {
+        if let Some(refusal) = self.message_fault(side, point, &id, &part) {
+            drop(part);
+            return Outcome::Refuses(refusal);
+        }
+        if part.parts == 1 {
+            return self.met(id, part);
+        }
+        match meeting(&self.facts, &id) {
+            Some((n, met)) => self.part_again(&id, n, met, &part),
+            None => self.part_met(id, part),
         }
     }
 
     fn order_met(&self, order: Delord) -> Outcome {
-        let Delord {
-            point,
-            day,
-            cycle,
-            parts,
-            processed,
-            ..
-        } = order;
+        let (point, day, cycle) = (order.point, order.day, order.cycle);
         self.met_by(
             Side::M,
             point,
             CycleId { day, cycle },
-            parts,
-            processed,
-            None,
+            Part::of_order(order),
         )
     }
 
     fn response_met(&self, response: Delres) -> Outcome {
-        let Delres {
+        let (point, day, cycle) = (response.point, response.day, response.cycle);
+        self.met_by(
+            Side::I,
             point,
-            day,
-            cycle,
-            parts,
-            processed,
-            confirmed,
-            ..
-        } = response;
-        let id = CycleId { day, cycle };
-        let outcome = self.met_by(Side::I, point, id, parts, processed, Some(&confirmed));
-        drop(confirmed);
-        outcome
+            CycleId { day, cycle },
+            Part::of_response(response),
+        )
     }
 
     fn delivered(&self, body: &Body) -> Outcome {
@@ -357,15 +462,32 @@ impl Plain {
         }
     }
 
+    /// How many parts are kept with this one.
+    fn kept_with(&self, id: &CycleId, part: &Part) -> u8 {
+        let mut have = 0u8;
+        let mut is_there = false;
+        for one in &self.kept {
+            if one.id == *id {
+                have = have.wrapping_add(1);
+                is_there = is_there || one.part.number == part.number;
+            }
+        }
+        if is_there { have } else { have.wrapping_add(1) }
+    }
+
     /// The answer to what a call comes to.
     fn answer(&self, outcome: &Outcome) -> Answer {
         match outcome {
             Outcome::Records(_) => Answer::Recorded {
                 n: number(self.facts.len().wrapping_add(1)),
             },
-            Outcome::RepeatsNomination { n } | Outcome::RepeatsMeeting { n } => {
-                Answer::Repeat { n: *n }
-            }
+            Outcome::RepeatsNomination { n }
+            | Outcome::RepeatsMeeting { n }
+            | Outcome::RepeatsPart { n } => Answer::Repeat { n: *n },
+            Outcome::Keeps { id, part } => Answer::Kept {
+                have: self.kept_with(id, part),
+                parts: part.parts,
+            },
             Outcome::Saves { n } => Answer::Saved { n: *n },
             Outcome::Resends(_) => Answer::Resent,
             Outcome::Stops => Answer::Stopped,
@@ -373,10 +495,28 @@ impl Plain {
         }
     }
 
+    /// Keeps a part, unless it is kept already.
+    fn keep(&mut self, id: CycleId, part: Part) {
+        for one in &self.kept {
+            if one.id == id && one.part.number == part.number {
+                drop(part);
+                return;
+            }
+        }
+        put(&mut self.kept, KeptPart { id, part });
+    }
+
     /// Makes its change.
     fn apply(&mut self, outcome: Outcome) {
         match outcome {
-            Outcome::Records(fact) => put(&mut self.facts, fact),
+            Outcome::Records(fact) => {
+                if let Fact::Met { id, .. } = &fact {
+                    let id = *id;
+                    self.kept.retain(|one| one.id != id);
+                }
+                put(&mut self.facts, fact)
+            }
+            Outcome::Keeps { id, part } => self.keep(id, part),
             Outcome::Saves { n } => self.saved = n as usize,
             Outcome::Stops => self.halted = true,
             _ => {}

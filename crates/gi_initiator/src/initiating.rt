@@ -4,6 +4,7 @@ use gi_cycles::{CycleState, Frozen, Matched};
 use gi_desk::{Decision, Role};
 use gi_messages::{Delres, Message};
 use gi_pairs::{Code, CycleId, Side};
+use gi_parts::KeptParts;
 use std::alloc::{AllocError, Global};
 
 /// The initiating operator: it sends the order, and takes the response.
@@ -40,8 +41,12 @@ impl Role for Initiating {
         (response.point, id)
     }
 
-    fn decide(alloc: Global, state: &CycleState, response: Delres) -> Decision {
-        take_response(alloc, state, response)
+    fn part(response: &Delres) -> u8 {
+        response.part
+    }
+
+    fn decide(alloc: Global, state: &CycleState, kept: &KeptParts, response: Delres) -> Decision {
+        take_response(alloc, state, kept, response)
     }
 
     fn on_closed(alloc: Global, point: Code, cycle: &Frozen) -> Result<Vec<Message>, AllocError> {

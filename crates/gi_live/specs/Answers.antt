@@ -8,7 +8,7 @@ use Rattle.gi_desk.specs.declared.packet.Packet.{Packet}
 use Rattle.gi_desk.specs.declared.packet.Recipient.{Recipient}
 use Rattle.gi_desk.specs.declared.packet.Recipient.TheVariants.{Peer, User}
 use Rattle.gi_desk.specs.declared.reply.Answer.{Answer}
-use Rattle.gi_desk.specs.declared.reply.Answer.TheVariants.{Recorded, Repeat, Saved, Resent, Stopped, Refused}
+use Rattle.gi_desk.specs.declared.reply.Answer.TheVariants.{Recorded, Repeat, Kept, Saved, Resent, Stopped, Refused}
 
 -- ---- what came of a line
 
@@ -26,6 +26,8 @@ refused_text line name portfolio =
 abbrev pub answer_text : ℕ → Answer → Option (List ℕ) → List ℕ
 answer_text line (Recorded n) portfolio = codes "{\"answer\":\"recorded\",\"fact\":" ++ (decimal n ++ (codes ",\"line\":" ++ (decimal line ++ codes "}\n")))
 answer_text line (Repeat n) portfolio = codes "{\"answer\":\"repeat\",\"fact\":" ++ (decimal n ++ (codes ",\"line\":" ++ (decimal line ++ codes "}\n")))
+answer_text line (Kept have parts) portfolio =
+    codes "{\"answer\":\"kept\",\"have\":" ++ (decimal have ++ (codes ",\"line\":" ++ (decimal line ++ (codes ",\"parts\":" ++ (decimal parts ++ codes "}\n")))))
 answer_text line (Saved n) portfolio = codes "{\"answer\":\"saved\",\"fact\":" ++ (decimal n ++ (codes ",\"line\":" ++ (decimal line ++ codes "}\n")))
 answer_text line Resent portfolio = codes "{\"answer\":\"resent\",\"line\":" ++ (decimal line ++ codes "}\n")
 answer_text line Stopped portfolio = codes "{\"answer\":\"stopped\",\"line\":" ++ (decimal line ++ codes "}\n")

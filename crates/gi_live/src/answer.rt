@@ -58,6 +58,9 @@ pub fn answer_line(
         Answer::Repeat { n } => {
             format!(in alloc; "{{\"answer\":\"repeat\",\"fact\":{n},\"line\":{line}}}\n")
         }
+        Answer::Kept { have, parts } => format!(in alloc;
+            "{{\"answer\":\"kept\",\"have\":{have},\"line\":{line},\"parts\":{parts}}}\n"
+        ),
         Answer::Saved { n } => {
             format!(in alloc; "{{\"answer\":\"saved\",\"fact\":{n},\"line\":{line}}}\n")
         }

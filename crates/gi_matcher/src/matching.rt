@@ -4,6 +4,7 @@ use gi_cycles::{CycleState, Frozen, Matched};
 use gi_desk::{Decision, Role};
 use gi_messages::{Delord, Message};
 use gi_pairs::{Code, CycleId, Side};
+use gi_parts::KeptParts;
 use std::alloc::{AllocError, Global};
 
 /// The matching operator: it takes the order, and sends the response.
@@ -40,8 +41,12 @@ impl Role for Matching {
         (order.point, id)
     }
 
-    fn decide(_alloc: Global, state: &CycleState, order: Delord) -> Decision {
-        take_order(state, order)
+    fn part(order: &Delord) -> u8 {
+        order.part
+    }
+
+    fn decide(alloc: Global, state: &CycleState, kept: &KeptParts, order: Delord) -> Decision {
+        take_order(alloc, state, kept, order)
     }
 
     fn on_closed(alloc: Global, _point: Code, _cycle: &Frozen) -> Result<Vec<Message>, AllocError> {

@@ -1,40 +1,68 @@
-ghost use Rattle.std.specs.Prelude.{◌≡◌};
-ghost use Rattle.std.specs.Option.{unwrap_or};
-ghost use Rattle.gi_desk.specs.Deciding.{by_order, if_whole};
-ghost use Rattle.gi_desk.specs.declared.decision.Decision.TheVariants.{Meet};
+ghost use Rattle.std.specs.Prelude.{◌≡◌, if◌then◌else◌};
+ghost use Rattle.gi_parts.specs.Gathering.{is_whole};
+ghost use Rattle.gi_parts.specs.Parts.{IsSent, part_of_order};
+ghost use Rattle.gi_desk.specs.Deciding.{IsUnlessShort, by_order, met_again as met_again_of, order_may_want, ordered as ordered_by, part_again as part_again_of};
 
-use gi_cycles::CycleState;
-use gi_desk::{Decision, Refusal, met_again};
+use gi_cycles::{CycleState, Matched};
+use gi_desk::{Decision, Refusal, met_again, part_again, refusal_of};
 use gi_messages::Delord;
-use gi_pairs::Table;
+use gi_parts::{Gathered, KeptParts, Part, Whole};
+use std::alloc::Global;
 
-/// What comes of an order's table that is not met.
-fn unless_met(state: &CycleState, peer: &Table) -> Option<Decision>
-    ensures { unwrap_or result (Meet peer.now) ≡ by_order peer.now state.now }
+/// What comes of an order at a frozen cycle: the table of all parts meets, since an order confirms
+/// nothing.
+fn ordered(gathered: Gathered) -> Decision
+    ensures { result ≡ ordered_by gathered }
 {
-    match state {
-        CycleState::Collecting(_) => Some(Decision::Refused(Refusal::NotClosed)),
-        CycleState::Frozen(cycle) if cycle.own().covers_same_hours(peer) => None,
-        CycleState::Matched(cycle) if cycle.own().covers_same_hours(peer) => {
-            Some(met_again(cycle.peer(), peer))
+    match gathered {
+        Gathered::Complete(
+            Whole {
+                processed,
+                confirmed,
+            },
+        ) => {
+            drop(confirmed);
+            Decision::Meet(processed)
         }
-        _ => Some(Decision::Refused(Refusal::ShapeDiffers)),
+        Gathered::Keep(part) => Decision::Keep(part),
+        Gathered::Refused(fault) => Decision::Refused(refusal_of(fault)),
     }
 }
 
-/// What comes of an order in a state of its cycle: `Parts` where it is one part of several;
-/// `NotClosed` while nominations are collected;
-/// `ShapeDiffers` where its table is for other hours than the frozen one. A frozen cycle meets the
-/// table, which is moved out of the order; a matched one has met it already, or answers `Conflict`.
-/// It wants no memory.
-pub fn take_order(state: &CycleState, order: Delord) -> Decision
-    ensures { result ≡ if_whole order.parts (by_order order.processed state.now) }
+/// What comes of an order to a cycle that met, for its hours.
+fn again(cycle: &Matched, part: &Part) -> Decision
+    ensures { result ≡ (if is_whole part.now then met_again_of cycle.now.peer part.now.processed else part_again_of cycle.now part.now) }
 {
-    let parts = order.parts;
-    let peer = order.processed;
-    if parts != 1 {
-        drop(peer);
-        return Decision::Refused(Refusal::Parts);
+    if part.parts == 1 {
+        met_again(cycle.peer(), &part.processed)
+    } else {
+        part_again(cycle, part)
     }
-    unless_met(state, &peer).unwrap_or(Decision::Meet(peer))
+}
+
+/// What comes of an order, one that can be read, in a state of its cycle and with the parts that are
+/// kept: `NotClosed` while nominations are collected; `ShapeDiffers` where its table is for other
+/// hours than the frozen one. A frozen cycle meets the table of a whole order, which is moved out of
+/// it. One part of several is `PartDiffers`, or to be kept until it is the last one missing; then all
+/// together are `PartsOverlap`, `TooManyRows`, or the table that meets. A cycle that met has met it
+/// already, or answers `Conflict`. `OutOfMemory` comes only for one of several parts, at a frozen
+/// cycle and for its hours.
+pub fn take_order(alloc: Global, state: &CycleState, kept: &KeptParts, order: Delord) -> Decision
+    requires { IsSent (part_of_order order) }
+    ensures { IsUnlessShort (order_may_want (part_of_order order) state.now) (by_order kept.now (part_of_order order) state.now) result }
+{
+    let part = Part::of_order(order);
+    let decision = match state {
+        CycleState::Frozen(cycle) if cycle.own().covers_same_hours(&part.processed) => {
+            return ordered(kept.gather(alloc, &cycle.id(), part));
+        }
+        CycleState::Matched(cycle) if cycle.own().covers_same_hours(&part.processed) => {
+            again(cycle, &part)
+        }
+        CycleState::Collecting(_) => Decision::Refused(Refusal::NotClosed),
+        _ => Decision::Refused(Refusal::ShapeDiffers),
+    };
+    // (handed to drop, by one call: going out of scope here would be checked field by field on each way out)
+    drop(part);
+    decision
 }

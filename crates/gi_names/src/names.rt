@@ -369,8 +369,8 @@ pub const NAMES: &str = "\
 
 # NotTheLesser ROW
   A DELRES confirms other quantities than the lower of I's frozen ones and M's
-  processed ones in it; ROW is the first confirmed row that differs, from 1. I
-  records nothing.
+  processed ones in it; ROW is the first confirmed row that differs, from 1,
+  over all parts. I records nothing.
   Rule: the lesser rule of Regulation (EU) 2015/703; the check is this
   program's.
   Do: Ask the matching operator, and let both books be compared by 'dispatch
@@ -415,12 +415,28 @@ pub const NAMES: &str = "\
   Do: Nothing: it stays skipped, and nominations count for the next cycle that
   is closed.
 
-# Parts
-  The order or the response is one part of several, and only whole ones are
-  taken. Of a delivered message: nothing is recorded. Of a line of 'match'
-  ('order: Parts', 'own: Parts'): nothing is written.
+# PartDiffers PART
+  The order or the response is part PART of several, and does not fit the parts
+  that are kept of its cycle: these are of another number of parts, or this one
+  is kept with other rows. Nothing is recorded or kept. An honest peer sends no
+  such part.
   Rule: this program's.
-  Do: Ask the other operator for the whole table in one message.
+  Do: Ask the other operator to send its messages again. Where a wrong part was
+  kept, start this office again: by that nothing is kept.
+
+# Parts
+  A line of 'match' ('order: Parts', 'own: Parts') is one part of several, and
+  only a whole DELORD is taken there. Nothing is written.
+  Rule: this program's.
+  Do: Give the whole table in one message.
+
+# PartsOverlap
+  The last missing part of an order or a response has come, and a pair and
+  direction stands in two of the parts. Nothing is recorded; the other parts
+  stay kept.
+  Rule: this program's.
+  Do: Ask the other operator to look at what was sent. Where a wrong part was
+  kept, start this office again, and let all parts be sent again.
 
 # PermilleRange
   One of the two per-mille numbers of a notice is over 1000. Nothing is
@@ -526,11 +542,12 @@ pub const NAMES: &str = "\
   later gas day.
 
 # TooManyRows
-  A table has more than 8,192 rows. No command prints this name: such a message
-  is 'Field confirmed', and one with more than 4,096 processed rows 'Field
-  processed'.
+  The last missing part of an order or a response has come, and all parts have
+  more than 4,096 processed rows, or more than 8,192 confirmed ones. Nothing is
+  recorded; the other parts stay kept. (A single message of so many rows is
+  'Field processed' or 'Field confirmed'.)
   Rule: this program's.
-  Do: Have the message sent with fewer rows.
+  Do: Ask the other operator to look at what was sent.
 
 # TwoPasts DAY CYCLE
   The two books of 'serve' tell different tables, first of this cycle: one was
@@ -723,6 +740,15 @@ pub const NAMES: &str = "\
   The part of a contract in kWh/h that the operator may interrupt; in a notice
   the per-mille number that is left of it.
   Rule: this program's.
+
+# kept [HAVE]
+  One of several parts of the other side's order or response is kept, and
+  'simulate' tells how many of its cycle are then. Once none is missing they
+  are taken as one message. A part that is kept already changes nothing. What
+  is kept is in memory alone: a restart drops it.
+  Rule: this program's.
+  Do: Nothing, where the other parts come. Else have the other side 'resend'
+  the cycle.
 
 # lost
   In a trace: the packet found 4,096 messages waiting on its way, and is gone.

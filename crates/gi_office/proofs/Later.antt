@@ -13,7 +13,8 @@ use Rattle.gi_world.specs.Agreement.{IsLetOut, saved_facts}
 use Rattle.gi_world.proofs.Fronts.{IsFront, front-trans}
 use Rattle.gi_world.proofs.Meetings.{call_moved, restart_moved}
 use Rattle.gi_world.proofs.SentPackets.{kept_on_restart}
-use Rattle.gi_office.specs.Lives.{IsLegal, IsRun, Life, opened}
+use Rattle.gi_parts.specs.declared.kept_parts.KeptPart.{KeptPart}
+use Rattle.gi_office.specs.Lives.{IsLegal, IsRun, Life, opened, opened_keeping}
 use Rattle.gi_office.specs.Settling.{AreLegal, GoOnTo, GoesOn}
 use Rattle.gi_office.specs.declared.entry.Entry.{Entry}
 use Rattle.gi_office.proofs.Points.{keeps_point}
@@ -50,6 +51,10 @@ run_later side s (entry ∷ trail) e within run =
 pub opened_within : (life : Life) → (opened life.point life.opening).saved ≤ length (opened life.point life.opening).facts
 opened_within life = omega arith
 
+-- whatever it keeps
+pub keeping_within : (kept : List KeptPart) (life : Life) → (opened_keeping kept life.point life.opening).saved ≤ length (opened_keeping kept life.point life.opening).facts
+keeping_within kept life = omega arith
+
 later_opened : (s : DeskState) (life : Life) → GoesOn s life.point life.opening → IsLater s (opened life.point life.opening)
 later_opened s life goes = record {
   point = goes.point;
@@ -58,7 +63,9 @@ later_opened s life goes = record {
 }
 
 pub life_later : (side : Side) (life : Life) (e : DeskState) → IsLegal side life e → IsLater (opened life.point life.opening) e
-life_later side life e legal = run_later side (opened life.point life.opening) life.trail e (opened_within life) legal
+life_later side life e legal =
+    let later = run_later side (opened_keeping legal.kept life.point life.opening) life.trail e (keeping_within legal.kept life) legal.run in
+    record { point = later.point; within = later.within; front = later.front }
 
 pub on_later : (side : Side) (s : DeskState) (later : List Life) (e : DeskState) → s.saved ≤ length s.facts → GoOnTo side s later e → IsLater s e
 on_later side s [] e within on = subst (IsLater s) on (later_self s within)

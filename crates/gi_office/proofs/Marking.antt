@@ -7,7 +7,7 @@ use Rattle.gi_desk.specs.Judging.{if_same, marked}
 use Rattle.gi_desk.specs.Machine.{DeskState, answer_of, outcome, reply, unless_full}
 use Rattle.gi_desk.specs.declared.call.Call.TheVariants.{MarkSaved}
 use Rattle.gi_desk.specs.declared.outcome.Outcome.{Outcome}
-use Rattle.gi_desk.specs.declared.outcome.Outcome.TheVariants.{Records, RepeatsNomination, RepeatsMeeting, Saves, Resends, Stops, Refuses}
+use Rattle.gi_desk.specs.declared.outcome.Outcome.TheVariants.{Records, RepeatsNomination, RepeatsMeeting, RepeatsPart, Keeps, Saves, Resends, Stops, Refuses}
 use Rattle.gi_desk.specs.declared.refusal.Refusal.{Refusal}
 use Rattle.gi_desk.specs.declared.refusal.Refusal.TheVariants as refusals
 use Rattle.gi_desk.specs.declared.reply.Answer.{Answer}
@@ -24,6 +24,8 @@ abbrev IsMark : ℕ → Outcome → Type 0
 IsMark n (Records fact) = ⊥
 IsMark n (RepeatsNomination m) = ⊥
 IsMark n (RepeatsMeeting m) = ⊥
+IsMark n (RepeatsPart m) = ⊥
+IsMark n (Keeps id part) = ⊥
 IsMark n (Saves m) = m ≡ n
 IsMark n (Resends id) = ⊥
 IsMark n Stops = ⊥
@@ -41,6 +43,8 @@ full_mark : (history : List Fact) (n : ℕ) (o : Outcome) → IsMark n o → IsM
 full_mark history n (Records fact) is = absurd is
 full_mark history n (RepeatsNomination m) is = absurd is
 full_mark history n (RepeatsMeeting m) is = absurd is
+full_mark history n (RepeatsPart m) is = absurd is
+full_mark history n (Keeps id part) is = absurd is
 full_mark history n (Saves m) is = is
 full_mark history n (Resends id) is = absurd is
 full_mark history n Stops is = absurd is
@@ -59,6 +63,8 @@ told_mark : (s : DeskState) (n : ℕ) (o : Outcome) → IsMark n o → IsToldMar
 told_mark s n (Records fact) is = absurd is
 told_mark s n (RepeatsNomination m) is = absurd is
 told_mark s n (RepeatsMeeting m) is = absurd is
+told_mark s n (RepeatsPart m) is = absurd is
+told_mark s n (Keeps id part) is = absurd is
 told_mark s n (Saves m) is = inl (ap answers.Saved is)
 told_mark s n (Resends id) is = absurd is
 told_mark s n Stops is = absurd is

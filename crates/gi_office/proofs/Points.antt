@@ -4,12 +4,14 @@ use Rattle.gi_pairs.specs.declared.side.Side.{Side}
 use Rattle.gi_desk.specs.Machine.{DeskState, after, next_of, outcome}
 use Rattle.gi_desk.specs.declared.call.Call.{Call}
 use Rattle.gi_desk.specs.declared.outcome.Outcome.{Outcome}
-use Rattle.gi_desk.specs.declared.outcome.Outcome.TheVariants.{Records, RepeatsNomination, RepeatsMeeting, Saves, Resends, Stops, Refuses}
+use Rattle.gi_desk.specs.declared.outcome.Outcome.TheVariants.{Records, RepeatsNomination, RepeatsMeeting, RepeatsPart, Keeps, Saves, Resends, Stops, Refuses}
 
 point_by : (s : DeskState) (o : Outcome) → (next_of s o).point ≡ s.point
 point_by s (Records fact) = refl
 point_by s (RepeatsNomination n) = refl
 point_by s (RepeatsMeeting n) = refl
+point_by s (RepeatsPart n) = refl
+point_by s (Keeps id part) = refl
 point_by s (Saves n) = refl
 point_by s (Resends id) = refl
 point_by s Stops = refl

@@ -1,36 +1,41 @@
 -- Where each delivery was sent, both last desks met what the other one froze; so what they confirm and told is the lower.
-use Rattle.std.proofs.Common.{arith, ◌≡◌, ◌≤◌, ◌⊎◌, ⊎_elim, ℕ, List, [], ◌∷◌, ◌++◌, length, take, filter, All, Contains, None, Some, true, refl, sym, ◌∙◌, subst}
+use Rattle.std.proofs.Common.{arith, ◌≡◌, ◌≤◌, ◌⊎◌, ⊎_elim, ℕ, List, [], ◌∷◌, ◌++◌, length, take, filter, All, Contains, None, Some, false, true, refl, sym, ◌∙◌, subst}
 use Rattle.std.proofs.lemmas.Grind.{flat_map-append}
-use Rattle.std.proofs.lemmas.List.Elements.{All-contains, All-contains_itself, All-weaker}
+use Rattle.std.proofs.lemmas.List.Elements.{All-contains, All-contains_itself, All-nil, All-weaker}
 use Rattle.gi_pairs.specs.declared.side.Side.{Side}
 use Rattle.gi_pairs.specs.declared.side.Side.TheVariants.{I, M}
 use Rattle.gi_pairs.proofs.Building.{In, contains_from_in, in_from_contains}
 use Rattle.gi_pairs.proofs.Members.{from_append, in_append_left, in_append_right}
-use Rattle.gi_messages.specs.Decoding.{decoded}
+use Rattle.gi_parts.specs.Parts.{AreKept}
+use Rattle.gi_parts.specs.declared.part.Part.{Part}
+use Rattle.gi_parts.proofs.Keeping.{kept-none}
 use Rattle.gi_facts.specs.declared.fact.Fact.{Fact}
 use Rattle.gi_desk.specs.History.{peer_of}
-use Rattle.gi_desk.specs.Machine.{DeskState, after, bad_fact, reply}
+use Rattle.gi_desk.specs.Machine.{DeskState, after, bad_fact, outcome, reply}
+use Rattle.gi_desk.specs.declared.outcome.Outcome.TheVariants.{Keeps}
+use Rattle.gi_pairs.specs.declared.cycle_id.CycleId.{CycleId}
 use Rattle.gi_desk.specs.Writable.{FitsDesk}
 use Rattle.gi_desk.specs.declared.call.Call.{Call}
 use Rattle.gi_desk.specs.declared.call.Call.TheVariants as calls
 use Rattle.gi_desk.specs.declared.packet.Packet.{Packet}
 use Rattle.gi_desk.specs.declared.reply.Reply.{Reply}
-use Rattle.gi_world.specs.Agreement.{FitsWorld, IsLegal as IsLegalDesk, IsTold, MeetsFrozen}
-use Rattle.gi_world.specs.Histories.{fact_named_by, held, meeting_in}
+use Rattle.gi_world.specs.Agreement.{FitsWorld, IsLegal as IsLegalDesk, IsOfSent, IsTold, MeetsFrozen}
+use Rattle.gi_world.specs.Histories.{held}
 use Rattle.gi_world.specs.Telling.{TellsTheLower}
-use Rattle.gi_world.specs.World.{WorldState, other, station_of, tells}
+use Rattle.gi_world.specs.World.{WorldState, is_delivery, other, station_of, tells}
 use Rattle.gi_world.proofs.ConfirmedLaws.{HaveMetFrozen}
 use Rattle.gi_world.proofs.DeliveredPackets.{sent-order, sent-response}
 use Rattle.gi_world.proofs.Fronts.{front-met, front-take}
 use Rattle.gi_world.proofs.HistoryConfirms.{confirmed_at, lower_at}
-use Rattle.gi_world.proofs.Meetings.{MayMeet, call_moved, meets_none, moved_met, order_may, response_may}
+use Rattle.gi_world.proofs.KeptParts.{few-after, keeps_none, kept-after, order_kept, response_kept}
+use Rattle.gi_world.proofs.Meetings.{MayMeet, call_moved, meets_none, moved_met, order_may, recorded_by, response_may}
 use Rattle.gi_world.proofs.OneQuantity.{told-lower}
 use Rattle.gi_world.proofs.SentPackets.{all_kept, now}
-use Rattle.gi_office.specs.Lives.{IsLegal, IsRun, Life, opened}
+use Rattle.gi_office.specs.Lives.{IsLegal, IsRun, IsWhole, Life, opened, opened_keeping}
 use Rattle.gi_office.specs.Reconciling.{AgreeOnOneQuantity, DeliveredIsSent, IsFrom, OpensWithFrozen, WasSent, both_of, entries_of, said_in}
-use Rattle.gi_office.specs.Settling.{AreLegal, GoOnTo, GoesOn, SettledState}
+use Rattle.gi_office.specs.Settling.{AreLegal, AreWhole, GoOnTo, GoOnWhole, GoesOn, SettledState}
 use Rattle.gi_office.specs.declared.entry.Entry.{Entry}
-use Rattle.gi_office.proofs.Later.{life_later, lives_later, on_later, opened_within, run_later, still_let_out}
+use Rattle.gi_office.proofs.Later.{keeping_within, life_later, lives_later, on_later, opened_within, run_later, still_let_out}
 
 -- ---- what a delivery meets
 
@@ -39,33 +44,69 @@ pub record AreKnown (w : WorldState) : Type 0 where
   pub legal : (side : Side) → IsLegalDesk side (station_of side w).desk
   pub fits : FitsWorld w
 
-sent_may : (side : Side) (w : WorldState) (facts : List Fact) (bytes : List ℕ) → AreKnown w → WasSent (other side) (station_of (other side) w).desk bytes → MayMeet side w (meeting_in facts (decoded bytes))
-sent_may I w facts bytes known (packet, sent, is) =
-    subst (λ (b : List ℕ). MayMeet I w (meeting_in facts (decoded b))) is (response_may w facts packet (sent-response w packet (known.legal M) (known.fits M) sent))
-sent_may M w facts bytes known (packet, sent, is) =
-    subst (λ (b : List ℕ). MayMeet M w (meeting_in facts (decoded b))) is (order_may w facts packet (sent-order w packet (known.legal I) (known.fits I) sent))
+-- A desk that met what the peer froze, and keeps parts of what the peer sent.
+record MeetsPeer (side : Side) (w : WorldState) (s : DeskState) : Type 0 where
+  met : MeetsFrozen side s (station_of (other side) w).desk
+  few : AreKept s.kept
+  kept : All (IsOfSent side (station_of (other side) w).desk) s.kept
 
-call_may : (side : Side) (w : WorldState) (facts : List Fact) (call : Call) → AreKnown w → IsFrom (other side) (station_of (other side) w).desk call → MayMeet side w (fact_named_by facts call)
-call_may side w facts (calls.Contract contract) known from = λ id table is. absurd (meets_none facts (calls.Contract contract) id table refl is)
-call_may side w facts (calls.Notice notice) known from = λ id table is. absurd (meets_none facts (calls.Notice notice) id table refl is)
-call_may side w facts (calls.Submit body) known from = λ id table is. absurd (meets_none facts (calls.Submit body) id table refl is)
-call_may side w facts (calls.Close cycle rule) known from = λ id table is. absurd (meets_none facts (calls.Close cycle rule) id table refl is)
-call_may side w facts (calls.Deliver body) known from = sent_may side w facts body known from
-call_may side w facts (calls.Resend cycle) known from = λ id table is. absurd (meets_none facts (calls.Resend cycle) id table refl is)
-call_may side w facts (calls.MarkSaved n fact) known from = λ id table is. absurd (meets_none facts (calls.MarkSaved n fact) id table refl is)
-call_may side w facts calls.Halt known from = λ id table is. absurd (meets_none facts calls.Halt id table refl is)
+-- what a delivery records and keeps
+sent_may : (side : Side) (w : WorldState) (s : DeskState) (bytes : List ℕ) → AreKnown w → MeetsPeer side w s → WasSent (other side) (station_of (other side) w).desk bytes
+    → MayMeet side w (recorded_by side s (calls.Deliver bytes))
+sent_may I w s bytes known meets (packet, sent, is) =
+    subst (λ (b : List ℕ). MayMeet I w (recorded_by I s (calls.Deliver b))) is
+    (response_may w s packet (known.fits M) meets.few meets.kept (sent-response w packet (known.legal M) (known.fits M) sent))
+sent_may M w s bytes known meets (packet, sent, is) =
+    subst (λ (b : List ℕ). MayMeet M w (recorded_by M s (calls.Deliver b))) is
+    (order_may w s packet (known.fits I) meets.few meets.kept (sent-order w packet (known.legal I) (known.fits I) sent))
 
-abbrev MeetsPeer : Side → WorldState → DeskState → Type 0
-MeetsPeer side w s = MeetsFrozen side s (station_of (other side) w).desk
+abbrev MayKeep : Side → WorldState → DeskState → Call → Type 0
+MayKeep side w s call = (id : CycleId) (part : Part) → outcome side s call ≡ Keeps id part → IsOfSent side (station_of (other side) w).desk (record { id = id; part = part })
+
+sent_keeps : (side : Side) (w : WorldState) (s : DeskState) (bytes : List ℕ) → AreKnown w → MeetsPeer side w s → WasSent (other side) (station_of (other side) w).desk bytes
+    → MayKeep side w s (calls.Deliver bytes)
+sent_keeps I w s bytes known meets (packet, sent, is) =
+    subst (λ (b : List ℕ). MayKeep I w s (calls.Deliver b)) is
+    (response_kept w s packet (known.fits M) meets.few meets.kept (sent-response w packet (known.legal M) (known.fits M) sent))
+sent_keeps M w s bytes known meets (packet, sent, is) =
+    subst (λ (b : List ℕ). MayKeep M w s (calls.Deliver b)) is
+    (order_kept w s packet (known.fits I) meets.few meets.kept (sent-order w packet (known.legal I) (known.fits I) sent))
+
+-- what any call does
+record Does (side : Side) (w : WorldState) (s : DeskState) (call : Call) : Type 0 where
+  meets : MayMeet side w (recorded_by side s call)
+  keeps : MayKeep side w s call
+
+-- a call that is no delivery meets nothing, and keeps nothing
+does_none : (side : Side) (w : WorldState) (s : DeskState) (call : Call) → is_delivery call ≡ false → Does side w s call
+does_none side w s call local = record {
+  meets = λ id table is. absurd (meets_none side s call id table local is);
+  keeps = λ id part is. absurd (keeps_none side s call id part local is);
+}
+
+does : (side : Side) (w : WorldState) (s : DeskState) (call : Call) → AreKnown w → MeetsPeer side w s → IsFrom (other side) (station_of (other side) w).desk call → Does side w s call
+does side w s (calls.Contract contract) known meets from = does_none side w s (calls.Contract contract) refl
+does side w s (calls.Notice notice) known meets from = does_none side w s (calls.Notice notice) refl
+does side w s (calls.Submit body) known meets from = does_none side w s (calls.Submit body) refl
+does side w s (calls.Close cycle rule) known meets from = does_none side w s (calls.Close cycle rule) refl
+does side w s (calls.Deliver body) known meets from = record { meets = sent_may side w s body known meets from; keeps = sent_keeps side w s body known meets from }
+does side w s (calls.Resend cycle) known meets from = does_none side w s (calls.Resend cycle) refl
+does side w s (calls.MarkSaved n fact) known meets from = does_none side w s (calls.MarkSaved n fact) refl
+does side w s calls.Halt known meets from = does_none side w s calls.Halt refl
 
 abbrev IsEntryFromPeer : Side → WorldState → Entry → Type 0
 IsEntryFromPeer side w entry = IsFrom (other side) (station_of (other side) w).desk entry.call
 
 call_meets : (side : Side) (w : WorldState) (s : DeskState) (call : Call) → AreKnown w → s.saved ≤ length s.facts → IsFrom (other side) (station_of (other side) w).desk call → MeetsPeer side w s
     → MeetsPeer side w (after side s call)
-call_meets side w s call known within from met =
-    moved_met side s (after side s call) (station_of (other side) w).desk (fact_named_by s.facts call) met (call_moved side s call within)
-    (λ id table is. (call_may side w s.facts call known from id table is).0)
+call_meets side w s call known within from meets =
+    let theirs = (station_of (other side) w).desk in
+    let it = does side w s call known meets from in
+    record {
+      met = moved_met side s (after side s call) theirs (recorded_by side s call) meets.met (call_moved side s call within) (λ id table is. (it.meets id table is).0);
+      few = few-after side s call meets.few;
+      kept = kept-after (IsOfSent side theirs) side s call meets.kept it.keeps;
+    }
 
 -- ---- lists of entries
 
@@ -91,16 +132,19 @@ run_meets side w s (entry ∷ trail) e known within run from met =
     run_meets side w next trail e known step.within run.1 (right_of (IsEntryFromPeer side w) (entry ∷ []) trail from) here
 
 opened_meets : (side : Side) (w : WorldState) (s : DeskState) (life : Life) → GoesOn s life.point life.opening → MeetsPeer side w s → MeetsPeer side w (opened life.point life.opening)
-opened_meets side w s life goes met =
-    λ id table there.
-    let front = subst (λ (facts : List Fact). peer_of id facts ≡ Some table) goes.front there in
-    met id table (front-met (take (length life.opening) s.facts) s.facts id table (front-take s.facts (length life.opening)) front)
+opened_meets side w s life goes meets = record {
+  met = λ id table there.
+      let front = subst (λ (facts : List Fact). peer_of id facts ≡ Some table) goes.front there in
+      meets.met id table (front-met (take (length life.opening) s.facts) s.facts id table (front-take s.facts (length life.opening)) front);
+  few = kept-none;
+  kept = All-nil (IsOfSent side (station_of (other side) w).desk);
+}
 
-life_meets : (side : Side) (w : WorldState) (life : Life) (e : DeskState) → AreKnown w → IsLegal side life e → All (IsEntryFromPeer side w) life.trail
+life_meets : (side : Side) (w : WorldState) (life : Life) (e : DeskState) → AreKnown w → IsWhole side life e → All (IsEntryFromPeer side w) life.trail
     → MeetsPeer side w (opened life.point life.opening) → MeetsPeer side w e
 life_meets side w life e known legal from met = run_meets side w (opened life.point life.opening) life.trail e known (opened_within life) legal from met
 
-on_meets : (side : Side) (w : WorldState) (s : DeskState) (later : List Life) (e : DeskState) → AreKnown w → GoOnTo side s later e → All (IsEntryFromPeer side w) (entries_of later)
+on_meets : (side : Side) (w : WorldState) (s : DeskState) (later : List Life) (e : DeskState) → AreKnown w → GoOnWhole side s later e → All (IsEntryFromPeer side w) (entries_of later)
     → MeetsPeer side w s → MeetsPeer side w e
 on_meets side w s [] e known on from met = subst (MeetsPeer side w) on met
 on_meets side w s (life ∷ later) e known on from met =
@@ -108,7 +152,7 @@ on_meets side w s (life ∷ later) e known on from met =
     let here = life_meets side w life t known on.1.1 (left_of (IsEntryFromPeer side w) life.trail (entries_of later) from) (opened_meets side w s life on.0 met) in
     on_meets side w t later e known on.1.2 (right_of (IsEntryFromPeer side w) life.trail (entries_of later) from) here
 
-lives_meet : (side : Side) (w : WorldState) (life : Life) (later : List Life) (e : DeskState) → AreKnown w → AreLegal side (life ∷ later) e
+lives_meet : (side : Side) (w : WorldState) (life : Life) (later : List Life) (e : DeskState) → AreKnown w → AreWhole side (life ∷ later) e
     → All (IsEntryFromPeer side w) (entries_of (life ∷ later)) → MeetsPeer side w (opened life.point life.opening) → MeetsPeer side w e
 lives_meet side w life later e known legal from met =
     let t = legal.0 in
@@ -140,7 +184,7 @@ life_tells : (side : Side) (life : Life) (t : DeskState) (later : List Life) (e 
 life_tells side life t later e packet legal on there telling =
     let within = (life_later side life t legal).within in
     still_let_out tells side t e packet within (on_later side t later e within on)
-    (run_tells side (opened life.point life.opening) life.trail t packet (opened_within life) legal there telling)
+    (run_tells side (opened_keeping legal.kept life.point life.opening) life.trail t packet (keeping_within legal.kept life) legal.run there telling)
 
 on_tells : (side : Side) (s : DeskState) (later : List Life) (e : DeskState) (packet : Packet) → GoOnTo side s later e → In packet (said_in (entries_of later)) → tells packet ≡ true
     → IsTold side e packet
@@ -157,10 +201,11 @@ lives_tell side life later e packet legal there telling =
 
 -- ---- a side
 
-side_meets : (side : Side) (w : WorldState) (lives : List Life) (e : DeskState) → AreKnown w → AreLegal side lives e → All (IsEntryFromPeer side w) (entries_of lives)
+side_meets : (side : Side) (w : WorldState) (lives : List Life) (e : DeskState) → AreKnown w → AreWhole side lives e → All (IsEntryFromPeer side w) (entries_of lives)
     → OpensWithFrozen side lives (station_of (other side) w).desk → MeetsPeer side w e
 side_meets side w [] e known legal from opens = absurd legal
-side_meets side w (life ∷ later) e known legal from opens = lives_meet side w life later e known legal from opens
+side_meets side w (life ∷ later) e known legal from opens =
+    lives_meet side w life later e known legal from (record { met = opens; few = kept-none; kept = All-nil (IsOfSent side (station_of (other side) w).desk) })
 
 side_told : (side : Side) (lives : List Life) (e : DeskState) → AreLegal side lives e → All (IsTold side e) (filter tells (said_in (entries_of lives)))
 side_told side [] e legal = absurd legal
@@ -192,7 +237,7 @@ are_known initiating matching ours theirs = record { legal = legal; fits = fits 
     fits M = theirs.fits
 
 pub reconciled : (initiating matching : SettledState) → IsKnownSide I initiating → IsKnownSide M matching → DeliveredIsSent initiating matching → AgreeOnOneQuantity initiating matching
-reconciled initiating matching ours theirs sent opens their_opens =
+reconciled initiating matching ours theirs sent whole their_whole opens their_opens =
     let w = both_of initiating matching in
     let known = are_known initiating matching ours theirs in
     let have = met_by known in
@@ -206,11 +251,11 @@ reconciled initiating matching ours theirs sent opens their_opens =
     }
   where
     meets : AreKnown (both_of initiating matching) → (side : Side) → MeetsPeer side (both_of initiating matching) (station_of side (both_of initiating matching)).desk
-    meets known I = side_meets I (both_of initiating matching) initiating.lives initiating.desk known ours.lives sent.initiating opens
-    meets known M = side_meets M (both_of initiating matching) matching.lives matching.desk known theirs.lives sent.matching their_opens
+    meets known I = side_meets I (both_of initiating matching) initiating.lives initiating.desk known whole sent.initiating opens
+    meets known M = side_meets M (both_of initiating matching) matching.lives matching.desk known their_whole sent.matching their_opens
 
     met_by : AreKnown (both_of initiating matching) → HaveMetFrozen (both_of initiating matching)
-    met_by known = record { legal = known.legal; met = meets known }
+    met_by known = record { legal = known.legal; met = λ side. (meets known side).met }
 
     told : AreKnown (both_of initiating matching) → (side : Side) → All (TellsTheLower (held (both_of initiating matching)) side) (station_of side (both_of initiating matching)).told
     told known I =

@@ -1,5 +1,6 @@
 -- A step more at the end of a life.
-use Rattle.std.proofs.Common.{◌≡◌, ◌≤◌, inl, inr, ℕ, List, [], ◌∷◌, ◌++◌, length, take, refl, sym, ap, subst, ◌∙◌, arith}
+use Rattle.std.proofs.Common.{◌≡◌, ◌≤◌, inl, inr, ℕ, List, [], ◌∷◌, ◌++◌, length, take, Bool, false, refl, sym, ap, subst, ◌∙◌, arith}
+use Rattle.std.proofs.Math.Seq.{take-length}
 use Rattle.std.proofs.lemmas.List.{length-append, take-append-le}
 use Rattle.gi_pairs.specs.declared.side.Side.{Side}
 use Rattle.gi_facts.specs.declared.fact.Fact.{Fact}
@@ -8,7 +9,8 @@ use Rattle.gi_desk.specs.Machine.{DeskState, after, reply}
 use Rattle.gi_desk.specs.declared.call.Call.{Call}
 use Rattle.gi_office.specs.Entering.{entered}
 use Rattle.gi_office.specs.Keeping.{HeldState, HeldInvariant, SeatState}
-use Rattle.gi_office.specs.Lives.{IsRun, opened}
+use Rattle.gi_office.specs.Lives.{IsRun, opened_keeping}
+use Rattle.gi_office.specs.Opening.{new_held}
 use Rattle.gi_office.specs.declared.entry.Entry.{Entry}
 use Rattle.gi_office.proofs.Points.{keeps_point}
 
@@ -29,15 +31,37 @@ longer old new more = elim more [
   | inr added ↦ let e = ap (λ (l : List Fact). length l) added.1 in omega (arith, e, length-append old (added.0 ∷ []))
 ]
 
+-- ---- an office that was asked nothing yet
+
+new_desk : (desk : DeskState) → desk.saved ≡ length desk.facts → desk.halted ≡ false → opened_keeping desk.kept desk.point (take (length desk.facts) desk.facts) ≡ desk
+new_desk desk saved runs =
+    let with_saved : ℕ → DeskState = λ n. record { point = desk.point; facts = desk.facts; saved = n; halted = false; kept = desk.kept } in
+    let with_halt : Bool → DeskState = λ b. record { point = desk.point; facts = desk.facts; saved = desk.saved; halted = b; kept = desk.kept } in
+    ap (λ (facts : List Fact). opened_keeping desk.kept desk.point facts) (take-length desk.facts) ∙ (ap with_saved (sym saved) ∙ ap with_halt (sym runs))
+
+pub new_kept : (side : Side) (desk : DeskState) (seats : ℕ) → desk.saved ≡ length desk.facts → desk.halted ≡ false → HeldInvariant side (new_held desk seats)
+new_kept side desk seats saved runs = record {
+  within = omega arith;
+  life = record { kept = desk.kept; run = new_desk desk saved runs };
+  counted = refl;
+}
+
+-- ---- a call more
+
 pub entered_kept : OnlyAppends → (side : Side) (held : HeldState) (seat : SeatState) (call : Call) → HeldInvariant side held → HeldInvariant side (entered side held seat call)
 entered_kept appends side held seat call kept =
     let more = (appends side held.desk call).0 in
     let entry : Entry = record { seat = seat.number; call = call; reply = reply side held.desk call } in
-    let start : opened held.desk.point (take held.opening held.desk.facts) ≡ opened (after side held.desk call).point (take held.opening (after side held.desk call).facts) =
-    (λ i. opened (sym (keeps_point side held.desk call) i) (sym (front held.opening held.desk.facts (after side held.desk call).facts kept.within more) i)) in
+    let parts = kept.life.kept in
+    let start : opened_keeping parts held.desk.point (take held.opening held.desk.facts)
+    ≡ opened_keeping parts (after side held.desk call).point (take held.opening (after side held.desk call).facts) =
+    (λ i. opened_keeping parts (sym (keeps_point side held.desk call) i) (sym (front held.opening held.desk.facts (after side held.desk call).facts kept.within more) i)) in
     record {
       within = let e = longer held.desk.facts (after side held.desk call).facts more in let w = kept.within in omega (arith, e, w);
-      life = subst (λ s. IsRun side s (held.trail ++ entry ∷ []) (after side held.desk call)) start
-          (run_more side (opened held.desk.point (take held.opening held.desk.facts)) held.trail held.desk entry kept.life refl);
+      life = record {
+        kept = parts;
+        run = subst (λ s. IsRun side s (held.trail ++ entry ∷ []) (after side held.desk call)) start
+            (run_more side (opened_keeping parts held.desk.point (take held.opening held.desk.facts)) held.trail held.desk entry kept.life.run refl);
+      };
       counted = let c = kept.counted in omega (arith, c, length-append held.trail (entry ∷ []));
     }

@@ -18,7 +18,7 @@ use Rattle.gi_world.specs.Histories.{held}
 use Rattle.gi_world.specs.Telling.{TellsTheLower}
 use Rattle.gi_world.specs.World.{StationState, WorldState, station_of, tells}
 use Rattle.gi_office.specs.Lives.{Life, opened}
-use Rattle.gi_office.specs.Settling.{SettledState}
+use Rattle.gi_office.specs.Settling.{AreWhole, SettledState}
 use Rattle.gi_office.specs.declared.entry.Entry.{Entry}
 use Rattle.gi_office.specs.declared.unreconciled.Unreconciled.{Unreconciled}
 use Rattle.gi_office.specs.declared.unreconciled.Unreconciled.TheVariants.{NotAPair, Stranger, OutOfMemory}
@@ -128,7 +128,8 @@ pub record OneReconciledQuantity (both : WorldState) : Type 0 where
       → confirmed M both.matching.desk id ≡ Some matching → ReadAlike initiating matching
   pub told : (side : Side) → All (TellsTheLower (held both) side) (station_of side both).told
 
--- of two offices whose first lives opened with nothing but what the other side froze
+-- of two offices of whole lives, the first of which opened with nothing but what the other side froze
 abbrev pub AgreeOnOneQuantity : SettledState → SettledState → Type 0
 AgreeOnOneQuantity initiating matching =
-    OpensWithFrozen I initiating.lives matching.desk → OpensWithFrozen M matching.lives initiating.desk → OneReconciledQuantity (both_of initiating matching)
+    AreWhole I initiating.lives initiating.desk → AreWhole M matching.lives matching.desk
+    → OpensWithFrozen I initiating.lives matching.desk → OpensWithFrozen M matching.lives initiating.desk → OneReconciledQuantity (both_of initiating matching)

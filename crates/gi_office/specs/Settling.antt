@@ -4,7 +4,7 @@ use Rattle.gi_pairs.specs.declared.side.Side.{Side}
 use Rattle.gi_facts.specs.declared.fact.Fact.{Fact}
 use Rattle.gi_desk.specs.Machine.{DeskState}
 use Rattle.gi_office.specs.Keeping.{HeldState, HeldInvariant, SeatState, life_of}
-use Rattle.gi_office.specs.Lives.{IsLegal, Life}
+use Rattle.gi_office.specs.Lives.{IsLegal, IsWhole, Life}
 use Rattle.gi_office.specs.declared.entry.Entry.{Entry}
 use Rattle.gi_office.specs.declared.note.Note.{Note}
 use Rattle.gi_office.specs.declared.unsettled.Unsettled.{Unsettled}
@@ -68,6 +68,15 @@ GoOnTo side s (life ∷ later) end = GoesOn s life.point life.opening × ((t : D
 abbrev pub AreLegal : Side → List Life → DeskState → Type 0
 AreLegal side [] end = ⊥
 AreLegal side (life ∷ later) end = (t : DeskState) × IsLegal side life t × GoOnTo side t later end
+
+-- the same of whole lives, each of which begins with nothing kept
+abbrev pub GoOnWhole : Side → DeskState → List Life → DeskState → Type 0
+GoOnWhole side s [] end = s ≡ end
+GoOnWhole side s (life ∷ later) end = GoesOn s life.point life.opening × ((t : DeskState) × IsWhole side life t × GoOnWhole side t later end)
+
+abbrev pub AreWhole : Side → List Life → DeskState → Type 0
+AreWhole side [] end = ⊥
+AreWhole side (life ∷ later) end = (t : DeskState) × IsWhole side life t × GoOnWhole side t later end
 
 -- what is left of an office once all its seats came back: its lives, and its desk
 pub record SettledState : Type 0 where

@@ -14,6 +14,7 @@ abbrev pub number_in : Answer → Option ℕ
 number_in (answers.Recorded n) = Some n
 number_in (answers.Repeat n) = Some n
 number_in (answers.Saved n) = None
+number_in (answers.Kept have parts) = None
 number_in answers.Resent = None
 number_in answers.Stopped = None
 number_in (answers.Refused refusal) = None

@@ -200,6 +200,7 @@ impl<R: Role, L: Ledger> Model for Held<R, L> {
 }
 
 /// The office over a desk, and its seats, among which the parts of the ledger are split.
+#[tactic(auto, using(crate::proofs::Runs::new_kept))]
 fn opened<R: Role, L: Ledger>(
     alloc: Global,
     blank: Blank,

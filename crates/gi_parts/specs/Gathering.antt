@@ -39,6 +39,12 @@ is_awaiting part others = is_there part others || nat_lt (length others + 1) par
 abbrev pub all_rows : Array → Part → List Part → List Row
 all_rows array part others = flat_map (rows_in array) others ++ rows_in array part
 
+abbrev pub all_processed : Part → List Part → List Row
+all_processed part others = all_rows Processed part others
+
+abbrev pub all_confirmed : Part → List Part → List Row
+all_confirmed part others = all_rows Confirmed part others
+
 -- a pair and direction stands twice in either array; either has too many rows
 abbrev pub overlap : List Row → List Row → Bool
 overlap processed confirmed = repeats (keys_of processed) || repeats (keys_of confirmed)

@@ -3,7 +3,7 @@
 use crate::lines::{line_at, parted};
 use crate::shown::Shown;
 use crate::wanted::Wanted;
-use gi_messages::{MOST_PART_ELEMENTS, MOST_PROCESSED_ELEMENTS};
+use gi_messages::{MOST_CONFIRMED_ELEMENTS, MOST_PART_ELEMENTS, MOST_PROCESSED_ELEMENTS};
 use gi_pairs::Quantity;
 use serde_json::Value;
 use std::alloc::Global;
@@ -109,9 +109,13 @@ fn wanted_at(key: &str) -> Wanted {
         "parts" | "part" => Wanted::Whole { least: 1, most: 66 },
         "priority" => Wanted::Whole { least: 1, most: 9 },
         "hours" => Wanted::Hours,
-        "processed" | "confirmed" | "lines" => Wanted::Rows {
+        "processed" => Wanted::Rows {
             most: MOST_PROCESSED_ELEMENTS,
         },
+        "confirmed" => Wanted::Rows {
+            most: MOST_CONFIRMED_ELEMENTS,
+        },
+        "lines" => Wanted::Lines,
         _ => Wanted::Code,
     }
 }
@@ -220,8 +224,8 @@ fn wrong_element<'a, 'v>(
     let wanted = wanted_at(key);
     match wanted {
         Wanted::Hours => return wrong_hours(array, at, element, count),
-        Wanted::Rows { .. } if fits(element, Wanted::Row) => return None,
-        Wanted::Rows { .. } => {
+        Wanted::Rows { .. } | Wanted::Lines if fits(element, Wanted::Row) => return None,
+        Wanted::Rows { .. } | Wanted::Lines => {
             return Some(Found {
                 spot: Spot::Element(array, at),
                 value: Some(element),

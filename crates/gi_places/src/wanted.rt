@@ -26,6 +26,8 @@ pub enum Wanted {
     Whole { least: u64, most: u64 },
     /// The rows of a table, at most so many.
     Rows { most: usize },
+    /// The lines of a nomination.
+    Lines,
     Row,
     /// The quantities of a row.
     Hours,
@@ -63,6 +65,7 @@ impl Wanted {
             Wanted::Command
             | Wanted::Message
             | Wanted::Rows { .. }
+            | Wanted::Lines
             | Wanted::Row
             | Wanted::Hours
             | Wanted::Kind
@@ -97,6 +100,7 @@ impl fmt::Display for Wanted {
                     "JSON array of at most {most} objects, one for each pair and direction"
                 );
             }
+            Wanted::Lines => "JSON array of objects",
             Wanted::Row => "JSON object",
             Wanted::Hours => "JSON array with one quantity for each hour from first to last",
             Wanted::Kind => "DELORD",

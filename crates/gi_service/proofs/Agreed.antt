@@ -1,9 +1,10 @@
 -- What is found of two desks is found of their facts.
-use Rattle.std.proofs.Common.{◌≡◌, ◌⊎◌, ℕ, Bool, false, List, length, ap, ◌∙◌, inl, inr, subst}
+use Rattle.std.proofs.Common.{◌≡◌, ◌⊎◌, ℕ, Bool, false, List, [], length, ap, ◌∙◌, inl, inr, subst}
 use Rattle.gi_desk.specs.Machine.{DeskState}
 use Rattle.gi_audit.specs.Agreeing.{Agree}
 use Rattle.gi_pairs.specs.declared.side.Side.{Side}
 use Rattle.gi_pairs.specs.declared.side.Side.TheVariants.{I, M}
+use Rattle.gi_parts.specs.declared.kept_parts.KeptPart.{KeptPart}
 use Rattle.gi_facts.specs.declared.fact.Fact.{Fact}
 use Rattle.gi_commands.specs.Reporting.{IsFactsFault, desk_of}
 use Rattle.gi_commands.specs.declared.fault.Fault.{Fault}
@@ -12,18 +13,20 @@ use Rattle.gi_service.specs.Pasts.{IsPastFault, IsPastsFault}
 use Rattle.gi_service.specs.Serving.{IsBooksFault}
 use Rattle.gi_service.specs.Stations.{IsStationFault}
 
--- a desk of the point that is not halted, whose facts are all saved
+-- a desk of the point that is not halted and keeps no part, whose facts are all saved
 pub record IsWhole (point : List ℕ) (desk : DeskState) : Type 0 where
   pub at : desk.point ≡ point
   pub saved : desk.saved ≡ length desk.facts
   pub runs : desk.halted ≡ false
+  pub none : desk.kept ≡ []
 
 desk_is : (point : List ℕ) (desk : DeskState) → IsWhole point desk → desk ≡ desk_of point desk.facts
 desk_is point desk whole =
-    let with_point : List ℕ → DeskState = λ p. record { point = p; facts = desk.facts; saved = desk.saved; halted = desk.halted } in
-    let with_saved : ℕ → DeskState = λ n. record { point = point; facts = desk.facts; saved = n; halted = desk.halted } in
-    let with_halt : Bool → DeskState = λ b. record { point = point; facts = desk.facts; saved = length desk.facts; halted = b } in
-    ap with_point whole.at ∙ (ap with_saved whole.saved ∙ ap with_halt whole.runs)
+    let with_point : List ℕ → DeskState = λ p. record { point = p; facts = desk.facts; saved = desk.saved; halted = desk.halted; kept = desk.kept } in
+    let with_saved : ℕ → DeskState = λ n. record { point = point; facts = desk.facts; saved = n; halted = desk.halted; kept = desk.kept } in
+    let with_halt : Bool → DeskState = λ b. record { point = point; facts = desk.facts; saved = length desk.facts; halted = b; kept = desk.kept } in
+    let with_kept : List KeptPart → DeskState = λ parts. record { point = point; facts = desk.facts; saved = length desk.facts; halted = false; kept = parts } in
+    ap with_point whole.at ∙ (ap with_saved whole.saved ∙ (ap with_halt whole.runs ∙ ap with_kept whole.none))
 
 pub fault_of_facts : (point : List ℕ) (ours theirs : DeskState) (why : Fault) → IsWhole point ours → IsWhole point theirs → IsPastFault ours theirs why → IsPastsFault point why
 fault_of_facts point ours theirs why whole peer is = (

@@ -1,5 +1,6 @@
 ghost use Rattle.std.specs.Prelude.{◌≡◌, IfErr, IfOk, IfSome, Ok, OnErr, OnOk, true};
 ghost use Rattle.std.specs.Io.KnownBytes.{Keeps};
+ghost use Rattle.gi_service.specs.Copies.{AreCopies, HaveOnePastOf};
 ghost use Rattle.gi_service.specs.Serving.{IsFilesFault, IsFirstServeFault, IsInputOf, IsScriptFault, IsServed, IsServedFrom, IsTextFault, IsUndone, LeavesServed, MayBeTold, Serves};
 
 use crate::copies::InCopies;
@@ -60,6 +61,7 @@ fn served_in_copies<T: Threads + Wait + Sync, V: Watch, O: Write>(
     output: &mut O,
 ) -> Result<Done, Fault>
     ensures served { IfOk result (λ done. IsServedFrom sessions script.now (O.contents output.old) (O.contents output.new) done.0) }
+    ensures copies { IfOk result (λ done. HaveOnePastOf copies.now.initiating.facts copies.now.matching.facts script.now.point) }
     ensures none { IfOk result (λ done. done.1 ≡ Ok tt) }
     ensures unwritten { OnErr result (Keeps (O.contents output.old) (O.contents output.new)) }
     ensures fault { IfErr result (IsFilesFault script.now.point) }
@@ -112,6 +114,7 @@ fn served_over_books<T: Threads + Wait + Sync, V: Watch, O: Write>(
     output: &mut O,
 ) -> Result<Done, Fault>
     ensures served { IfOk result (λ done. IsServedFrom service.now.sessions script.now (O.contents output.old) (O.contents output.new) done.0) }
+    ensures copies { IfOk result (λ done. service.now.dry_run ≡ true → IfSome service.now.books (λ prefix. AreCopies script.now.point)) }
     ensures dry { IfOk result (λ done. service.now.dry_run ≡ true → done.1 ≡ Ok tt) }
     ensures unwritten { OnErr result (Keeps (O.contents output.old) (O.contents output.new)) }
     ensures fault { IfErr result (IsFilesFault script.now.point) }

@@ -1,6 +1,6 @@
 //! What each side of two running offices begins with: its desk, replayed from its book.
 
-ghost use Rattle.std.specs.Prelude.{◌≡◌, IfErr, IfOk, OnErr, OnOk, false, length};
+ghost use Rattle.std.specs.Prelude.{◌≡◌, [], IfErr, IfOk, OnErr, OnOk, false, length};
 ghost use Rattle.std.specs.Io.KnownBytes.{Keeps};
 ghost use Rattle.sqlite.specs.Held.{state};
 ghost use Rattle.gi_store.specs.Book.{IsRead, counted};
@@ -40,6 +40,7 @@ pub(crate) fn station<R: Role, P: Place>(
     ensures point { IfOk result (λ it. it.0.point ≡ point) }
     ensures saved { IfOk result (λ it. it.0.saved ≡ length it.0.facts) }
     ensures runs { IfOk result (λ it. it.0.halted ≡ false) }
+    ensures none { IfOk result (λ it. it.0.kept ≡ []) }
     ensures loaded { IfOk result (λ it. it.1.loaded ≡ counted (length it.0.facts)) }
     ensures facts { IfOk result (λ it. IsClean P.Store.Store it.1.connection → IsRead (state P.Store.Store it.1.connection) it.0.facts) }
     ensures opened { IfOk result (λ it. IsKeptFrom P.Store.Store (P.opens place.now R.SIDE) it.1) }
@@ -71,12 +72,14 @@ fn stations<P: Place>(
     ensures point { IfOk result (λ it. it.0.0.point ≡ point) }
     ensures saved { IfOk result (λ it. it.0.0.saved ≡ length it.0.0.facts) }
     ensures runs { IfOk result (λ it. it.0.0.halted ≡ false) }
+    ensures none { IfOk result (λ it. it.0.0.kept ≡ []) }
     ensures loaded { IfOk result (λ it. it.0.1.loaded ≡ counted (length it.0.0.facts)) }
     ensures facts { IfOk result (λ it. IsClean P.Store.Store it.0.1.connection → IsRead (state P.Store.Store it.0.1.connection) it.0.0.facts) }
     ensures opened { IfOk result (λ it. IsKeptFrom P.Store.Store (P.opens place.now I) it.0.1) }
     ensures peer_point { IfOk result (λ it. it.1.0.point ≡ point) }
     ensures peer_saved { IfOk result (λ it. it.1.0.saved ≡ length it.1.0.facts) }
     ensures peer_runs { IfOk result (λ it. it.1.0.halted ≡ false) }
+    ensures peer_none { IfOk result (λ it. it.1.0.kept ≡ []) }
     ensures peer_loaded { IfOk result (λ it. it.1.1.loaded ≡ counted (length it.1.0.facts)) }
     ensures peer_facts { IfOk result (λ it. IsClean P.Store.Store it.1.1.connection → IsRead (state P.Store.Store it.1.1.connection) it.1.0.facts) }
     ensures peer_opened { IfOk result (λ it. IsKeptFrom P.Store.Store (P.opens place.now M) it.1.1) }

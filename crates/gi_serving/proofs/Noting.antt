@@ -33,6 +33,8 @@ refused_out : (side : Side) (s : DeskState) (o : Outcome) (refusal : Refusal) â†
 refused_out side s (outcomes.Records fact) refusal is = refl
 refused_out side s (outcomes.RepeatsNomination n) refusal is = absurd (cc)
 refused_out side s (outcomes.RepeatsMeeting n) refusal is = absurd (cc)
+refused_out side s (outcomes.RepeatsPart n) refusal is = refl
+refused_out side s (outcomes.Keeps id part) refusal is = refl
 refused_out side s (outcomes.Saves n) refusal is = absurd (cc)
 refused_out side s (outcomes.Resends id) refusal is = absurd (cc)
 refused_out side s outcomes.Stops refusal is = refl

@@ -15,6 +15,7 @@ use Rattle.gi_serving.specs.declared.word.Word.TheVariants as words
 abbrev pub word_of : Answer → Word
 word_of (answers.Recorded n) = words.Recorded
 word_of (answers.Repeat n) = words.Repeat
+word_of (answers.Kept have parts) = words.Kept
 word_of (answers.Saved n) = words.Saved
 word_of answers.Resent = words.Resent
 word_of answers.Stopped = words.Stopped
@@ -34,6 +35,7 @@ word_in (Some answer) = word_of_call answer
 abbrev pub word_text : Word → List ℕ
 word_text words.Recorded = codes "recorded"
 word_text words.Repeat = codes "repeat"
+word_text words.Kept = codes "kept"
 word_text words.Saved = codes "saved"
 word_text words.Resent = codes "resent"
 word_text words.Stopped = codes "stopped"

@@ -14,6 +14,8 @@ pub enum Word {
     Recorded,
     /// The call repeats what is recorded.
     Repeat,
+    /// A part of the peer's order or response is kept.
+    Kept,
     /// A fact is saved.
     Saved,
     /// What a cycle let out is let out again.
@@ -38,6 +40,7 @@ impl fmt::Display for Word {
         f.write_str(match self {
             Word::Recorded => "recorded",
             Word::Repeat => "repeat",
+            Word::Kept => "kept",
             Word::Saved => "saved",
             Word::Resent => "resent",
             Word::Stopped => "stopped",
@@ -55,6 +58,7 @@ impl Word {
         match answer {
             Answer::Recorded { .. } => Word::Recorded,
             Answer::Repeat { .. } => Word::Repeat,
+            Answer::Kept { .. } => Word::Kept,
             Answer::Saved { .. } => Word::Saved,
             Answer::Resent => Word::Resent,
             Answer::Stopped => Word::Stopped,

@@ -17,7 +17,7 @@ use Rattle.gi_pairs.specs.declared.side.Side.TheVariants.{I, M}
 use Rattle.gi_script.specs.declared.instruction.Instruction.{Instruction}
 use Rattle.gi_script.specs.declared.instruction.Instruction.TheVariants as instructions
 use Rattle.gi_simulation.specs.declared.outcome.Outcome.{Outcome}
-use Rattle.gi_simulation.specs.declared.outcome.Outcome.TheVariants.{Recorded, Repeat, Saved, Resent, Stopped, Restarted, Nothing, Refused, NotMade}
+use Rattle.gi_simulation.specs.declared.outcome.Outcome.TheVariants.{Recorded, Repeat, Kept, Saved, Resent, Stopped, Restarted, Nothing, Refused, NotMade}
 use Rattle.gi_world.specs.World.{WorldState, after as world_after, has_bytes, new_world, other, outcome as world_outcome, station_of}
 use Rattle.gi_world.specs.declared.step.Step.{Step}
 use Rattle.gi_world.specs.declared.step.Step.TheVariants as steps
@@ -100,6 +100,7 @@ step_of s (instructions.Carry side) = delivering s.world side (given (link_to si
 abbrev pub answered : List Packet → Answer → Outcome
 answered out (answers.Recorded n) = Recorded n
 answered out (answers.Repeat n) = Repeat n
+answered out (answers.Kept have parts) = Kept have
 answered out (answers.Saved n) = Saved n
 answered out answers.Resent = Resent (length out)
 answered out answers.Stopped = Stopped

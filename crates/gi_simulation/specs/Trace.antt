@@ -1,6 +1,6 @@
 -- What the trace of a simulation tells of a turn: what the carrier did with the message that waited first, and each packet that
 -- the step let out.
-use Rattle.std.specs.Prelude.{ℕ, List, [], ◌∷◌, ◌++◌, length, slice_get, Bool, ◌&&◌, nat_le, if◌then◌else◌, Option, Some, None, Result, Ok, Err, codes}
+use Rattle.std.specs.Prelude.{ℕ, ◌==◌, List, [], ◌∷◌, ◌++◌, length, slice_get, Bool, ◌&&◌, nat_le, if◌then◌else◌, Option, Some, None, Result, Ok, Err, codes}
 use Rattle.std.specs.Fmt.{decimal}
 use Rattle.std.specs.List.{flat_map}
 use Rattle.jiff_core.specs.declared.civil.date.Date.{Date}
@@ -48,12 +48,20 @@ lines_text first (line ∷ lines) = line_text first line ++ flat_map (λ later. 
 abbrev pub numbered_text : List ℕ → Date → ℕ → List ℕ
 numbered_text kind day number = kind ++ (codes " " ++ (day_text day ++ (codes " " ++ decimal number)))
 
+-- ` part 2 of 3`, of one of several parts
+abbrev pub part_text : (parts part : ℕ) → List ℕ
+part_text parts part = if parts == 1 then [] else codes " part " ++ (decimal part ++ (codes " of " ++ decimal parts))
+
+-- `DELORD 2026-01-15 35 part 2 of 3`
+abbrev pub exchanged_text : List ℕ → Date → (cycle parts part : ℕ) → List ℕ
+exchanged_text kind day cycle parts part = numbered_text kind day cycle ++ part_text parts part
+
 abbrev pub known_text : Message → List ℕ
 known_text (Nomint m) = numbered_text (codes "NOMINT") m.day m.version
 known_text (Acknow m) = numbered_text (codes "ACKNOW") m.day m.version
 known_text (Nomres m) = numbered_text (codes "NOMRES") m.day m.cycle ++ lines_text m.first m.lines
-known_text (Delord m) = numbered_text (codes "DELORD") m.day m.cycle
-known_text (Delres m) = numbered_text (codes "DELRES") m.day m.cycle
+known_text (Delord m) = exchanged_text (codes "DELORD") m.day m.cycle m.parts m.part
+known_text (Delres m) = exchanged_text (codes "DELRES") m.day m.cycle m.parts m.part
 
 -- what bytes are
 abbrev pub message_text : Result Message MessageFault → List ℕ

@@ -9,6 +9,8 @@ pub enum Outcome {
     Recorded(u32),
     /// It repeats what the fact of this number says.
     Repeat(u32),
+    /// So many parts of the peer's order or response are kept.
+    Kept(u8),
     /// The fact of this number is saved.
     Saved(u32),
     /// So many packets are let out again, to the peer and to portfolios.
@@ -35,6 +37,7 @@ impl fmt::Display for Outcome {
         let (word, number) = match self {
             Outcome::Recorded(n) => ("recorded ", n),
             Outcome::Repeat(n) => ("repeat ", n),
+            Outcome::Kept(have) => return write!(f, "kept {have}"),
             Outcome::Saved(n) => ("saved ", n),
             Outcome::Resent(packets) => return write!(f, "resent {packets}"),
             Outcome::Stopped => return f.write_str("stopped"),

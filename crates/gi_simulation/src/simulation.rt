@@ -60,6 +60,7 @@ fn outcome(reply: &Reply) -> Outcome
     match reply.answer {
         Answer::Recorded { n } => Outcome::Recorded(n),
         Answer::Repeat { n } => Outcome::Repeat(n),
+        Answer::Kept { have, .. } => Outcome::Kept(have),
         Answer::Saved { n } => Outcome::Saved(n),
         Answer::Resent => Outcome::Resent(reply.out.as_slice().len()),
         Answer::Stopped => Outcome::Stopped,

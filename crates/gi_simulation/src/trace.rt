@@ -5,7 +5,7 @@ ghost use Rattle.std.specs.List.{flat_map};
 ghost use Rattle.std.specs.Option.{option_copied};
 ghost use Rattle.gi_messages.specs.Decoding.{decoded};
 ghost use Rattle.gi_messages.specs.declared.message.Message.TheVariants as messages;
-ghost use Rattle.gi_simulation.specs.Trace.{is_lost as is_lost_of, known_text as known_text_of, line_text as line_text_of, lines_text as lines_text_of, lost_text as lost_text_of, message_text as message_text_of, moved_line as moved_line_of, numbered_text, packet_line as packet_line_of, quantity_text, recipient_text as recipient_text_of};
+ghost use Rattle.gi_simulation.specs.Trace.{is_lost as is_lost_of, known_text as known_text_of, line_text as line_text_of, lines_text as lines_text_of, lost_text as lost_text_of, message_text as message_text_of, moved_line as moved_line_of, numbered_text, packet_line as packet_line_of, part_text as part_text_of, quantity_text, recipient_text as recipient_text_of};
 
 use gi_carrier::{MOST_WAITING, Move};
 use gi_desk::{Packet, Recipient};
@@ -54,6 +54,15 @@ fn nomres_text(alloc: Global, nomres: &Nomres) -> Result<String, AllocError>
     format!(in alloc; "NOMRES {day} {cycle}{lines}")
 }
 
+fn part_text(alloc: Global, parts: u8, part: u8) -> Result<String, AllocError>
+    ensures { IfOk result (λ text. string_bytes text ≡ part_text_of parts part) }
+{
+    if parts == 1 {
+        return Ok(String::new(alloc));
+    }
+    format!(in alloc; " part {part} of {parts}")
+}
+
 fn known_text(alloc: Global, message: &Message) -> Result<String, AllocError>
     ensures { IfOk result (λ text. string_bytes text ≡ known_text_of message.now) }
 {
@@ -69,11 +78,13 @@ fn known_text(alloc: Global, message: &Message) -> Result<String, AllocError>
         Message::Nomres(nomres) => nomres_text(alloc, nomres),
         Message::Delord(delord) => {
             let (day, cycle) = (delord.day, delord.cycle);
-            format!(in alloc; "DELORD {day} {cycle}")
+            let part = part_text(alloc, delord.parts, delord.part)?;
+            format!(in alloc; "DELORD {day} {cycle}{part}")
         }
         Message::Delres(delres) => {
             let (day, cycle) = (delres.day, delres.cycle);
-            format!(in alloc; "DELRES {day} {cycle}")
+            let part = part_text(alloc, delres.parts, delres.part)?;
+            format!(in alloc; "DELRES {day} {cycle}{part}")
         }
     }
 }

@@ -1,23 +1,28 @@
 -- What is delivered to a side reads as the other side's order, or response, of a cycle that this one closed, or met, and
 -- saved.
-use Rattle.std.proofs.Common.{arith, ◌≡◌, ◌<◌, ◌≤◌, ◌-◌, ◌⊎◌, inl, inr, ℕ, zero, suc, List, [], ◌∷◌, length, length-take, take, get_or, get_or-take, filter, slice_get, All, Contains, Bool, true, Option, Some, None, Ok, refl, sym, ap, ◌∙◌, subst}
+use Rattle.std.proofs.Common.{arith, ◌≡◌, ◌<◌, ◌≤◌, ◌+◌, ◌-◌, ◌⊎◌, inl, inr, ℕ, zero, suc, List, [], ◌∷◌, length, length-take, take, get_or, get_or-take, filter, map, slice_get, All, Contains, Bool, true, Option, Some, None, Ok, refl, sym, ap, ◌∙◌, subst}
+use Rattle.std.specs.Int.{IsInRange}
+use Rattle.std.specs.List.{range_with_len}
 use Rattle.std.proofs.lemmas.List.Elements.{All-head, All-tail}
+use Rattle.std.proofs.lemmas.List.FromFn.{get_or-range_with_len, length-range_with_len}
 use Rattle.gi_pairs.specs.Code.{IsCode}
 use Rattle.gi_pairs.specs.Table.{TableContents}
 use Rattle.gi_pairs.specs.declared.cycle_id.CycleId.{CycleId}
 use Rattle.gi_pairs.specs.declared.side.Side.{Side}
 use Rattle.gi_pairs.specs.declared.side.Side.TheVariants.{I, M}
 use Rattle.gi_pairs.proofs.Building.{contains_from_in, in_from_contains}
-use Rattle.gi_pairs.proofs.Members.{in_filter}
+use Rattle.gi_pairs.proofs.Members.{from_map, in_filter}
 use Rattle.gi_messages.specs.Decoding.{decoded}
 use Rattle.gi_messages.specs.Writing.{text_of}
+use Rattle.gi_messages.specs.declared.message.Message.{Message}
 use Rattle.gi_messages.specs.declared.message.Message.TheVariants as messages
 use Rattle.gi_cycles.specs.States.{FrozenCycle, MatchedCycle, matched_of}
 use Rattle.gi_cycles.specs.declared.cycle_state.CycleState.TheVariants.{Matched}
+use Rattle.gi_parts.specs.Splitting.{parts_of_whole}
 use Rattle.gi_desk.specs.History.{frozen_cycle, is_closed, met_by, peer_of, state_of}
 use Rattle.gi_desk.specs.LetOut.{IsFact, let_out, let_out_on_closing, sent}
 use Rattle.gi_desk.specs.Machine.{DeskState, bad_fact, is_for_peer}
-use Rattle.gi_desk.specs.Messages.{on_met, order_of, response_of, to_peer}
+use Rattle.gi_desk.specs.Messages.{on_met, order_of, order_part, orders_of, response_of, response_part, to_peer}
 use Rattle.gi_desk.specs.Writable.{FitsDesk, FitsFrozen, FitsMatched, FitsState}
 use Rattle.gi_facts.specs.declared.fact.Fact.{Fact}
 use Rattle.gi_facts.specs.declared.fact.Fact.TheVariants.{Contracted, Noticed, Nominated, Closed, Met}
@@ -73,13 +78,13 @@ saved_fact facts saved n fact is below =
 
 -- ---- what is written is read
 
-pub order_reads : {side : Side} (point : List ℕ) (cycle : FrozenCycle) → IsCode point → FitsFrozen side cycle
-    → decoded (text_of (messages.Delord (order_of point cycle))) ≡ Ok (messages.Delord (order_of point cycle))
-order_reads point cycle code fits = read_back (messages.Delord (order_of point cycle)) (order-fits point cycle code fits) tt
+pub order_reads : {side : Side} (point : List ℕ) (cycle : FrozenCycle) (number : ℕ) → IsCode point → FitsFrozen side cycle → IsInRange 1 (parts_of_whole (order_of cycle)) number
+    → let message = messages.Delord (order_part point cycle number) in decoded (text_of message) ≡ Ok message
+order_reads point cycle number code fits within = read_back (messages.Delord (order_part point cycle number)) (order-fits point cycle number code fits within) tt
 
-pub response_reads : {side : Side} (point : List ℕ) (cycle : MatchedCycle) → IsCode point → FitsMatched side cycle
-    → decoded (text_of (messages.Delres (response_of point cycle))) ≡ Ok (messages.Delres (response_of point cycle))
-response_reads point cycle code fits = read_back (messages.Delres (response_of point cycle)) (response-fits point cycle code fits) tt
+pub response_reads : {side : Side} (point : List ℕ) (cycle : MatchedCycle) (number : ℕ) → IsCode point → FitsMatched side cycle → IsInRange 1 (parts_of_whole (response_of cycle)) number
+    → let message = messages.Delres (response_part point cycle number) in decoded (text_of message) ≡ Ok message
+response_reads point cycle number code fits within = read_back (messages.Delres (response_part point cycle number)) (response-fits point cycle number code fits within) tt
 
 -- ---- the state of a closed cycle can be written
 
@@ -93,7 +98,7 @@ frozen_fits side cycle (Some peer) fits = record { id = fits.id; own = fits.own;
 
 -- ---- what a closing and a meeting let out to the peer
 
-pub ordered_by : (point : List ℕ) (cycle : FrozenCycle) (met : Option TableContents) → let_out_on_closing I point (met_by cycle met) ≡ to_peer (messages.Delord (order_of point cycle)) ∷ []
+pub ordered_by : (point : List ℕ) (cycle : FrozenCycle) (met : Option TableContents) → let_out_on_closing I point (met_by cycle met) ≡ sent (orders_of point cycle)
 ordered_by point cycle None = refl
 ordered_by point cycle (Some peer) = refl
 
@@ -103,7 +108,7 @@ unanswered_by point cycle (Some peer) = refl
 
 -- at the initiating side a closing lets out its order
 closing_orders : (point : List ℕ) (facts : List Fact) (n : ℕ) (id : CycleId) (rule : Rule) → IsFact facts n (Closed id rule)
-    → filter is_for_peer (let_out I point facts n) ≡ to_peer (messages.Delord (order_of point (frozen_cycle I facts id))) ∷ []
+    → filter is_for_peer (let_out I point facts n) ≡ sent (orders_of point (frozen_cycle I facts id))
 closing_orders point facts n id rule is =
     sym (closing_for_peer I point facts n id rule is)
     ∙ ap (let_out_on_closing I point) (state-closed I facts id (fact_closes facts n id rule is))
@@ -128,6 +133,18 @@ meeting_writes side point facts n id peer legal is =
 pub none_there : (packets : List Packet) (packet : Packet) → packets ≡ [] → Contains packets packet → ⊥
 none_there packets packet none there = in_from_contains packet [] (subst (λ (out : List Packet). Contains out packet) none there)
 
+-- what stands among the messages of all parts of so many is one of these
+pub part_there : (packets : List Packet) (packet : Packet) (message : ℕ → Message) (parts : ℕ) → packets ≡ sent (map message (range_with_len 1 parts)) → Contains packets packet
+    → (number : ℕ) × IsInRange 1 parts number × (to_peer (message number) ≡ packet)
+part_there packets packet message parts is there =
+    let numbers = range_with_len 1 parts in
+    let among = from_map to_peer packet (map message numbers) (in_from_contains packet (map to_peer (map message numbers)) (subst (λ (out : List Packet). Contains out packet) is there)) in
+    let which = from_map message among.0 numbers among.1 in
+    let (k, below, at) = contains_from_in which.0 numbers which.1 in
+    let few : k < parts = omega (arith, below, length-range_with_len 1 parts) in
+    let place : 1 + k ≡ which.0 = sym (get_or-range_with_len 1 parts k which.0 few) ∙ at in
+    (which.0, (omega (arith, place), omega (arith, place, few)), ap to_peer which.2 ∙ among.2)
+
 pub one_there : (packets : List Packet) (one packet : Packet) → packets ≡ one ∷ [] → Contains packets packet → one ≡ packet
 one_there packets one packet is there = the_one one packet (subst (λ (out : List Packet). Contains out packet) is there)
 
@@ -149,13 +166,15 @@ order_of_fact w n (Met id peer) packet legal fits below is there =
 order_of_fact w n (Closed id rule) packet legal fits below is there =
     let s = w.initiating.desk in
     let cycle = frozen_cycle I s.facts id in
-    let message = messages.Delord (order_of s.point cycle) in
-    let same = one_there (ToPeer I s n) (to_peer message) packet (closing_orders s.point s.facts n id rule is) there in
+    let parts = parts_of_whole (order_of cycle) in
+    let (number, within, same) = part_there (ToPeer I s n) packet (λ number. messages.Delord (order_part s.point cycle number)) parts (closing_orders s.point s.facts n id rule is) there in
     let frozen = frozen_fits I cycle (peer_of id s.facts) (closed_fits I s.point s.facts id fits (fact_closes s.facts n id rule is)) in
     record {
       id = id;
+      number = number;
       closed = fact_closes (saved_facts s) n id rule (saved_fact s.facts s.saved n (Closed id rule) is below);
-      reads = subst (λ (p : Packet). decoded p.body ≡ Ok message) same (order_reads s.point cycle fits.point frozen);
+      within = within;
+      reads = subst (λ (p : Packet). decoded p.body ≡ Ok (messages.Delord (order_part s.point cycle number))) same (order_reads s.point cycle number fits.point frozen within);
     }
 
 -- ---- responses
@@ -173,18 +192,20 @@ response_of_fact w n (Closed id rule) packet legal fits below is there =
 response_of_fact w n (Met id peer) packet legal fits below is there =
     let s = w.matching.desk in
     let cycle = matched_of (frozen_cycle M s.facts id) peer in
-    let message = messages.Delres (response_of s.point cycle) in
-    let same = one_there (ToPeer M s n) (to_peer message) packet (meeting_writes M s.point s.facts n id peer legal.legal is) there in
+    let parts = parts_of_whole (response_of cycle) in
+    let (number, within, same) = part_there (ToPeer M s n) packet (λ number. messages.Delres (response_part s.point cycle number)) parts (meeting_writes M s.point s.facts n id peer legal.legal is) there in
     let all = fact_meets M s.point s.facts n id peer legal.legal is in
     let matched = subst (λ (met : Option TableContents). FitsState M (met_by (frozen_cycle M s.facts id) met)) all.1 (closed_fits M s.point s.facts id fits all.0) in
     let saved =
     fact_meets M s.point (saved_facts s) n id peer (legal-front M s.point s.facts s.saved legal.legal) (saved_fact s.facts s.saved n (Met id peer) is below) in
     record {
       id = id;
+      number = number;
       peer = peer;
       met = saved.1;
       closed = saved.0;
-      reads = subst (λ (p : Packet). decoded p.body ≡ Ok message) same (response_reads s.point cycle fits.point matched);
+      within = within;
+      reads = subst (λ (p : Packet). decoded p.body ≡ Ok (messages.Delres (response_part s.point cycle number))) same (response_reads s.point cycle number fits.point matched within);
     }
 
 -- ---- deliveries

@@ -12,7 +12,7 @@ use Rattle.gi_desk.specs.Machine.{DeskState, after as desk_after, is_for_peer, n
 use Rattle.gi_desk.specs.Writable.{FitsDesk}
 use Rattle.gi_desk.specs.declared.call.Call.{Call}
 use Rattle.gi_desk.specs.declared.outcome.Outcome.{Outcome}
-use Rattle.gi_desk.specs.declared.outcome.Outcome.TheVariants.{Records, RepeatsNomination, RepeatsMeeting, Saves, Resends, Stops, Refuses}
+use Rattle.gi_desk.specs.declared.outcome.Outcome.TheVariants.{Records, RepeatsNomination, RepeatsMeeting, RepeatsPart, Keeps, Saves, Resends, Stops, Refuses}
 use Rattle.gi_desk.specs.declared.packet.Packet.{Packet}
 use Rattle.gi_desk.proofs.StepFacts.{stays-legal}
 use Rattle.gi_world.specs.Agreement.{IsLegal}
@@ -27,6 +27,8 @@ fits_by : (side : Side) (s : DeskState) (o : Outcome) (packet : Packet) → Cont
 fits_by side s (Records fact) packet there fits = absurd (in_from_contains packet [] there)
 fits_by side s (RepeatsNomination n) packet there fits = fits
 fits_by side s (RepeatsMeeting n) packet there fits = fits
+fits_by side s (RepeatsPart n) packet there fits = fits
+fits_by side s (Keeps id part) packet there fits = fits
 fits_by side s (Saves n) packet there fits = fits
 fits_by side s (Resends id) packet there fits = fits
 fits_by side s Stops packet there fits = fits

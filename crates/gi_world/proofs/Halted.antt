@@ -3,7 +3,7 @@ use Rattle.std.proofs.Common.{◌≡◌, inr, ℕ, Bool, true, false, not, ◌&&
 use Rattle.std.specs.Prelude.{IsTrue}
 use Rattle.std.proofs.lemmas.Bool.{both_ways}
 use Rattle.gi_pairs.specs.declared.side.Side.{Side}
-use Rattle.gi_desk.specs.Machine.{DeskState, after, answer_of, is_record, learns_with_memory, may_want, may_want_to_prepare, next_of, out_of, outcome, reply, some_leave}
+use Rattle.gi_desk.specs.Machine.{DeskState, after, answer_of, grows, learns_with_memory, may_want, may_want_to_prepare, next_of, out_of, outcome, reply, some_leave}
 use Rattle.gi_desk.specs.declared.call.Call.{Call}
 use Rattle.gi_desk.specs.declared.outcome.Outcome.{Outcome}
 use Rattle.gi_desk.specs.declared.outcome.Outcome.TheVariants.{Refuses}
@@ -39,14 +39,14 @@ leads-alike side station a b halted =
     let said = replies-alike side station.desk a b halted in
     λ t. record { desk = next t; sent = sent_with station.sent (said t); told = told_with station.told (said t) }
 
-running_by : (halted wants records : Bool) → (halted ≡ true → records ≡ false) → IsTrue ((not halted && wants) || records) → halted ≡ false
-running_by true wants records none is = absurd (both_ways records (none refl) is)
-running_by false wants records none is = refl
+running_by : (halted wants more : Bool) → (halted ≡ true → more ≡ false) → IsTrue ((not halted && wants) || more) → halted ≡ false
+running_by true wants more none is = absurd (both_ways more (none refl) is)
+running_by false wants more none is = refl
 
 pub running : (side : Side) (s : DeskState) (call : Call) → IsTrue (may_want side s call) → s.halted ≡ false
 unfolding may_want may_want_to_prepare
 running side s call is =
-    running_by s.halted (learns_with_memory call || some_leave (out_of side s (outcome side s call))) (is_record (outcome side s call)) (λ halted. ap is_record (refuses side s call halted)) is
+    running_by s.halted (learns_with_memory call || some_leave (out_of side s (outcome side s call))) (grows (outcome side s call)) (λ halted. ap grows (refuses side s call halted)) is
 
 -- so a delivery to a desk that is not may want memory
 pub delivery-short : (w : WorldState) (side : Side) (n : ℕ) (packet : Packet) (r : Result WorldReply WorldFault) (new : WorldState) → delivery w side n ≡ Some packet

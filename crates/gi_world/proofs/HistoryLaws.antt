@@ -6,9 +6,9 @@ use Rattle.gi_desk.specs.Machine.{DeskState, after as desk_after, answer_of, nex
 use Rattle.gi_desk.specs.declared.call.Call.{Call}
 use Rattle.gi_desk.specs.declared.call.Call.TheVariants as calls
 use Rattle.gi_desk.specs.declared.outcome.Outcome.{Outcome}
-use Rattle.gi_desk.specs.declared.outcome.Outcome.TheVariants.{Records, RepeatsNomination, RepeatsMeeting, Saves, Resends, Stops, Refuses}
+use Rattle.gi_desk.specs.declared.outcome.Outcome.TheVariants.{Records, RepeatsNomination, RepeatsMeeting, RepeatsPart, Keeps, Saves, Resends, Stops, Refuses}
 use Rattle.gi_desk.specs.declared.packet.Packet.{Packet}
-use Rattle.gi_world.specs.Histories.{Histories, after_packet, after_replied, after_restarted, after_step, after_steps, fact_named_by, facts_with, held, held_by, saved_with, unless_refused, with_fact, with_reply}
+use Rattle.gi_world.specs.Histories.{Histories, after_packet, after_replied, after_restarted, after_step, after_steps, fact_named_by, facts_with, held, held_by, kept_with, part_named_by, saved_with, unless_refused, with_fact, with_part, with_reply, without_fact}
 use Rattle.gi_world.specs.Runs.{answers, run}
 use Rattle.gi_world.specs.World.{StationState, WorldState, after, after_call, after_delivery, after_if, after_restart, called, delivered, delivery, is_delivery, outcome, station_of, with_station}
 use Rattle.gi_world.specs.declared.step.Step.{Step}
@@ -17,23 +17,41 @@ use Rattle.gi_world.specs.declared.world_fault.WorldFault.TheVariants.{NotLocal,
 use Rattle.gi_world.specs.declared.world_reply.WorldReply.TheVariants.{Restarted}
 use Rattle.gi_world.proofs.Recorded.{Names, records-named}
 
-facts_noted : (s : DeskState) (call : Call) (o : Outcome) → Names (fact_named_by s.facts call) s.saved o → facts_with s.facts call (answer_of s o) ≡ (next_of s o).facts
+abbrev IsNamed : DeskState → Call → Outcome → Type 0
+IsNamed s call o = Names (fact_named_by s.kept call) (part_named_by call) s.saved o
+
+facts_noted : (s : DeskState) (call : Call) (o : Outcome) → IsNamed s call o → facts_with s.facts s.kept call (answer_of s o) ≡ (next_of s o).facts
 facts_noted s call (Records fact) names = ap (with_fact s.facts) (names.0 fact refl)
 facts_noted s call (RepeatsNomination n) names = refl
 facts_noted s call (RepeatsMeeting n) names = refl
+facts_noted s call (RepeatsPart n) names = refl
+facts_noted s call (Keeps id part) names = refl
 facts_noted s call (Saves n) names = refl
 facts_noted s call (Resends id) names = refl
 facts_noted s call Stops names = refl
 facts_noted s call (Refuses refusal) names = refl
 
-saved_noted : (s : DeskState) (call : Call) (o : Outcome) → Names (fact_named_by s.facts call) s.saved o → saved_with s.saved (answer_of s o) ≡ (next_of s o).saved
+saved_noted : (s : DeskState) (call : Call) (o : Outcome) → IsNamed s call o → saved_with s.saved (answer_of s o) ≡ (next_of s o).saved
 saved_noted s call (Records fact) names = refl
 saved_noted s call (RepeatsNomination n) names = refl
 saved_noted s call (RepeatsMeeting n) names = refl
+saved_noted s call (RepeatsPart n) names = refl
+saved_noted s call (Keeps id part) names = refl
 saved_noted s call (Saves n) names = sym (names.1 n refl)
 saved_noted s call (Resends id) names = refl
 saved_noted s call Stops names = refl
 saved_noted s call (Refuses refusal) names = refl
+
+kept_noted : (s : DeskState) (call : Call) (o : Outcome) → IsNamed s call o → kept_with s.kept call (answer_of s o) ≡ (next_of s o).kept
+kept_noted s call (Records fact) names = ap (without_fact s.kept) (names.0 fact refl)
+kept_noted s call (RepeatsNomination n) names = refl
+kept_noted s call (RepeatsMeeting n) names = refl
+kept_noted s call (RepeatsPart n) names = refl
+kept_noted s call (Keeps id part) names = ap (with_part s.kept) (names.2 id part refl)
+kept_noted s call (Saves n) names = refl
+kept_noted s call (Resends id) names = refl
+kept_noted s call Stops names = refl
+kept_noted s call (Refuses refusal) names = refl
 
 -- of a call
 called_held : (side : Side) (station : StationState) (call : Call)
@@ -44,7 +62,8 @@ called_held side station call =
     let names = records-named side station.desk call in
     let facts = facts_noted station.desk call o names in
     let saved = saved_noted station.desk call o names in
-    λ t. record { facts = facts t; saved = saved t; sent = (after_call side station call).sent; told = (after_call side station call).told }
+    let kept = kept_noted station.desk call o names in
+    λ t. record { facts = facts t; saved = saved t; kept = kept t; sent = (after_call side station call).sent; told = (after_call side station call).told }
 
 local_held : (side : Side) (b : Bool) (w : WorldState) (call : Call)
     → unless_refused (held w) (after_replied side (held w) call) (cond b (Err NotLocal) (called side (station_of side w) call))

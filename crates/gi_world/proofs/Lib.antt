@@ -8,6 +8,7 @@ mod FrozenTables
 mod Halted
 pub mod HistoryConfirms
 mod HistoryLaws
+pub mod KeptParts
 pub mod Meetings
 mod MemoryWanted
 pub mod Numbers
@@ -18,6 +19,8 @@ mod RunLaws
 mod SameTables
 pub mod SentPackets
 mod Soundness
+mod SplitTables
 mod StationLemmas
 mod StepKeeping
+pub mod Taking
 mod ToldPackets

@@ -1,5 +1,5 @@
 -- What each side met is what the other one froze, and stays so, whatever step is made.
-use Rattle.std.proofs.Common.{arith, ◌≡◌, ◌≤◌, ◌⊎◌, inl, inr, ⊎_elim, ℕ, List, [], ◌∷◌, ◌++◌, length, take, Bool, true, false, cond, nat_lt, ltb-false, filter_map, is_some, slice_get, Option, Some, None, Result, Ok, Err, refl, sym, ap, ◌∙◌, subst}
+use Rattle.std.proofs.Common.{arith, ◌≡◌, ◌≤◌, ◌⊎◌, inl, inr, ⊎_elim, ℕ, List, [], ◌∷◌, ◌++◌, length, take, All, Bool, true, false, cond, nat_lt, ltb-false, filter_map, is_some, slice_get, Option, Some, None, Result, Ok, Err, refl, sym, ap, ◌∙◌, subst}
 use Rattle.std.specs.List.{cons_option}
 use Rattle.std.proofs.lemmas.List.{take-take}
 use Rattle.std.proofs.lemmas.List.Elements.{filter_map-append}
@@ -20,11 +20,16 @@ use Rattle.gi_facts.specs.declared.fact.Fact.{Fact}
 use Rattle.gi_facts.specs.declared.fact.Fact.TheVariants.{Contracted, Noticed, Nominated, Closed, Met}
 use Rattle.gi_facts.proofs.SameLemmas.{same_cycle-is}
 use Rattle.gi_desk.specs.declared.outcome.Outcome.{Outcome}
-use Rattle.gi_desk.specs.declared.outcome.Outcome.TheVariants.{Records, RepeatsNomination, RepeatsMeeting, Saves, Resends, Stops, Refuses}
+use Rattle.gi_desk.specs.declared.outcome.Outcome.TheVariants.{Records, RepeatsNomination, RepeatsMeeting, RepeatsPart, Keeps, Saves, Resends, Stops, Refuses}
 use Rattle.gi_desk.specs.declared.packet.Packet.{Packet}
 use Rattle.gi_desk.proofs.StepFacts.{only-appends}
-use Rattle.gi_world.specs.Agreement.{FitsWorld, IsOrdered, IsResponded, IsSound, MeetsAfter, MeetsFrozen, saved_facts}
-use Rattle.gi_world.specs.Histories.{fact_named_by, meeting_in, nomination_in}
+use Rattle.gi_desk.specs.Writable.{FitsDesk}
+use Rattle.gi_parts.specs.Parts.{AreKept}
+use Rattle.gi_parts.specs.declared.kept_parts.KeptPart.{KeptPart}
+use Rattle.gi_parts.specs.declared.part.Part.{Part}
+use Rattle.gi_parts.specs.declared.part.Whole.{Whole}
+use Rattle.gi_world.specs.Agreement.{FitsWorld, IsOfOrder, IsOfResponse, IsOrdered, IsResponded, IsSound, MeetsAfter, MeetsFrozen, saved_facts}
+use Rattle.gi_world.specs.Histories.{fact_named_by, nomination_in}
 use Rattle.gi_world.specs.World.{StationState, WorldState, after, after_call, after_delivery, after_if, after_restart, delivery, is_delivery, other, station_of, with_station}
 use Rattle.gi_world.specs.declared.step.Step.{Step}
 use Rattle.gi_world.specs.declared.step.Step.TheVariants.{Local, Deliver, Restart}
@@ -32,7 +37,8 @@ use Rattle.gi_world.specs.declared.world_fault.WorldFault.TheVariants.{KeepsTooF
 use Rattle.gi_world.specs.declared.world_reply.WorldReply.TheVariants.{Restarted}
 use Rattle.gi_world.proofs.Agreeing.{DeliversOrders, DeliversResponses}
 use Rattle.gi_world.proofs.Fronts.{IsFront, front-closed, front-frozen, front-met, front-more, front-take, front-trans, front-within, saved-front}
-use Rattle.gi_world.proofs.Recorded.{Names, records-named}
+use Rattle.gi_world.proofs.Recorded.{records-named}
+use Rattle.gi_world.proofs.Taking.{Takes, order-taken, order_carried, order_whole, response-taken, response_carried, response_whole}
 
 -- ---- what a desk meets with one more fact
 
@@ -65,24 +71,46 @@ pub record IsMoved (s next : DeskState) (new : Option Fact) : Type 0 where
   pub front : IsFront (saved_facts s) (saved_facts next)
   pub meets : (id : CycleId) (table : TableContents) → peer_of id next.facts ≡ Some table → (peer_of id s.facts ≡ Some table) ⊎ (new ≡ Some (Met id table))
 
-meets_by : (s : DeskState) (o : Outcome) (expected : Option Fact) (id : CycleId) (table : TableContents) → Names expected s.saved o → peer_of id (next_of s o).facts ≡ Some table
-    → (peer_of id s.facts ≡ Some table) ⊎ (expected ≡ Some (Met id table))
-meets_by s (Records fact) expected id table names met = ⊎_elim (λ old. inl old) (λ new. inr (names.0 fact refl ∙ ap Some new)) (one_more s.facts fact id table met)
-meets_by s (RepeatsNomination n) expected id table names met = inl met
-meets_by s (RepeatsMeeting n) expected id table names met = inl met
-meets_by s (Saves n) expected id table names met = inl met
-meets_by s (Resends id') expected id table names met = inl met
-meets_by s Stops expected id table names met = inl met
-meets_by s (Refuses refusal) expected id table names met = inl met
+-- what an outcome records
+abbrev pub recorded_in : Outcome → Option Fact
+recorded_in (Records fact) = Some fact
+recorded_in other = None
 
-pub call_moved : (side : Side) (s : DeskState) (call : Call) → s.saved ≤ length s.facts → IsMoved s (desk_after side s call) (fact_named_by s.facts call)
+pub recorded_is : (o : Outcome) (fact : Fact) → recorded_in o ≡ Some fact → o ≡ Records fact
+recorded_is (Records other) fact e = let same : other ≡ fact = cc in ap Records same
+recorded_is (RepeatsNomination n) fact e = absurd cc
+recorded_is (RepeatsMeeting n) fact e = absurd cc
+recorded_is (RepeatsPart n) fact e = absurd cc
+recorded_is (Keeps id part) fact e = absurd cc
+recorded_is (Saves n) fact e = absurd cc
+recorded_is (Resends id) fact e = absurd cc
+recorded_is Stops fact e = absurd cc
+recorded_is (Refuses refusal) fact e = absurd cc
+
+-- what a call records at a desk
+abbrev pub recorded_by : Side → DeskState → Call → Option Fact
+recorded_by side s call = recorded_in (desk_outcome side s call)
+
+meets_by : (s : DeskState) (o : Outcome) (id : CycleId) (table : TableContents) → peer_of id (next_of s o).facts ≡ Some table
+    → (peer_of id s.facts ≡ Some table) ⊎ (recorded_in o ≡ Some (Met id table))
+meets_by s (Records fact) id table met = ⊎_elim (λ old. inl old) (λ new. inr (ap Some new)) (one_more s.facts fact id table met)
+meets_by s (RepeatsNomination n) id table met = inl met
+meets_by s (RepeatsMeeting n) id table met = inl met
+meets_by s (RepeatsPart n) id table met = inl met
+meets_by s (Keeps other part) id table met = inl met
+meets_by s (Saves n) id table met = inl met
+meets_by s (Resends other) id table met = inl met
+meets_by s Stops id table met = inl met
+meets_by s (Refuses refusal) id table met = inl met
+
+pub call_moved : (side : Side) (s : DeskState) (call : Call) → s.saved ≤ length s.facts → IsMoved s (desk_after side s call) (recorded_by side s call)
 unfolding desk_after
 call_moved side s call within =
     let next = next_of s (desk_outcome side s call) in
     let grown = only-appends side s call in
     record {
       front = front-more s.facts next.facts s.saved next.saved grown.1 within grown.0;
-      meets = λ id table met. meets_by s (desk_outcome side s call) (fact_named_by s.facts call) id table (records-named side s call) met;
+      meets = λ id table met. meets_by s (desk_outcome side s call) id table met;
     }
 
 pub restart_moved : (s : DeskState) (keep : ℕ) → s.saved ≤ keep → IsMoved s (started_again s keep) None
@@ -100,7 +128,7 @@ pub moved_met : (side : Side) (s next peer : DeskState) (new : Option Fact) → 
     → ((id : CycleId) (table : TableContents) → new ≡ Some (Met id table) → IsFrozenAt (other side) peer id table) → MeetsFrozen side next peer
 moved_met side s next peer new met moved may = λ id table there. ⊎_elim (λ old. met id table old) (λ fresh. may id table fresh) (moved.meets id table there)
 
-frozen_stays : (side : Side) (s next : DeskState) (id : CycleId) → IsFront (saved_facts s) (saved_facts next) → is_closed id (saved_facts s) ≡ true
+pub frozen_stays : (side : Side) (s next : DeskState) (id : CycleId) → IsFront (saved_facts s) (saved_facts next) → is_closed id (saved_facts s) ≡ true
     → frozen_table side s.facts id ≡ frozen_table side next.facts id
 frozen_stays side s next id front closed =
     front-frozen side (saved_facts s) s.facts id (saved-front s) closed
@@ -165,11 +193,11 @@ with_moved M w station new are moved may = record {
 
 -- ---- steps
 
-called_met : (side : Side) (w : WorldState) (call : Call) → AreMet w → (station_of side w).desk.saved ≤ length (station_of side w).desk.facts → MayMeet side w (fact_named_by (station_of side w).desk.facts call)
-    → AreMet (with_station side (after_call side (station_of side w) call) w)
+called_met : (side : Side) (w : WorldState) (call : Call) → AreMet w → (station_of side w).desk.saved ≤ length (station_of side w).desk.facts
+    → MayMeet side w (recorded_by side (station_of side w).desk call) → AreMet (with_station side (after_call side (station_of side w) call) w)
 unfolding after_call
 called_met side w call are within may =
-    with_moved side w (after_call side (station_of side w) call) (fact_named_by (station_of side w).desk.facts call) are (call_moved side (station_of side w).desk call within) may
+    let s = (station_of side w).desk in with_moved side w (after_call side (station_of side w) call) (recorded_by side s call) are (call_moved side s call within) may
 
 nominates : (read : Result Message MessageFault) (id : CycleId) (table : TableContents) → nomination_in read ≡ Some (Met id table) → ⊥
 nominates (Err fault) id table e = absurd cc
@@ -179,42 +207,57 @@ nominates (Ok (messages.Nomres message)) id table e = absurd cc
 nominates (Ok (messages.Delord message)) id table e = absurd cc
 nominates (Ok (messages.Delres message)) id table e = absurd cc
 
--- a call that is no delivery meets no table
-pub meets_none : (facts : List Fact) (call : Call) (id : CycleId) (table : TableContents) → is_delivery call ≡ false → fact_named_by facts call ≡ Some (Met id table) → ⊥
-meets_none facts (calls.Contract contract) id table local e = absurd cc
-meets_none facts (calls.Notice notice) id table local e = absurd cc
-meets_none facts (calls.Submit body) id table local e = nominates (decoded body) id table e
-meets_none facts (calls.Close other rule) id table local e = absurd cc
-meets_none facts (calls.Deliver body) id table local e = absurd cc
-meets_none facts (calls.Resend other) id table local e = absurd cc
-meets_none facts (calls.MarkSaved n fact) id table local e = absurd cc
-meets_none facts calls.Halt id table local e = absurd cc
+-- a call that is no delivery names no meeting
+names_none : (kept : List KeptPart) (call : Call) (id : CycleId) (table : TableContents) → is_delivery call ≡ false → fact_named_by kept call ≡ Some (Met id table) → ⊥
+names_none kept (calls.Contract contract) id table local e = absurd cc
+names_none kept (calls.Notice notice) id table local e = absurd cc
+names_none kept (calls.Submit body) id table local e = nominates (decoded body) id table e
+names_none kept (calls.Close other rule) id table local e = absurd cc
+names_none kept (calls.Deliver body) id table local e = absurd cc
+names_none kept (calls.Resend other) id table local e = absurd cc
+names_none kept (calls.MarkSaved n fact) id table local e = absurd cc
+names_none kept calls.Halt id table local e = absurd cc
+
+-- so it meets no table
+pub meets_none : (side : Side) (s : DeskState) (call : Call) (id : CycleId) (table : TableContents) → is_delivery call ≡ false → recorded_by side s call ≡ Some (Met id table) → ⊥
+meets_none side s call id table local e =
+    names_none s.kept call id table local ((records-named side s call).0 (Met id table) (recorded_is (desk_outcome side s call) (Met id table) e))
 
 local_met : (side : Side) (w : WorldState) (call : Call) (b : Bool) → is_delivery call ≡ b → AreMet w → (station_of side w).desk.saved ≤ length (station_of side w).desk.facts
     → AreMet (cond b w (with_station side (after_call side (station_of side w) call) w))
 local_met side w call true e are within = are
-local_met side w call false e are within = called_met side w call are within (λ id table is. absurd (meets_none (station_of side w).desk.facts call id table e is))
+local_met side w call false e are within = called_met side w call are within (λ id table is. absurd (meets_none side (station_of side w).desk call id table e is))
 
-same_one : (P : CycleId → TableContents → Type 0) (id other : CycleId) (peer table : TableContents) → Some (Met id peer) ≡ Some (Met other table) → P id peer → P other table
+-- a packet that the other side sent meets the table that this one froze there
+taken_is : (id other : CycleId) (whole : Whole) (part : Part) (o : Outcome) (table : TableContents) → Takes id whole part o → recorded_in o ≡ Some (Met other table) → Met id whole.processed ≡ Met other table
+taken_is id other whole part o table takes e = sym (subst (Takes id whole part) (recorded_is o (Met other table) e) takes)
+
+same_one : (P : CycleId → TableContents → Type 0) (id other : CycleId) (peer table : TableContents) → Met id peer ≡ Met other table → P id peer → P other table
 same_one P id other peer table e holds =
     let cycle : id ≡ other = cc in
     let met : peer ≡ table = cc in
     subst (P other) met (subst (λ (id : CycleId). P id peer) cycle holds)
 
-pub order_may : (w : WorldState) (facts : List Fact) (packet : Packet) → IsOrdered w packet → MayMeet M w (meeting_in facts (decoded packet.body))
-order_may w facts packet ordered =
+pub order_may : (w : WorldState) (s : DeskState) (packet : Packet) → let theirs = w.initiating.desk in FitsDesk I theirs.point theirs.facts → AreKept s.kept → All (IsOfOrder theirs) s.kept
+    → IsOrdered w packet → MayMeet M w (recorded_by M s (calls.Deliver packet.body))
+order_may w s packet fits few all it =
+    let whole = order_whole w packet it in
+    let o = desk_outcome M s (calls.Deliver packet.body) in
     λ id table is.
-    same_one (λ id table. IsFrozenAt I w.initiating.desk id table × IsMetAfter M w id) ordered.id id (frozen_table I w.initiating.desk.facts ordered.id) table
-    (sym (ap (meeting_in facts) ordered.reads) ∙ is) ((ordered.closed, refl), tt)
+    same_one (λ id table. IsFrozenAt I w.initiating.desk id table × IsMetAfter M w id) it.id id whole.processed table
+    (taken_is it.id id whole (order_carried w packet it) o table (order-taken w s packet fits few all it) is) ((it.closed, refl), tt)
 
-pub response_may : (w : WorldState) (facts : List Fact) (packet : Packet) → IsResponded w packet → MayMeet I w (meeting_in facts (decoded packet.body))
-response_may w facts packet responded =
+pub response_may : (w : WorldState) (s : DeskState) (packet : Packet) → let theirs = w.matching.desk in FitsDesk M theirs.point theirs.facts → AreKept s.kept → All (IsOfResponse theirs) s.kept
+    → IsResponded w packet → MayMeet I w (recorded_by I s (calls.Deliver packet.body))
+response_may w s packet fits few all it =
+    let whole = response_whole w packet it in
+    let o = desk_outcome I s (calls.Deliver packet.body) in
     λ id table is.
-    same_one (λ id table. IsFrozenAt M w.matching.desk id table × IsMetAfter I w id) responded.id id (frozen_table M w.matching.desk.facts responded.id) table
-    (sym (ap (meeting_in facts) responded.reads) ∙ is) ((responded.closed, refl), ap is_some responded.met)
+    same_one (λ id table. IsFrozenAt M w.matching.desk id table × IsMetAfter I w id) it.id id whole.processed table
+    (taken_is it.id id whole (response_carried w packet it) o table (response-taken w s packet fits few all it) is) ((it.closed, refl), ap is_some it.met)
 
 delivery_met : (side : Side) (w : WorldState) (o : Option Packet) → AreMet w → (station_of side w).desk.saved ≤ length (station_of side w).desk.facts
-    → ((packet : Packet) → o ≡ Some packet → MayMeet side w (meeting_in (station_of side w).desk.facts (decoded packet.body))) → AreMet (after_delivery w side o)
+    → ((packet : Packet) → o ≡ Some packet → MayMeet side w (recorded_by side (station_of side w).desk (calls.Deliver packet.body))) → AreMet (after_delivery w side o)
 delivery_met side w None are within may = are
 delivery_met side w (Some packet) are within may = called_met side w (calls.Deliver packet.body) are within (may packet refl)
 
@@ -234,10 +277,10 @@ step_met orders responses w (Local side call) sound fits =
     local_met side w call (is_delivery call) refl (record { met = sound.met; after = sound.after }) (sound.legal side).within
 step_met orders responses w (Deliver I n) sound fits =
     delivery_met I w (delivery w I n) (record { met = sound.met; after = sound.after }) (sound.legal I).within
-    (λ packet there. response_may w w.initiating.desk.facts packet (responses w n packet sound fits there))
+    (λ packet there. response_may w w.initiating.desk packet (fits M) (sound.few I) (sound.kept I) (responses w n packet sound fits there))
 step_met orders responses w (Deliver M n) sound fits =
     delivery_met M w (delivery w M n) (record { met = sound.met; after = sound.after }) (sound.legal M).within
-    (λ packet there. order_may w w.matching.desk.facts packet (orders w n packet sound fits there))
+    (λ packet there. order_may w w.matching.desk packet (fits I) (sound.few M) (sound.kept M) (orders w n packet sound fits there))
 step_met orders responses w (Restart side keep) sound fits =
     let s = (station_of side w).desk in
     restart_met side w keep s.saved (length s.facts) (nat_lt keep s.saved) (nat_lt (length s.facts) keep) refl (record { met = sound.met; after = sound.after })

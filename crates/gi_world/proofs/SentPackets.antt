@@ -10,12 +10,14 @@ use Rattle.gi_desk.specs.Machine.{DeskState, after as desk_after, bad_fact, is_f
 use Rattle.gi_desk.specs.declared.call.Call.{Call}
 use Rattle.gi_facts.specs.declared.fact.Fact.{Fact}
 use Rattle.gi_desk.specs.declared.outcome.Outcome.{Outcome}
-use Rattle.gi_desk.specs.declared.outcome.Outcome.TheVariants.{Records, RepeatsNomination, RepeatsMeeting, Saves, Resends, Stops, Refuses}
+use Rattle.gi_desk.specs.declared.outcome.Outcome.TheVariants.{Records, RepeatsNomination, RepeatsMeeting, RepeatsPart, Keeps, Saves, Resends, Stops, Refuses}
 use Rattle.gi_desk.specs.declared.packet.Packet.{Packet}
 use Rattle.gi_desk.proofs.Legality.{legal-front}
 use Rattle.gi_desk.proofs.StateLaws.{lets_out}
 use Rattle.gi_desk.proofs.StepFacts.{only-appends, says-only-what-is-saved, stays-legal}
-use Rattle.gi_world.specs.Agreement.{IsLegal, IsLetOut, IsSent, IsSound, IsTold, MeetsFrozen}
+use Rattle.gi_parts.specs.Parts.{AreKept}
+use Rattle.gi_parts.proofs.Keeping.{kept-none}
+use Rattle.gi_world.specs.Agreement.{IsLegal, IsLetOut, IsOfSent, IsSent, IsSound, IsTold, MeetsFrozen}
 use Rattle.gi_world.specs.World.{StationState, WorldState, after, after_call, after_restart, new_world, other, station_of, tells}
 use Rattle.gi_world.specs.declared.step.Step.{Step}
 use Rattle.gi_world.proofs.StationLemmas.{after-keeps}
@@ -39,6 +41,8 @@ kept_by : (side : Side) (s : DeskState) (o : Outcome) (n : ℕ) → n ≤ length
 kept_by side s (Records fact) n within = lets_out side s.point s.facts (fact ∷ []) n within
 kept_by side s (RepeatsNomination m) n within = refl
 kept_by side s (RepeatsMeeting m) n within = refl
+kept_by side s (RepeatsPart m) n within = refl
+kept_by side s (Keeps id part) n within = refl
 kept_by side s (Saves m) n within = refl
 kept_by side s (Resends id) n within = refl
 kept_by side s Stops n within = refl
@@ -61,6 +65,8 @@ said_by : (side : Side) (s : DeskState) (o : Outcome) (n : ℕ) (packet : Packet
 said_by side s (Records fact) n packet there = absurd (in_from_contains packet [] there)
 said_by side s (RepeatsNomination m) n packet there = refl
 said_by side s (RepeatsMeeting m) n packet there = refl
+said_by side s (RepeatsPart m) n packet there = refl
+said_by side s (Keeps id part) n packet there = refl
 said_by side s (Saves m) n packet there = refl
 said_by side s (Resends id) n packet there = refl
 said_by side s Stops n packet there = refl
@@ -156,6 +162,8 @@ same_point : (s : DeskState) (o : Outcome) → (next_of s o).point ≡ s.point
 same_point s (Records fact) = refl
 same_point s (RepeatsNomination n) = refl
 same_point s (RepeatsMeeting n) = refl
+same_point s (RepeatsPart n) = refl
+same_point s (Keeps other part) = refl
 same_point s (Saves n) = refl
 same_point s (Resends id) = refl
 same_point s Stops = refl
@@ -197,6 +205,8 @@ new-sound point = record {
   told = told;
   met = met;
   after = λ id table e. absurd (none_met table e);
+  few = few;
+  kept = kept;
 }
   where
     legal : (side : Side) → IsLegal side (station_of side (new_world point)).desk
@@ -214,3 +224,11 @@ new-sound point = record {
     met : (side : Side) → MeetsFrozen side (station_of side (new_world point)).desk (station_of (other side) (new_world point)).desk
     met I id table e = absurd (none_met table e)
     met M id table e = absurd (none_met table e)
+
+    few : (side : Side) → AreKept (station_of side (new_world point)).desk.kept
+    few I = kept-none
+    few M = kept-none
+
+    kept : (side : Side) → All (IsOfSent side (station_of (other side) (new_world point)).desk) (station_of side (new_world point)).desk.kept
+    kept I = All-nil (IsOfSent I (new_world point).matching.desk)
+    kept M = All-nil (IsOfSent M (new_world point).initiating.desk)

@@ -7,6 +7,7 @@ use Rattle.gi_world.specs.Agreement.{Carries, FitsWorld, IsOrdered, IsResponded,
 use Rattle.gi_world.specs.World.{WorldState, after, station_of}
 use Rattle.gi_world.specs.declared.step.Step.{Step}
 use Rattle.gi_world.proofs.DeliveredPackets.{delivered-order, delivered-response, sent-order, sent-response}
+use Rattle.gi_world.proofs.KeptParts.{few-sound, kept-sound}
 use Rattle.gi_world.proofs.Meetings.{after-sound, met-sound}
 use Rattle.gi_world.proofs.SentPackets.{legal-sound, point-sound, sent-sound, told-sound}
 
@@ -18,6 +19,8 @@ step-sound w step sound fits = record {
   told = told-sound w step sound;
   met = met-sound delivered-order delivered-response w step sound fits;
   after = after-sound delivered-order delivered-response w step sound fits;
+  few = few-sound w step sound;
+  kept = kept-sound delivered-order delivered-response w step sound fits;
 }
 
 -- what each packet carries that a side sent

@@ -13,7 +13,7 @@ use Rattle.gi_pairs.specs.declared.pair.Pair.{Pair}
 use Rattle.gi_pairs.specs.declared.row.Row.{Row}
 use Rattle.gi_pairs.specs.declared.side.Side.{Side}
 use Rattle.gi_pairs.specs.declared.side.Side.TheVariants.{I, M}
-use Rattle.gi_pairs.proofs.Building.{In, in_from_contains}
+use Rattle.gi_pairs.proofs.Building.{In, contains_from_in, in_from_contains}
 use Rattle.gi_pairs.proofs.Members.{find_member, from_append, from_map}
 use Rattle.gi_pairs.proofs.Reading.{reading-found}
 use Rattle.gi_lesser.specs.Lesser.{lesser_of}
@@ -22,10 +22,11 @@ use Rattle.gi_messages.specs.declared.message.Message.{Message}
 use Rattle.gi_messages.specs.declared.message.Message.TheVariants as messages
 use Rattle.gi_cycles.specs.States.{MatchedCycle, matched_of}
 use Rattle.gi_cycles.specs.declared.cycle_state.CycleState.TheVariants.{Matched}
+use Rattle.gi_parts.specs.Splitting.{parts_of_whole}
 use Rattle.gi_desk.specs.History.{frozen_cycle, frozen_table, is_closed, met_by, peer_of, state_of}
 use Rattle.gi_desk.specs.LetOut.{IsFact, let_out, let_out_on_closing, sent}
 use Rattle.gi_desk.specs.Machine.{DeskState, is_for_peer}
-use Rattle.gi_desk.specs.Messages.{acknow_of, is_row_of, line_of, on_met, order_of, portfolios_in, response_of, to_peer, to_user, told_of, told_packets}
+use Rattle.gi_desk.specs.Messages.{acknow_of, is_row_of, line_of, on_met, order_of, order_part, portfolios_in, response_of, response_part, responses_of, to_peer, to_user, told_of, told_packets}
 use Rattle.gi_desk.specs.Writable.{FitsDesk, FitsMatched, FitsState}
 use Rattle.gi_desk.specs.declared.packet.Packet.{Packet}
 use Rattle.gi_facts.specs.declared.fact.Fact.{Fact}
@@ -37,7 +38,7 @@ use Rattle.gi_desk.proofs.LettingOut.{closing_lets_out, fact_closes, fact_meets,
 use Rattle.gi_world.specs.Agreement.{IsLegal, IsLetOut, IsTold, saved_facts}
 use Rattle.gi_world.specs.Telling.{IsRead}
 use Rattle.gi_world.specs.World.{IsTextForPortfolio, is_telling, tells}
-use Rattle.gi_world.proofs.DeliveredPackets.{closed_fits, frozen_fits, none_there, one_there, order_reads, ordered_by, response_reads, saved_fact, some_fact, unanswered_by}
+use Rattle.gi_world.proofs.DeliveredPackets.{closed_fits, frozen_fits, none_there, one_there, order_reads, ordered_by, part_there, response_reads, saved_fact, some_fact, unanswered_by}
 use Rattle.gi_world.proofs.SentPackets.{all_kept}
 use Rattle.gi_processing.specs.declared.rule.Rule.{Rule}
 
@@ -115,18 +116,21 @@ closing_tells side s n id rule packet fits is there telling = by_side side fits 
     by_side : (side : Side) → FitsDesk side s.point s.facts → Contains (let_out side s.point s.facts n) packet → ⊥
     by_side I fits there =
         let cycle = frozen_cycle I s.facts id in
-        let message = messages.Delord (order_of s.point cycle) in
-        let same = one_there (let_out I s.point s.facts n) (to_peer message) packet (out I ∙ ordered_by s.point cycle (peer_of id s.facts)) there in
-        silent packet (to_peer message) message same (order_reads s.point cycle fits.point (frozen_fits I cycle (peer_of id s.facts) (closed_fits I s.point s.facts id fits closed))) refl telling
+        let message : ℕ → Message = λ number. messages.Delord (order_part s.point cycle number) in
+        let (number, within, same) = part_there (let_out I s.point s.facts n) packet message (parts_of_whole (order_of cycle)) (out I ∙ ordered_by s.point cycle (peer_of id s.facts)) there in
+        let reads = order_reads s.point cycle number fits.point (frozen_fits I cycle (peer_of id s.facts) (closed_fits I s.point s.facts id fits closed)) within in
+        silent packet (to_peer (message number)) (message number) same reads refl telling
     by_side M fits there =
         none_there (let_out M s.point s.facts n) packet (out M ∙ unanswered_by s.point (frozen_cycle M s.facts id) (peer_of id s.facts)) there
 
 -- what a role writes of a meeting to the peer tells nothing
 response_tells : (side : Side) (point : List ℕ) (cycle : MatchedCycle) (packet : Packet) → IsCode point → FitsMatched side cycle → In packet (sent (on_met side point cycle)) → tells packet ≡ true → ⊥
 response_tells I point cycle packet code fits there telling = there
-response_tells M point cycle packet code fits (inr none) telling = none
-response_tells M point cycle packet code fits (inl same) telling =
-    let message = messages.Delres (response_of point cycle) in silent packet (to_peer message) message same (response_reads point cycle code fits) refl telling
+response_tells M point cycle packet code fits there telling =
+    let message : ℕ → Message = λ number. messages.Delres (response_part point cycle number) in
+    let out = sent (responses_of point cycle) in
+    let (number, within, same) = part_there out packet message (parts_of_whole (response_of cycle)) refl (contains_from_in packet out there) in
+    silent packet (to_peer (message number)) (message number) same (response_reads point cycle number code fits within) refl telling
 
 told_from : (side : Side) (point : List ℕ) (cycle : MatchedCycle) (packet : Packet) → In packet (told_packets side point cycle)
     → (portfolio : List ℕ) × In portfolio (portfolios_in side cycle.confirmed.rows) × (to_user portfolio (messages.Nomres (told_of side point cycle portfolio)) ≡ packet)
@@ -196,16 +200,20 @@ text_on_closing side s n id rule packet is there outwards = by_side side there
     by_side : (side : Side) → Contains (let_out side s.point s.facts n) packet → ⊥
     by_side I there =
         let cycle = frozen_cycle I s.facts id in
-        let order = to_peer (messages.Delord (order_of s.point cycle)) in
-        not_for_peer packet order (one_there (let_out I s.point s.facts n) order packet (out I ∙ ordered_by s.point cycle (peer_of id s.facts)) there) refl outwards
+        let message : ℕ → Message = λ number. messages.Delord (order_part s.point cycle number) in
+        let (number, within, same) = part_there (let_out I s.point s.facts n) packet message (parts_of_whole (order_of cycle)) (out I ∙ ordered_by s.point cycle (peer_of id s.facts)) there in
+        not_for_peer packet (to_peer (message number)) same refl outwards
     by_side M there =
         none_there (let_out M s.point s.facts n) packet (out M ∙ unanswered_by s.point (frozen_cycle M s.facts id) (peer_of id s.facts)) there
 
 -- nor is a response sent to one
 text_of_response : (side : Side) (point : List ℕ) (cycle : MatchedCycle) (packet : Packet) → In packet (sent (on_met side point cycle)) → is_for_peer packet ≡ false → ⊥
 text_of_response I point cycle packet there outwards = there
-text_of_response M point cycle packet (inr none) outwards = none
-text_of_response M point cycle packet (inl same) outwards = not_for_peer packet (to_peer (messages.Delres (response_of point cycle))) same refl outwards
+text_of_response M point cycle packet there outwards =
+    let message : ℕ → Message = λ number. messages.Delres (response_part point cycle number) in
+    let out = sent (responses_of point cycle) in
+    let (number, within, same) = part_there out packet message (parts_of_whole (response_of cycle)) refl (contains_from_in packet out there) in
+    not_for_peer packet (to_peer (message number)) same refl outwards
 
 text_on_meeting : (side : Side) (point : List ℕ) (cycle : MatchedCycle) (packet : Packet) → IsCode point → FitsMatched side cycle
     → In packet (sent (on_met side point cycle)) ⊎ In packet (told_packets side point cycle) → is_for_peer packet ≡ false → IsTextForPortfolio packet

@@ -1,4 +1,5 @@
 -- What two desks agree on, however their messages are lost, repeated or late and whenever they start again.
+use Rattle.std.specs.Int.{IsInRange}
 use Rattle.std.specs.Prelude.{◌≡◌, ◌≤◌, ℕ, List, [], ◌∷◌, take, length, Contains, All, Bool, true, false, is_some, Some, None, Result, Ok, Err}
 use Rattle.gi_pairs.specs.Table.{TableContents}
 use Rattle.gi_pairs.specs.declared.cycle_id.CycleId.{CycleId}
@@ -7,13 +8,16 @@ use Rattle.gi_pairs.specs.declared.side.Side.TheVariants.{I, M}
 use Rattle.gi_messages.specs.Decoding.{decoded}
 use Rattle.gi_messages.specs.declared.message.Message.TheVariants as messages
 use Rattle.gi_cycles.specs.States.{matched_of}
+use Rattle.gi_parts.specs.Parts.{AreKept}
+use Rattle.gi_parts.specs.Splitting.{IsPartOf, parts_of_whole}
+use Rattle.gi_parts.specs.declared.kept_parts.KeptPart.{KeptPart}
 use Rattle.gi_desk.specs.History.{frozen_cycle, frozen_table, is_closed, peer_of}
 use Rattle.gi_desk.specs.LetOut.{let_out}
 use Rattle.gi_desk.specs.Machine.{DeskState, bad_fact, is_for_peer}
-use Rattle.gi_desk.specs.Messages.{order_of, response_of}
+use Rattle.gi_desk.specs.Messages.{order_of, order_part, response_of, response_part}
 use Rattle.gi_desk.specs.Writable.{FitsDesk}
 use Rattle.gi_desk.specs.declared.reply.Answer.{Answer}
-use Rattle.gi_desk.specs.declared.reply.Answer.TheVariants.{Recorded, Repeat, Saved, Resent, Stopped, Refused}
+use Rattle.gi_desk.specs.declared.reply.Answer.TheVariants.{Recorded, Repeat, Kept, Saved, Resent, Stopped, Refused}
 use Rattle.gi_facts.specs.declared.fact.Fact.{Fact}
 use Rattle.gi_desk.specs.declared.packet.Packet.{Packet}
 use Rattle.gi_desk.specs.declared.refusal.Refusal.{Refusal}
@@ -60,6 +64,22 @@ abbrev pub MeetsAfter : DeskState → DeskState → Type 0
 MeetsAfter initiating matching =
     (id : CycleId) (table : TableContents) → peer_of id initiating.facts ≡ Some table → is_some (peer_of id (saved_facts matching)) ≡ true
 
+-- What the matching side keeps is a part of the order of a cycle whose closing the initiating side saved; and what the initiating side keeps a part of
+-- the response to one whose meeting the matching side saved.
+pub record IsOfOrder (initiating : DeskState) (one : KeptPart) : Type 0 where
+  pub closed : is_closed one.id (saved_facts initiating) ≡ true
+  pub part : IsPartOf (order_of (frozen_cycle I initiating.facts one.id)) one.part
+
+pub record IsOfResponse (matching : DeskState) (one : KeptPart) : Type 0 where
+  pub peer : TableContents
+  pub met : peer_of one.id (saved_facts matching) ≡ Some peer
+  pub closed : is_closed one.id (saved_facts matching) ≡ true
+  pub part : IsPartOf (response_of (matched_of (frozen_cycle M matching.facts one.id) peer)) one.part
+
+abbrev pub IsOfSent : Side → DeskState → KeptPart → Type 0
+IsOfSent M peer one = IsOfOrder peer one
+IsOfSent I peer one = IsOfResponse peer one
+
 -- what holds of every world that steps lead to
 pub record IsSound (w : WorldState) : Type 0 where
   pub point : w.matching.desk.point ≡ w.initiating.desk.point
@@ -68,24 +88,30 @@ pub record IsSound (w : WorldState) : Type 0 where
   pub told : (side : Side) → All (IsTold side (station_of side w).desk) (station_of side w).told
   pub met : (side : Side) → MeetsFrozen side (station_of side w).desk (station_of (other side) w).desk
   pub after : MeetsAfter w.initiating.desk w.matching.desk
+  pub few : (side : Side) → AreKept (station_of side w).desk.kept
+  pub kept : (side : Side) → All (IsOfSent side (station_of (other side) w).desk) (station_of side w).desk.kept
 
 -- both desks can be written
 abbrev pub FitsWorld : WorldState → Type 0
 FitsWorld w = (side : Side) → FitsDesk side (station_of side w).desk.point (station_of side w).desk.facts
 
--- a packet that reads as the initiating side's order of a cycle whose closing is saved there
+-- a packet that reads as a part of the initiating side's order of a cycle whose closing is saved there
 pub record IsOrdered (w : WorldState) (packet : Packet) : Type 0 where
   pub id : CycleId
+  pub number : ℕ
   pub closed : is_closed id (saved_facts w.initiating.desk) ≡ true
-  pub reads : decoded packet.body ≡ Ok (messages.Delord (order_of w.initiating.desk.point (frozen_cycle I w.initiating.desk.facts id)))
+  pub within : IsInRange 1 (parts_of_whole (order_of (frozen_cycle I w.initiating.desk.facts id))) number
+  pub reads : decoded packet.body ≡ Ok (messages.Delord (order_part w.initiating.desk.point (frozen_cycle I w.initiating.desk.facts id) number))
 
--- one that reads as the matching side's response of a cycle whose meeting is saved there
+-- one that reads as a part of the matching side's response of a cycle whose meeting is saved there
 pub record IsResponded (w : WorldState) (packet : Packet) : Type 0 where
   pub id : CycleId
+  pub number : ℕ
   pub peer : TableContents
   pub met : peer_of id (saved_facts w.matching.desk) ≡ Some peer
   pub closed : is_closed id (saved_facts w.matching.desk) ≡ true
-  pub reads : decoded packet.body ≡ Ok (messages.Delres (response_of w.matching.desk.point (matched_of (frozen_cycle M w.matching.desk.facts id) peer)))
+  pub within : IsInRange 1 (parts_of_whole (response_of (matched_of (frozen_cycle M w.matching.desk.facts id) peer))) number
+  pub reads : decoded packet.body ≡ Ok (messages.Delres (response_part w.matching.desk.point (matched_of (frozen_cycle M w.matching.desk.facts id) peer) number))
 
 -- what a side's packets for its peer carry
 abbrev pub Carries : Side → WorldState → Packet → Type 0
@@ -98,10 +124,12 @@ abbrev pub disagrees : Side → Refusal → Bool
 disagrees side (refusals.Message fault) = true
 disagrees side refusals.WrongKind = true
 disagrees side refusals.WrongPoint = true
-disagrees side refusals.Parts = true
 disagrees I refusals.NotClosed = true
 disagrees M refusals.NotClosed = false
 disagrees side refusals.ShapeDiffers = true
+disagrees side (refusals.PartDiffers part) = true
+disagrees side refusals.PartsOverlap = true
+disagrees side refusals.TooManyRows = true
 disagrees side (refusals.NotTheLesser row) = true
 disagrees side refusals.Conflict = true
 disagrees side refusals.Halted = false
@@ -121,6 +149,7 @@ disagrees side refusals.OutOfMemory = false
 abbrev pub AgreesAnswer : Side → Answer → Type 0
 AgreesAnswer side (Recorded n) = Unit {0}
 AgreesAnswer side (Repeat n) = Unit {0}
+AgreesAnswer side (Kept have parts) = Unit {0}
 AgreesAnswer side (Saved n) = Unit {0}
 AgreesAnswer side Resent = Unit {0}
 AgreesAnswer side Stopped = Unit {0}

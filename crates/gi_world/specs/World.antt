@@ -33,7 +33,7 @@ pub record WorldState : Type 0 where
 
 -- a desk without facts, and two of them
 abbrev pub new_desk : List ℕ → DeskState
-new_desk point = record { point = point; facts = []; saved = 0; halted = false }
+new_desk point = record { point = point; facts = []; saved = 0; halted = false; kept = [] }
 
 abbrev pub new_station : List ℕ → StationState
 new_station point = record { desk = new_desk point; sent = []; told = [] }

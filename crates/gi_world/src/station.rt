@@ -1,6 +1,6 @@
 //! One operator: its desk, and what it let out.
 
-ghost use Rattle.std.specs.Prelude.{◌≡◌, ◌<◌, ◌≤◌, IfOk, IsTrue, None, OnErr, OnOk, false, length, take};
+ghost use Rattle.std.specs.Prelude.{◌≡◌, ◌<◌, ◌≤◌, [], IfOk, IsTrue, None, OnErr, OnOk, false, length, take};
 ghost use Rattle.gi_desk.specs.Machine.{bad_fact, may_want, reply as reply_of};
 ghost use Rattle.gi_desk.specs.Writable.{FitsDesk};
 ghost use Rattle.gi_world.specs.Agreement.{IsLegal};
@@ -120,7 +120,7 @@ impl<R: Role> Station<R> {
 
     fn replay(&self, facts: Vec<Fact>) -> Result<Desk<R>, AllocError>
         requires { bad_fact R.SIDE self.now.desk.point facts.items ≡ None }
-        ensures value { IfOk result (λ desk. desk ≡ record { point = self.now.desk.point; facts = facts.items; saved = length facts.items; halted = false }) }
+        ensures value { IfOk result (λ desk. desk ≡ record { point = self.now.desk.point; facts = facts.items; saved = length facts.items; halted = false; kept = [] }) }
         ensures short { OnErr result (0 < length facts.items) }
     {
         let calendar = self.desk.calendar().copy().unwrap();

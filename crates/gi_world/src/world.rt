@@ -65,9 +65,10 @@ impl World {
         self.stations.matching()
     }
 
-    /// The packets that a side let out to the other operator, in order: orders, each with the frozen
-    /// table of a cycle whose closing the initiating side has saved; and responses, each with the
-    /// frozen and the confirmed table of a cycle whose meeting the matching side has saved.
+    /// The packets that a side let out to the other operator, in order: orders, each with a part of
+    /// the frozen table of a cycle whose closing the initiating side has saved, or all of it; and
+    /// responses, each with as much of the frozen and the confirmed table of a cycle whose meeting the
+    /// matching side has saved.
     pub fn sent(&self, side: Side) -> &[Packet]
         ensures value { result.now ≡ (station_of side self.now).sent }
         ensures carries { All (Carries side self.now) result.now }

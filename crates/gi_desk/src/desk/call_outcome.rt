@@ -2,9 +2,9 @@
 
 ghost use Rattle.std.specs.Prelude.{◌≡◌, IfErr, IfOk, IsTrue, Ok};
 ghost use Rattle.gi_messages.specs.Decoding.{decoded};
-ghost use Rattle.gi_desk.specs.History.{state_of};
-ghost use Rattle.gi_desk.specs.Deciding.{HasFewRows, decision};
-ghost use Rattle.gi_desk.specs.Judging.{by_decision as by_decision_of, closed as closed_of, delivered as delivered_of, nominated as nominated_of, resent as resent_of, submitted as submitted_of, verdict_on};
+ghost use Rattle.gi_desk.specs.History.{is_meeting, number_of, state_of};
+ghost use Rattle.gi_desk.specs.Deciding.{IsReceivable, decision, number_in};
+ghost use Rattle.gi_desk.specs.Judging.{by_decision as by_decision_of, closed as closed_of, delivered as delivered_of, nominated as nominated_of, repeated as repeated_of, resent as resent_of, submitted as submitted_of, verdict_on};
 ghost use Rattle.gi_desk.specs.Machine.{can_be_read, comes_to as comes_to_of, learns_with_memory, may_want_to_prepare, outcome as outcome_of, would_record as would_record_of};
 ghost use Rattle.gi_facts.specs.declared.fact.Fact.TheVariants.{Met, Nominated};
 
@@ -83,37 +83,49 @@ impl<R: Role> Desk<R> {
         Outcome::Records(Fact::Closed { id: *id, rule })
     }
 
-    fn by_decision(&self, id: CycleId, decision: Decision) -> Outcome
-        ensures { result ≡ by_decision_of self.now.facts id decision }
+    /// A cycle met again: only the first part lets the response out.
+    fn repeated(&self, id: &CycleId, part: u8) -> Outcome
+        ensures { result ≡ repeated_of part (number_of (is_meeting id.now) self.now.facts) }
+    {
+        let n = self.number_of_meeting(id);
+        if part == 1 {
+            Outcome::RepeatsMeeting { n }
+        } else {
+            Outcome::RepeatsPart { n }
+        }
+    }
+
+    fn by_decision(&self, id: CycleId, part: u8, decision: Decision) -> Outcome
+        ensures { result ≡ by_decision_of self.now.facts id part decision }
     {
         match decision {
             Decision::Meet(peer) => Outcome::Records(Fact::Met { id, peer }),
-            Decision::Again => Outcome::RepeatsMeeting {
-                n: self.number_of_meeting(&id),
-            },
+            Decision::Keep(part) => Outcome::Keeps { id, part },
+            Decision::Again => self.repeated(&id, part),
             Decision::Refused(refusal) => Outcome::Refuses(refusal),
         }
     }
 
     fn decided(&self, id: &CycleId, received: R::Received) -> Result<Outcome, AllocError>
-        requires { HasFewRows (R.as_message received) }
-        ensures { IfOk result (λ outcome. outcome ≡ by_decision_of self.now.facts id.now (decision R.SIDE (state_of R.SIDE self.now.facts id.now) (R.as_message received))) }
+        requires { IsReceivable (R.as_message received) }
+        ensures { IfOk result (λ outcome. outcome ≡ by_decision_of self.now.facts id.now (number_in (R.as_message received)) (decision R.SIDE (state_of R.SIDE self.now.facts id.now) self.now.kept (R.as_message received))) }
     {
         let collecting = CycleState::Collecting(Collecting::new(*id));
         let state = self.find(id).unwrap_or(&collecting);
-        let decision = R::decide(self.alloc, state, received);
+        let part = R::part(&received);
+        let decision = R::decide(self.alloc, state, &self.parts, received);
         drop(collecting);
         if is_short(&decision) {
             drop(decision);
             return Err(AllocError);
         }
-        Ok(self.by_decision(*id, decision))
+        Ok(self.by_decision(*id, part, decision))
     }
 
     /// What the peer's order or response comes to.
     fn addressed(&self, received: R::Received) -> Result<Outcome, AllocError>
-        requires { HasFewRows (R.as_message received) }
-        ensures { IfOk result (λ outcome. outcome ≡ delivered_of R.SIDE self.now.point self.now.facts (Ok (R.as_message received))) }
+        requires { IsReceivable (R.as_message received) }
+        ensures { IfOk result (λ outcome. outcome ≡ delivered_of R.SIDE self.now.point self.now.facts self.now.kept (Ok (R.as_message received))) }
     {
         let (point, id) = R::address(&received);
         if point != self.point {
@@ -126,8 +138,8 @@ impl<R: Role> Desk<R> {
 
     /// What a message that could be read comes to, where the peer sent it.
     fn received(&self, message: Message) -> Result<Outcome, AllocError>
-        requires { HasFewRows message }
-        ensures { IfOk result (λ outcome. outcome ≡ delivered_of R.SIDE self.now.point self.now.facts (Ok message)) }
+        requires { IsReceivable message }
+        ensures { IfOk result (λ outcome. outcome ≡ delivered_of R.SIDE self.now.point self.now.facts self.now.kept (Ok message)) }
     {
         match R::received(message) {
             Some(received) => self.addressed(received),
@@ -136,7 +148,7 @@ impl<R: Role> Desk<R> {
     }
 
     fn delivered(&self, bytes: &[u8]) -> Result<Outcome, AllocError>
-        ensures value { IfOk result (λ outcome. outcome ≡ delivered_of R.SIDE self.now.point self.now.facts (decoded bytes.now)) }
+        ensures value { IfOk result (λ outcome. outcome ≡ delivered_of R.SIDE self.now.point self.now.facts self.now.kept (decoded bytes.now)) }
         ensures short { IfErr result (λ _. IsTrue (can_be_read bytes.now)) }
     {
         match decode(self.alloc, bytes) {

@@ -135,7 +135,11 @@ impl<R: Role> Desk<R> {
             Outcome::RepeatsMeeting { n } => self.saved_for_peer(*n),
             Outcome::Saves { n } => self.let_out(*n),
             Outcome::Resends(id) => self.resent(id),
-            Outcome::Records(_) | Outcome::Stops | Outcome::Refuses(_) => Ok(Vec::new(self.alloc)),
+            Outcome::Records(_)
+            | Outcome::RepeatsPart { .. }
+            | Outcome::Keeps { .. }
+            | Outcome::Stops
+            | Outcome::Refuses(_) => Ok(Vec::new(self.alloc)),
         }
     }
 }

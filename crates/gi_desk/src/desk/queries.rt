@@ -1,11 +1,12 @@
 //! What a desk is asked without a step.
 
-ghost use Rattle.std.specs.Prelude.{◌≡◌, IfErr, IfOk, IfSome, IsTrue, is_some, nat_lt};
+ghost use Rattle.std.specs.Prelude.{◌≡◌, ◌<◌, IfErr, IfOk, IfSome, IsTrue, is_some, nat_lt};
 ghost use Rattle.std.specs.Option.{option_copied, option_map};
+ghost use Rattle.gi_messages.specs.Limits.{most_parts};
 ghost use Rattle.gi_facts.specs.Grammar.{IsWritable};
 ghost use Rattle.gi_desk.specs.History.{is_meeting, number_of, state_of};
 ghost use Rattle.gi_desk.specs.Machine.{some_leave};
-ghost use Rattle.gi_desk.specs.Queries.{acknowledged as is_acknowledged, closing as closing_of, confirmed as confirmed_of, fact_at, frozen as frozen_of, matched_in as matched_in_state, meeting as meeting_of, met_saved as met_saved_of, outgoing as outgoing_of, own_in as own_in_state, peer_in as peer_in_state, stage_of, told as told_in, unsaved as next_unsaved};
+ghost use Rattle.gi_desk.specs.Queries.{acknowledged as is_acknowledged, closing as closing_of, confirmed as confirmed_of, fact_at, frozen as frozen_of, kept as kept_parts, matched_in as matched_in_state, meeting as meeting_of, met_saved as met_saved_of, outgoing as outgoing_of, own_in as own_in_state, peer_in as peer_in_state, stage_of, told as told_in, unsaved as next_unsaved};
 
 use crate::desk::Desk;
 use crate::packet::Packets;
@@ -92,6 +93,14 @@ impl<R: Role> Desk<R> {
             return None;
         }
         Some(self.number_of_closing(&id))
+    }
+
+    /// How many parts of the peer's order or response are kept of the cycle: at most 65.
+    pub fn kept(&self, id: CycleId) -> u8
+        ensures value { result ≡ kept_parts self.now id }
+        ensures few { result < most_parts }
+    {
+        self.parts.count(&id)
     }
 
     /// The frozen table of the cycle, whether its closing is saved or not.

@@ -6,8 +6,9 @@ ghost use Rattle.gi_day.specs.Cycles.{IsCycle};
 ghost use Rattle.gi_pairs.specs.Limits.{most_processed_rows};
 ghost use Rattle.gi_pairs.specs.Table.{IsTable};
 ghost use Rattle.gi_processing.specs.Processing.{HasFewOfEach, processed as processed_of};
+ghost use Rattle.gi_parts.specs.Parts.{without};
 ghost use Rattle.gi_desk.specs.History.{capacity_of, documents_of};
-ghost use Rattle.gi_desk.specs.Machine.{most_facts, would_record};
+ghost use Rattle.gi_desk.specs.Machine.{kept_after, most_facts, would_record};
 ghost use Rattle.gi_facts.specs.Writable.{FitsFact};
 ghost use Rattle.gi_facts.specs.declared.fact.Fact.TheVariants.{Closed, Contracted, Met, Nominated, Noticed};
 
@@ -66,7 +67,7 @@ impl<R: Role> Desk<R> {
         requires recorded { would_record R.SIDE self.now.point self.now.facts (Met id.now peer) ≡ true }
         requires room { length self.now.facts < most_facts }
         requires fits { FitsFact (Met id.now peer) }
-        ensures next { OnOk result (self.new ≡ record self.old { facts = self.old.facts ++ Met id.now peer ∷ [] }) }
+        ensures next { OnOk result (self.new ≡ record self.old { facts = self.old.facts ++ Met id.now peer ∷ []; kept = without id.now self.old.kept }) }
         ensures unchanged { OnErr result (self.new ≡ self.old) }
     {
         // The fact and the cycle hold the peer's table in the same memory.
@@ -88,6 +89,7 @@ impl<R: Role> Desk<R> {
             id: *id,
             peer: copy,
         });
+        self.parts.forget(id);
         Ok(())
     }
 
@@ -152,7 +154,7 @@ impl<R: Role> Desk<R> {
         requires recorded { would_record R.SIDE self.now.point self.now.facts fact ≡ true }
         requires room { length self.now.facts < most_facts }
         requires fits { FitsFact fact }
-        ensures next { OnOk result (self.new ≡ record self.old { facts = self.old.facts ++ fact ∷ [] }) }
+        ensures next { OnOk result (self.new ≡ record self.old { facts = self.old.facts ++ fact ∷ []; kept = kept_after fact self.old.kept }) }
         ensures unchanged { OnErr result (self.new ≡ self.old) }
     {
         match fact {
@@ -167,7 +169,7 @@ impl<R: Role> Desk<R> {
     pub(super) fn record(&mut self, fact: Fact) -> Result<(), AllocError>
         requires recorded { would_record R.SIDE self.now.point self.now.facts fact ≡ true }
         requires room { length self.now.facts < most_facts }
-        ensures next { OnOk result (self.new ≡ record self.old { facts = self.old.facts ++ fact ∷ [] }) }
+        ensures next { OnOk result (self.new ≡ record self.old { facts = self.old.facts ++ fact ∷ []; kept = kept_after fact self.old.kept }) }
         ensures unchanged { OnErr result (self.new ≡ self.old) }
     {
         // All that is recorded can be written, and so the fact that comes next.

@@ -1,7 +1,7 @@
 //! A desk from its saved facts.
 
 ghost use Rattle.std.specs.Prelude.{◌≡◌, ◌+◌, ◌++◌, ◌∷◌, [], Err, IfOk, OnOk, ℕ, false, length, true};
-ghost use Rattle.gi_desk.specs.Machine.{IsReplayed, may_follow};
+ghost use Rattle.gi_desk.specs.Machine.{IsReplayed, kept_after, may_follow};
 ghost use Rattle.gi_desk.specs.declared.replay_fault.ReplayFault.TheVariants.{BadFact, OutOfMemory};
 
 use crate::desk::Desk;
@@ -13,6 +13,7 @@ use gi_day::Calendar;
 use gi_facts::Fact;
 use gi_nominations::Book;
 use gi_pairs::Code;
+use gi_parts::KeptParts;
 use gi_processing::Contracts;
 use std::alloc::Global;
 use std::collections::BTreeMap;
@@ -20,7 +21,7 @@ use std::marker::PhantomData;
 
 impl<R: Role> Desk<R> {
     fn empty(alloc: Global, calendar: Calendar, point: Code) -> Desk<R>
-        ensures { result ≡ record { point = point; facts = []; saved = 0; halted = false } }
+        ensures { result ≡ record { point = point; facts = []; saved = 0; halted = false; kept = [] } }
     {
         point.reveal_invariant();
         Desk {
@@ -34,6 +35,7 @@ impl<R: Role> Desk<R> {
                 takings: BTreeMap::new(alloc),
                 stages: BTreeMap::new(alloc),
             },
+            parts: KeptParts::new(alloc),
             saved: 0,
             halted: false,
             role: PhantomData,
@@ -42,7 +44,7 @@ impl<R: Role> Desk<R> {
 
     fn record_again(&mut self, fact: Fact) -> Result<(), ReplayFault>
         ensures may { IfOk result (λ _. may_follow R.SIDE self.old.point self.old.facts fact ≡ true) }
-        ensures next { OnOk result (self.new ≡ record self.old { facts = self.old.facts ++ fact ∷ [] }) }
+        ensures next { OnOk result (self.new ≡ record self.old { facts = self.old.facts ++ fact ∷ []; kept = kept_after fact self.old.kept }) }
         ensures refused { (n : ℕ) → result ≡ Err (BadFact n) → (n ≡ length self.old.facts + 1) × (may_follow R.SIDE self.old.point self.old.facts fact ≡ false) }
         ensures short { result ≡ Err OutOfMemory → may_follow R.SIDE self.old.point self.old.facts fact ≡ true }
     {
@@ -54,9 +56,10 @@ impl<R: Role> Desk<R> {
         Ok(self.record(fact)?)
     }
 
-    /// The desk of these facts, all of which are saved; it is not halted. `BadFact` for the first
-    /// fact that no call would record after those before it, and for the 1,000,001st; then
-    /// `OutOfMemory`, which never comes where the first fact is bad or there is none.
+    /// The desk of these facts, all of which are saved; it is not halted and keeps no part. `BadFact`
+    /// for the first fact that no call would record after those before it, whatever parts are kept,
+    /// and for the 1,000,001st; then `OutOfMemory`, which never comes where the first fact is bad or
+    /// there is none.
     pub fn replay(
         alloc: Global,
         calendar: Calendar,

@@ -3,7 +3,7 @@
 ghost use Rattle.std.specs.Prelude.{◌≡◌, IfErr, IfOk, IsTrue, OnErr, OnOk};
 ghost use Rattle.gi_desk.specs.Caches.{CanFollow};
 ghost use Rattle.gi_desk.specs.declared.call.Call.{Call};
-ghost use Rattle.gi_desk.specs.Machine.{IsForeseen, IsPrepared, IsStep, after, answer_of, is_record, may_want, may_want_to_prepare, next_of, out_of_memory, prepared as prepared_of, reply as reply_of};
+ghost use Rattle.gi_desk.specs.Machine.{IsForeseen, IsPrepared, IsStep, after, answer_of, grows, may_want, may_want_to_prepare, next_of, out_of_memory, prepared as prepared_of, reply as reply_of};
 
 use crate::call::Call;
 use crate::desk::Desk;
@@ -26,6 +26,7 @@ fn short_of_memory(alloc: Global) -> Reply
 
 impl<R: Role> Desk<R> {
     fn answer(&self, outcome: &Outcome) -> Answer
+        requires { CanFollow R.SIDE self.now outcome.now }
         ensures { result ≡ answer_of self.now outcome.now }
     {
         match outcome {
@@ -33,7 +34,11 @@ impl<R: Role> Desk<R> {
                 n: self.next_number(),
             },
             Outcome::RepeatsNomination { n } => Answer::Repeat { n: *n },
-            Outcome::RepeatsMeeting { n } => Answer::Repeat { n: *n },
+            Outcome::RepeatsMeeting { n } | Outcome::RepeatsPart { n } => Answer::Repeat { n: *n },
+            Outcome::Keeps { id, part } => Answer::Kept {
+                have: self.parts.count_with(id, part),
+                parts: part.parts,
+            },
             Outcome::Saves { n } => Answer::Saved { n: *n },
             Outcome::Resends(_) => Answer::Resent,
             Outcome::Stops => Answer::Stopped,
@@ -45,10 +50,11 @@ impl<R: Role> Desk<R> {
         requires { CanFollow R.SIDE self.now outcome }
         ensures next { OnOk result (self.new ≡ next_of self.old outcome) }
         ensures unchanged { OnErr result (self.new ≡ self.old) }
-        ensures short { IfErr result (λ _. IsTrue (is_record outcome)) }
+        ensures short { IfErr result (λ _. IsTrue (grows outcome)) }
     {
         match outcome {
             Outcome::Records(fact) => return self.record(fact),
+            Outcome::Keeps { id, part } => return self.parts.keep(id, part),
             Outcome::Saves { n } => self.saved = n,
             Outcome::Stops => self.halted = true,
             _ => {}
@@ -76,13 +82,13 @@ impl<R: Role> Desk<R> {
     }
 
     /// Makes the step that was prepared for a call to this desk as it is now. Where memory runs out,
-    /// as it can only where a fact is recorded, nothing is changed.
+    /// as it can only where a fact is recorded or a part is kept, nothing is changed.
     pub fn make(&mut self, prepared: Prepared) -> Result<Reply, AllocError>
         requires { IsPrepared R.SIDE self.now prepared }
         ensures reply { IfOk result (λ reply. reply ≡ prepared.reply) }
         ensures next { OnOk result ((call : Call) → prepared ≡ prepared_of R.SIDE self.old call → self.new ≡ after R.SIDE self.old call) }
         ensures unchanged { OnErr result (self.new ≡ self.old) }
-        ensures short { IfErr result (λ _. IsTrue (is_record prepared.outcome)) }
+        ensures short { IfErr result (λ _. IsTrue (grows prepared.outcome)) }
     {
         let Prepared { outcome, reply } = prepared;
         self.apply(outcome)?;

@@ -51,6 +51,15 @@ fn state<R: Role>(desk: &Desk<R>, mut words: Words<'_>, text: &mut Answer) -> bo
     true
 }
 
+/// How many parts are kept of a cycle.
+fn kept<R: Role>(desk: &Desk<R>, mut words: Words<'_>, text: &mut Answer) -> bool {
+    let Some(id) = words.cycle() else {
+        return false;
+    };
+    text.show(desk.kept(id));
+    true
+}
+
 /// Adds a response, or that there is none.
 fn add_nomres(alloc: Global, message: Option<Nomres>, text: &mut Answer) -> Result<bool, Fault> {
     add_message(alloc, message.map(|nomres| Message::Nomres(nomres)), text)
@@ -192,6 +201,7 @@ pub(crate) fn told<R: Role>(
     let query = words.next();
     match query {
         "state" => return Ok(state(desk, words, text)),
+        "kept" => return Ok(kept(desk, words, text)),
         "confirmed" => return Ok(confirmed(desk, words, text)),
         "told" => return portfolio_told(alloc, desk, words, text),
         "calendar" => return Ok(hours(desk, words, text)),

@@ -48,6 +48,7 @@ struct Front {
     saved: u32,
     halted: bool,
     state: StageName,
+    kept: u8,
     is_confirmed: bool,
 }
 
@@ -57,6 +58,7 @@ fn front_of<R: Role>(desk: &Desk<R>, id: &CycleId) -> Front {
         saved: desk.saved(),
         halted: desk.halted(),
         state: desk.state(*id),
+        kept: desk.kept(*id),
         is_confirmed: desk.confirmed(*id).is_some(),
     }
 }

@@ -24,6 +24,10 @@ fn add_answer(answer: gi_desk::Answer, text: &mut Answer) {
     match answer {
         gi_desk::Answer::Recorded { n } => add_numbered("Recorded", n, text),
         gi_desk::Answer::Repeat { n } => add_numbered("Repeat", n, text),
+        gi_desk::Answer::Kept { have, parts } => {
+            add_numbered("Kept", u32::from(have), text);
+            add_numbered(" of", u32::from(parts), text);
+        }
         gi_desk::Answer::Saved { n } => add_numbered("Saved", n, text),
         gi_desk::Answer::Resent => text.add("Resent"),
         gi_desk::Answer::Stopped => text.add("Stopped"),

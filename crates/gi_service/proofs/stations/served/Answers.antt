@@ -6,15 +6,15 @@ use Rattle.gi_service.proofs.stations.served.Goals as goal
 pub returns-in-Err-clause-fault : goal.returns-in-Err-clause-fault
 returns-in-Err-clause-fault g c =
     let e = c.in_ok-initiating.ensures in
-    let ours : IsWhole c.args.script.now.point c.in_ok-initiating.initiating.0 = record { at = e.point ∙ c.point.ensures; saved = e.saved; runs = e.runs } in
-    let theirs : IsWhole c.args.script.now.point c.in_ok-initiating.matching.0 = record { at = e.peer_point ∙ c.point.ensures; saved = e.peer_saved; runs = e.peer_runs } in
+    let ours : IsWhole c.args.script.now.point c.in_ok-initiating.initiating.0 = record { at = e.point ∙ c.point.ensures; saved = e.saved; runs = e.runs; none = e.none } in
+    let theirs : IsWhole c.args.script.now.point c.in_ok-initiating.matching.0 = record { at = e.peer_point ∙ c.point.ensures; saved = e.peer_saved; runs = e.peer_runs; none = e.peer_none } in
     inr (fault_of_facts c.args.script.now.point c.in_ok-initiating.initiating.0 c.in_ok-initiating.matching.0 c.in-Err.fault ours theirs c.in-Err.ensures.fault)
 
 pub returns-in-Err-clause-first : goal.returns-in-Err-clause-first
 returns-in-Err-clause-first g c =
     let e = c.in_ok-initiating.ensures in
-    let ours : IsWhole c.args.script.now.point c.in_ok-initiating.initiating.0 = record { at = e.point ∙ c.point.ensures; saved = e.saved; runs = e.runs } in
-    let theirs : IsWhole c.args.script.now.point c.in_ok-initiating.matching.0 = record { at = e.peer_point ∙ c.point.ensures; saved = e.peer_saved; runs = e.peer_runs } in
+    let ours : IsWhole c.args.script.now.point c.in_ok-initiating.initiating.0 = record { at = e.point ∙ c.point.ensures; saved = e.saved; runs = e.runs; none = e.none } in
+    let theirs : IsWhole c.args.script.now.point c.in_ok-initiating.matching.0 = record { at = e.peer_point ∙ c.point.ensures; saved = e.peer_saved; runs = e.peer_runs; none = e.peer_none } in
     inr (
       (e.opened.before, e.opened.opened),
       inr (
@@ -26,8 +26,8 @@ returns-in-Err-clause-first g c =
 pub returns-clause-agreed : goal.returns-clause-agreed
 returns-clause-agreed g c =
     let e = c.in_ok-initiating.ensures in
-    let ours : IsWhole c.args.script.now.point c.in_ok-initiating.initiating.0 = record { at = e.point ∙ c.point.ensures; saved = e.saved; runs = e.runs } in
-    let theirs : IsWhole c.args.script.now.point c.in_ok-initiating.matching.0 = record { at = e.peer_point ∙ c.point.ensures; saved = e.peer_saved; runs = e.peer_runs } in
+    let ours : IsWhole c.args.script.now.point c.in_ok-initiating.initiating.0 = record { at = e.point ∙ c.point.ensures; saved = e.saved; runs = e.runs; none = e.none } in
+    let theirs : IsWhole c.args.script.now.point c.in_ok-initiating.matching.0 = record { at = e.peer_point ∙ c.point.ensures; saved = e.peer_saved; runs = e.peer_runs; none = e.peer_none } in
     record {
       initiating = c.in_ok-initiating.initiating.0.facts;
       matching = c.in_ok-initiating.matching.0.facts;

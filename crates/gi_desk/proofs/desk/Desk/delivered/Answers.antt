@@ -4,19 +4,20 @@ use Rattle.gi_messages.specs.declared.message.Message.{Message}
 use Rattle.gi_messages.specs.declared.message_fault.MessageFault.{MessageFault}
 use Rattle.gi_desk.specs.Judging.{delivered}
 use Rattle.gi_desk.proofs.Called.{delivered-from, if_failed}
-use Rattle.gi_desk.proofs.Decoded.{short-readable, spelled-few, spelled-readable}
+use Rattle.gi_desk.proofs.Decoded.{short-readable, spelled-receivable, spelled-readable}
 use Rattle.gi_desk.proofs.desk.Desk.delivered.Goals as goal
 
 pub received-requires : goal.received-requires
-received-requires g c = spelled-few _ _ c.in-Ok.ensures.found
+received-requires g c = spelled-receivable _ _ c.in-Ok.ensures.found
 
 pub returns-in-Ok-clause-value : goal.returns-in-Ok-clause-value
 returns-in-Ok-clause-value g c =
     let side = g.R.Role.SIDE in
     let own = c.args.self.now.point in
     let facts = c.args.self.now.facts in
-    let read : delivered side own facts (Ok c.in-Ok.message) ≡ delivered side own facts (decoded c.args.bytes.now) =
-    ap (λ (r : Result Message MessageFault). delivered side own facts r) (sym c.in-Ok.ensures.exact) in
+    let kept = c.args.self.now.kept in
+    let read : delivered side own facts kept (Ok c.in-Ok.message) ≡ delivered side own facts kept (decoded c.args.bytes.now) =
+    ap (λ (r : Result Message MessageFault). delivered side own facts kept r) (sym c.in-Ok.ensures.exact) in
     delivered-from c.received.result _ _ c.received.ensures read
 
 pub returns-in-Ok-clause-short : goal.returns-in-Ok-clause-short

@@ -1,4 +1,4 @@
-use Rattle.std.proofs.Common.{None, Some, ap, sym, ◌∙◌}
+use Rattle.std.proofs.Common.{None, Some, ap, ◌∙◌}
 use Rattle.std.specs.Option.{option_copied}
 use Rattle.gi_desk.proofs.Confirmed.{frozen-read}
 use Rattle.gi_desk.proofs.desk.Desk.frozen.Goals as goal

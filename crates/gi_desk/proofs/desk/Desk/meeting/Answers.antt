@@ -1,6 +1,5 @@
 use Rattle.std.proofs.Common.{ℕ, None, Some, Option, Bor, ap, refl, ◌∙◌}
 use Rattle.std.specs.Prelude.{option_map}
-use Rattle.std.specs.Option.{option_copied}
 use Rattle.gi_pairs.specs.Table.{TableContents}
 use Rattle.gi_desk.specs.History.{is_meeting, number_of}
 use Rattle.gi_desk.proofs.Confirmed.{meeting-read, peer-read}

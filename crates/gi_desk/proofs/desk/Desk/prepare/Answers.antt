@@ -26,3 +26,8 @@ pub out-requires : goal.out-requires
 out-requires g c =
     let side = g.R.Role.SIDE in
     subst (CanFollow side c.args.self.now) (sym c.in_ok-outcome.ensures.value) (can_follow side c.args.self.now c.args.call.now)
+
+pub answer-requires : goal.answer-requires
+answer-requires g c =
+    let side = g.R.Role.SIDE in
+    subst (CanFollow side c.args.self.now) (sym c.in_ok-outcome.ensures.value) (can_follow side c.args.self.now c.args.call.now)

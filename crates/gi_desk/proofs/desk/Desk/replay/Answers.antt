@@ -1,9 +1,10 @@
 use Rattle.std.proofs.Common.{◌≡◌, ◌++◌, [], ◌∷◌, List, length, append_assoc, append-nil, true, false, None, Err, ap, refl, sym, subst, ◌∙◌, arith, rules}
 use Rattle.std.specs.Vec.Iter.{into_iter_items}
-use Rattle.gi_desk.specs.Machine.{DeskState, bad_fact, may_follow}
+use Rattle.gi_desk.specs.Machine.{DeskState, bad_fact, kept_after, may_follow}
+use Rattle.gi_parts.specs.declared.kept_parts.KeptPart.{KeptPart}
 use Rattle.gi_facts.specs.declared.fact.Fact.{Fact}
 use Rattle.gi_desk.proofs.Legality.{legal-few}
-use Rattle.gi_desk.proofs.Replaying.{begins_so, followed, nothing_left, refused_as, refused_so}
+use Rattle.gi_desk.proofs.Replaying.{begins_so, followed, kept_none, nothing_left, refused_as, refused_so}
 use Rattle.gi_desk.proofs.desk.Desk.replay.Goals as goal
 
 pub loop-fact-preserved : goal.loop-fact-preserved
@@ -13,9 +14,10 @@ loop-fact-preserved g c =
     let side = g.R.Role.SIDE in
     let steps : into_iter_items at.fact-iterator ≡ x ∷ into_iter_items c.next.new.self = c.in-Some.ensures.steps.0 in
     let may : may_follow side at.desk.point at.desk.facts x ≡ true = c.in-Ok.ensures.may in
-    let next : c.record_again.new.self ≡ record at.desk { facts = at.desk.facts ++ x ∷ [] } = c.in-Ok.ensures.next in (
+    let next : c.record_again.new.self ≡ record at.desk { facts = at.desk.facts ++ x ∷ []; kept = kept_after x at.desk.kept } = c.in-Ok.ensures.next in (
       append_assoc at.yielded (x ∷ []) _ ∙ rw (← steps) at.invariant.0,
-      next ∙ ap (λ (s : DeskState). record s { facts = s.facts ++ x ∷ [] }) at.invariant.1,
+      next ∙ ap (λ (s : DeskState). record s { facts = s.facts ++ x ∷ []; kept = kept_after x s.kept }) at.invariant.1
+          ∙ ap (λ (kept : List KeptPart). record { point = c.args.point; facts = at.yielded ++ x ∷ []; saved = 0; halted = false; kept = kept }) (kept_none x),
       followed side c.args.point at.yielded at.desk x at.invariant.2 (ap (λ (s : DeskState). s.point) at.invariant.1) (ap (λ (s : DeskState). s.facts) at.invariant.1) may,
       let was = at.invariant.3 in
           let gone = c.in-Some.ensures.steps.1 in
@@ -52,6 +54,7 @@ returns g c =
     let facts : c.desk.inside.facts.items ≡ c.args.facts.items = ap (λ (s : DeskState). s.facts) was ∙ all in
     let point : c.desk.inside.point ≡ c.args.point = ap (λ (s : DeskState). s.point) was in
     let halted : c.desk.inside.halted ≡ false = ap (λ (s : DeskState). s.halted) was in
+    let kept : c.desk.inside.parts ≡ [] = ap (λ (s : DeskState). s.kept) was in
     let counted : c.len.result ≡ length c.desk.inside.facts.items = search rules in
     let saved : c.len.result ≡ length c.args.facts.items = counted ∙ ap length facts in
-    (subst (λ (fs : List Fact). bad_fact g.R.Role.SIDE c.args.point fs ≡ None) all at.invariant.2, λ t. record { point = point t; facts = facts t; saved = saved t; halted = halted t })
+    (subst (λ (fs : List Fact). bad_fact g.R.Role.SIDE c.args.point fs ≡ None) all at.invariant.2, λ t. record { point = point t; facts = facts t; saved = saved t; halted = halted t; kept = kept t })
